@@ -37,6 +37,7 @@ pub mod laws {
 
 /// The layers that compound files are made of.
 pub mod internal {
+    pub use cfb_access::writing::write_content;
     pub use cfb_alloc::alloc::{Allocator, HeaderWord};
     pub use cfb_alloc::seeking::AllocatedSector;
     pub use cfb_chains::chain::Chain;
@@ -44,7 +45,6 @@ pub mod internal {
     pub use cfb_codecs::path::{self, CaseMapper};
     pub use cfb_codecs::timestamp::Timestamp;
     pub use cfb_compound_file::stream::Stream;
-    pub use cfb_content::writing::write_content;
     pub use cfb_directory::directory::Directory;
     pub use cfb_entries::fields::Fields;
     pub use cfb_format::color::Color;

@@ -12,20 +12,20 @@ use Rattle.cfb_format.specs.Siblings.{entry_at}
 use Rattle.cfb_format.specs.Soundness.{IsSound}
 use Rattle.cfb_format.specs.Tree.{Tree}
 use Rattle.cfb_format.proofs.Unique.{IsOutline-unique}
-use Rattle.cfb_rules.specs.CallChanges.{content_changed_at}
-use Rattle.cfb_siblings.specs.Paths.{number_from}
-use Rattle.cfb_trees.specs.Balance.{AreAllBalanced}
-use Rattle.cfb_trees.specs.Reached.{IsReached}
-use Rattle.cfb_trees.proofs.Members.{streams-are-by-kind}
+use Rattle.cfb_agreement.specs.cfb_rules.CallChanges.{content_changed_at}
+use Rattle.cfb_agreement.specs.cfb_siblings.Paths.{number_from}
+use Rattle.cfb_agreement.specs.cfb_trees.Balance.{AreAllBalanced}
+use Rattle.cfb_agreement.specs.cfb_trees.Reached.{IsReached}
+use Rattle.cfb_agreement.proofs.cfb_trees.Members.{streams-are-by-kind}
 use Rattle.cfb_objects.specs.Changes.{MovesContentOf}
 use Rattle.cfb_objects.specs.Laws.{BecomesTree}
 use Rattle.cfb_objects.specs.Objects.{tree_from}
 use Rattle.cfb_objects.proofs.Balance.{all-stay-balanced, content-keeps-balance}
 use Rattle.cfb_objects.proofs.Becoming.{tree-becomes}
 use Rattle.cfb_objects.proofs.Fields.{content-changes-in-place}
-use Rattle.cfb_mini_sectors.specs.State.{IsChangeable, MiniState, bytes_of, cases_of, content_of, entries_of, reading_of}
-use Rattle.cfb_mini_sectors.specs.Steps.{KeepsLimits}
-use Rattle.cfb_mini_sectors.proofs.HeldMini.{held-mini-is-read}
+use Rattle.cfb_agreement.specs.cfb_mini_sectors.State.{IsChangeable, MiniState, bytes_of, cases_of, content_of, entries_of, reading_of}
+use Rattle.cfb_agreement.specs.cfb_mini_sectors.Steps.{KeepsLimits}
+use Rattle.cfb_agreement.proofs.cfb_mini_sectors.HeldMini.{held-mini-is-read}
 use Rattle.cfb_content.specs.Changed.{StaysTidy}
 use Rattle.cfb_content.specs.Contents.{IsStreamOf, KeepsOthers, MovesContent, dir_count_of, len_of}
 use Rattle.cfb_content.proofs.Apart.{content-is}

@@ -4,10 +4,10 @@ use Rattle.std.proofs.Common.{◌≡◌, ℕ, List, Bool, ◌∙◌, ap, length}
 use Rattle.cfb_format.specs.declared.validate.Validation.{Validation}
 use Rattle.cfb_format.specs.declared.validate.Validation.TheVariants.{Permissive, Strict}
 use Rattle.cfb_format.specs.Header.{IfStrict}
-use Rattle.cfb_alloc.specs.Alloc.{AllocatorState, HoldsTables}
-use Rattle.cfb_directory.specs.State.{HoldsDirectory}
-use Rattle.cfb_mini_sectors.specs.Held.{with_table}
-use Rattle.cfb_mini_sectors.specs.State.{HoldsMini, IsChangeable, IsStrictMini, MiniState, bytes_of, table_of, tables_in}
+use Rattle.cfb_agreement.specs.cfb_alloc.Alloc.{AllocatorState, HoldsTables}
+use Rattle.cfb_agreement.specs.cfb_directory.State.{HoldsDirectory}
+use Rattle.cfb_agreement.specs.cfb_mini_sectors.Held.{with_table}
+use Rattle.cfb_agreement.specs.cfb_mini_sectors.State.{HoldsMini, IsChangeable, IsStrictMini, MiniState, bytes_of, table_of, tables_in}
 use Rattle.cfb_agreement.specs.Files.{IsAsMade, failures_of, is_failed}
 use Rattle.cfb_agreement.specs.Laws.{AsBeforeIsSame, FlagsAreNotMade, FlagsAreNotRead}
 

@@ -1,9 +1,8 @@
 -- Changes of one stream's content, one after the other, are one.
 use Rattle.std.proofs.Common.{◌≡◌, ◌<◌, ◌≤◌, inl, inr, ℕ, Bool, true, false, refl, sym, ◌∙◌, subst, length, arith}
 use Rattle.std.proofs.lemmas.Bool.{cases_lt}
-use Rattle.cfb_tables.specs.Changes.{NoneFree}
-use Rattle.cfb_mini_sectors.specs.State.{MiniState, tables_in}
-use Rattle.cfb_mini_sectors.specs.Steps.{KeepsLimits}
+use Rattle.cfb_agreement.specs.cfb_tables.Changes.{NoneFree}
+use Rattle.cfb_agreement.specs.cfb_mini_sectors.State.{MiniState, tables_in}
 use Rattle.cfb_content.specs.Contents.{KeepsOthers}
 use Rattle.cfb_content.proofs.FixedHeader.{bytes-keep-header, header-then}
 use Rattle.cfb_content.proofs.Kept.{nothing-is-moved, others-kept-then}
@@ -12,16 +11,9 @@ use Rattle.cfb_agreement.specs.Changes.{ChangesOneContent}
 use Rattle.cfb_agreement.specs.Files.{FileState, GrowsTightly, SameSetting, failures_of, is_failed}
 use Rattle.cfb_agreement.specs.Laws.{AsBeforeIsNone, ContentsInTurn, OneChangeKeepsRest, RestIsKeptInTurn, SameContentIsNone, with_flags}
 use Rattle.cfb_agreement.proofs.Flags.{as-before-same, flagged, made-flagged}
+use Rattle.cfb_agreement.proofs.cfb_mini_changes.MiniExtended.{limits-then}
 
-limits-then : (a b c : MiniState) → KeepsLimits a b → KeepsLimits b c → KeepsLimits a c
-limits-then a b c p q = record {
-  version = q.version ∙ p.version;
-  cases = q.cases ∙ p.cases;
-  max_sectors = q.max_sectors ∙ p.max_sectors;
-  max_mini_sectors = q.max_mini_sectors ∙ p.max_mini_sectors;
-}
-
-setting-then : (a b c : FileState) → SameSetting a b → SameSetting b c → SameSetting a c
+pub setting-then : (a b c : FileState) → SameSetting a b → SameSetting b c → SameSetting a c
 setting-then a b c p q = record {
   limits = limits-then a.base b.base c.base p.limits q.limits;
   is_sound = q.is_sound ∙ p.is_sound;
@@ -56,7 +48,7 @@ as-before-is-none i old new before =
 -- ---- one after the other
 
 -- where the second did not fail, the first did not either
-calm-before : (a b : Bool) → (a ≡ true → b ≡ true) → b ≡ false → a ≡ false
+pub calm-before : (a b : Bool) → (a ≡ true → b ≡ true) → b ≡ false → a ≡ false
 calm-before false b stays calm = refl
 calm-before true b stays calm = absurd (let w : true ≡ false = sym (stays refl) ∙ calm in cc)
 

@@ -6,8 +6,8 @@ use Rattle.cfb_format.specs.Names.{Cases}
 use Rattle.cfb_format.specs.Reading.{IsOutline, Outline, stream_numbers}
 use Rattle.cfb_format.specs.Siblings.{entry_at}
 use Rattle.cfb_format.specs.Tree.{Tree}
-use Rattle.cfb_rules.specs.CallChanges.{storage_added_at, stream_added_at}
-use Rattle.cfb_mini_sectors.specs.State.{MiniState, cases_of, entries_of}
+use Rattle.cfb_agreement.specs.cfb_rules.CallChanges.{storage_added_at, stream_added_at}
+use Rattle.cfb_agreement.specs.cfb_mini_sectors.State.{MiniState, cases_of, entries_of}
 use Rattle.cfb_content.specs.Contents.{KeepsContent, KeepsFixedHeader, KeepsOthers, MovesContent}
 use Rattle.cfb_agreement.specs.Files.{FileState, IsAsBefore, IsAsMade, GrowsTightly, SameSetting, is_failed}
 

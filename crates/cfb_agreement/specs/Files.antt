@@ -9,12 +9,12 @@ use Rattle.cfb_format.specs.Names.{Cases}
 use Rattle.cfb_format.specs.Reading.{Outline, Reads}
 use Rattle.cfb_format.specs.Siblings.{entry_at}
 use Rattle.cfb_format.specs.Soundness.{IsSound}
-use Rattle.cfb_tables.specs.Changes.{NoneFree}
-use Rattle.cfb_tables.specs.Tables.{AreExactTables}
-use Rattle.cfb_trees.specs.Balance.{AreAllBalanced}
-use Rattle.cfb_mini_sectors.specs.State.{IsChangeable, MiniState, bytes_of, cases_of, entries_of, parts_of, reading_of, table_of, tables_in, version_of}
-use Rattle.cfb_mini_sectors.specs.Steps.{IsSnugMini, KeepsLimits}
-use Rattle.cfb_mini_changes.specs.MiniSectors.{IsStill, IsWhole}
+use Rattle.cfb_agreement.specs.cfb_tables.Changes.{NoneFree}
+use Rattle.cfb_agreement.specs.cfb_tables.Tables.{AreExactTables}
+use Rattle.cfb_agreement.specs.cfb_trees.Balance.{AreAllBalanced}
+use Rattle.cfb_agreement.specs.cfb_mini_sectors.State.{IsChangeable, MiniState, bytes_of, cases_of, entries_of, parts_of, reading_of, table_of, tables_in, version_of}
+use Rattle.cfb_agreement.specs.cfb_mini_sectors.Steps.{IsSnugMini, KeepsLimits}
+use Rattle.cfb_agreement.specs.cfb_mini_changes.MiniSectors.{IsStill, IsOfWholeSectors}
 use Rattle.cfb_content.specs.Contents.{AreAllUsed, AreSnug, IsStreamOf, TellsPlaces, dir_count_of, len_of}
 
 -- what the layers below keep, whether the file is sound, and for how many bytes the buffer of a stream may have room
@@ -61,7 +61,7 @@ EmptyStartAtEnd s = (k : ℕ) → IsStreamOf s k → len_of s k ≡ 0 → (entry
 -- what strict opening does not ask: the file is a whole number of sectors, the header counts the directory's exactly, and empty streams start at
 -- END
 pub record IsTidy (s : MiniState) : Type 0 where
-  pub whole : IsWhole (table_of s)
+  pub whole : IsOfWholeSectors (table_of s)
   pub counted : IsCounted s
   pub ended : EmptyStartAtEnd s
 

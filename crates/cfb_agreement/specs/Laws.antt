@@ -7,16 +7,16 @@ use Rattle.cfb_format.specs.Meaning.{Means}
 use Rattle.cfb_format.specs.Reading.{IsOutline, IsStrictFile, Outline}
 use Rattle.cfb_format.specs.Siblings.{entry_at}
 use Rattle.cfb_format.specs.Soundness.{IsOwnedFile, IsSoundFile}
-use Rattle.cfb_rules.specs.CallChanges.{content_changed_at}
-use Rattle.cfb_siblings.specs.Paths.{number_from}
-use Rattle.cfb_tables.specs.Changes.{NoneFree}
-use Rattle.cfb_tables.specs.Tables.{AreExactTables}
+use Rattle.cfb_agreement.specs.cfb_rules.CallChanges.{content_changed_at}
+use Rattle.cfb_agreement.specs.cfb_siblings.Paths.{number_from}
+use Rattle.cfb_agreement.specs.cfb_tables.Changes.{NoneFree}
+use Rattle.cfb_agreement.specs.cfb_tables.Tables.{AreExactTables}
 use Rattle.cfb_objects.specs.Balance.{AreLow, IsLowFile}
 use Rattle.cfb_objects.specs.Laws.{BecomesTree}
 use Rattle.cfb_objects.specs.Objects.{tree_from}
-use Rattle.cfb_mini_sectors.specs.Held.{with_table}
-use Rattle.cfb_mini_sectors.specs.State.{IsChangeable, MiniState, bytes_of, cases_of, content_of, entries_of, table_of, tables_in}
-use Rattle.cfb_mini_sectors.specs.Steps.{IsSnugMini}
+use Rattle.cfb_agreement.specs.cfb_mini_sectors.Held.{with_table}
+use Rattle.cfb_agreement.specs.cfb_mini_sectors.State.{IsChangeable, MiniState, bytes_of, cases_of, content_of, entries_of, table_of, tables_in}
+use Rattle.cfb_agreement.specs.cfb_mini_sectors.Steps.{IsSnugMini}
 use Rattle.cfb_content.specs.Changed.{MovesAlone, StaysTidy}
 use Rattle.cfb_content.specs.Contents.{AreAllUsed, AreSnug, IsStreamOf, KeepsOthers, MovesContent, len_of}
 use Rattle.cfb_agreement.specs.Files.{FileState, Holds, IsAsBefore, IsAsMade, IsMadeFile, SameSetting, failures_of, is_failed}

@@ -2,3 +2,6 @@
 #![tactic(auto)]
 
 pub mod laws;
+
+// What crates above name of those below.
+pub use cfb_content::{Directory, MiniAllocator};

@@ -1,6 +1,6 @@
 -- The allocator's state after sectors were taken, and what stays then.
-use Rattle.std.proofs.Common.{refl, inl, inr, ◌≡◌, ◌≢◌, ◌⊎◌, ℕ, ◌<◌, ◌≤◌, Bool, true, ne_eqb, List, [], ◌∷◌, ◌++◌, length, drop, sym, ◌∙◌, ap, subst, arith}
-use Rattle.std.specs.Prelude.{Contains, if◌then◌else◌}
+use Rattle.std.proofs.Common.{refl, inl, inr, ◌≡◌, ◌≢◌, ◌⊎◌, ℕ, ◌<◌, ◌≤◌, true, List, [], ◌++◌, length, drop, sym, ◌∙◌, ap, subst, arith}
+use Rattle.std.specs.Prelude.{Contains}
 use Rattle.std.proofs.lemmas.List.Elements.{Contains-append_left, Contains-append_right, Contains-append_cases}
 use Rattle.cfb_format.specs.declared.error.Error.{Error}
 use Rattle.cfb_format.specs.declared.error.Error.TheVariants.{NotFound, AlreadyExists, InvalidInput, InvalidData, Medium, Memory, Full, Unsound, Failed}
@@ -16,12 +16,12 @@ use Rattle.cfb_tables.specs.Clean.{IsClean}
 use Rattle.cfb_table_words.specs.Difat.{difat_places}
 use Rattle.cfb_tables.specs.Refused.{TableRefused, ChangeRefused, NextRefused}
 use Rattle.cfb_alloc.specs.Broken.{BreaksOff}
-use Rattle.cfb_sectors.specs.Sectors.{SectorFile, SectorStays, IsMediumError}
-use Rattle.cfb_tables.specs.Tables.{TableState, HasTaken, TakesFor, AreSizes, sizes_of, ending}
+use Rattle.cfb_alloc.specs.cfb_sectors.Sectors.{SectorFile, SectorStays, IsMediumError}
+use Rattle.cfb_tables.specs.Tables.{TableState, HasTaken, TakesFor, AreSizes, sizes_of}
 use Rattle.cfb_tables.proofs.CleanLemmas.{taken-clean}
 use Rattle.cfb_table_words.proofs.GrowthLemmas.{fats_apart_more, old_fats_kept}
-use Rattle.cfb_tables.proofs.Members.{value-below}
-use Rattle.cfb_sectors.proofs.SectorLemmas.{SectorStays_refl}
+use Rattle.cfb_alloc.proofs.cfb_sectors.SectorLemmas.{SectorStays_refl}
+use Rattle.cfb_format.proofs.Walks.{value-below}
 
 pub refused_changed : (invalid memory full medium : Type 0) (e : Error) → TableRefused ⊥ memory full e → ChangeRefused invalid memory full medium e
 refused_changed invalid memory full medium Memory r = r
@@ -72,10 +72,6 @@ broke_off touched more old new Memory is begun taken = absurd (omega (arith, is)
 broke_off touched more old new Full is begun taken = absurd (omega (arith, is))
 broke_off touched more old new Unsound is begun taken = absurd (omega (arith, is))
 broke_off touched more old new Failed is begun taken = absurd (omega (arith, is))
-
--- a sector that goes on is the last member so far
-pub ending_other : (last : ℕ) → last ≢ end_of_chain → ending last ≡ last ∷ []
-ending_other last ne = ap (λ (b : Bool). if b then [] else last ∷ []) (ne_eqb last end_of_chain ne)
 
 pub others_refl : (a : AllocatorState) → OthersStay a a
 others_refl a = record { no_shorter = omega arith; sectors = λ i busy out mine. SectorStays_refl a.tables.version i a.file.bytes; header = λ i lt other. refl }

@@ -14,7 +14,8 @@ use Rattle.cfb_format.specs.Chain.{Follows, IsChain, chain_from}
 use Rattle.cfb_format.proofs.Chains.{chain_from-IsChain}
 use Rattle.cfb_tables.specs.Changes.{NoChain}
 use Rattle.cfb_tables.specs.Refused.{ChangeRefused}
-use Rattle.cfb_tables.proofs.ChainLemmas.{members-busy, regular-le}
+use Rattle.cfb_tables.proofs.ChainLemmas.{members-busy}
+use Rattle.cfb_format.proofs.Walks.{regular-le}
 
 pub found_chain : (table : List ℕ) (s : ℕ) (ids : List ℕ) → chain_from table s ≡ Some ids → IsChain table s ids
 found_chain table s ids e = (chain_from-IsChain table s ids).0 e
@@ -22,7 +23,7 @@ found_chain table s ids e = (chain_from-IsChain table s ids).0 e
 pub chain_found : (table : List ℕ) (s : ℕ) (ids : List ℕ) → IsChain table s ids → chain_from table s ≡ Some ids
 chain_found table s ids c = (chain_from-IsChain table s ids).1 c
 
-index_inside : (v : Version) (k m : ℕ) → k < m * sector_len v → k / sector_len v < m
+pub index_inside : (v : Version) (k m : ℕ) → k < m * sector_len v → k / sector_len v < m
 index_inside V3 k m h = omega arith
 index_inside V4 k m h = omega arith
 

@@ -8,8 +8,8 @@ use Rattle.cfb_format.specs.Bytes.{byte_at, sector_len, sector_start, free_secto
 use Rattle.cfb_format.specs.Chain.{value}
 use Rattle.cfb_format.specs.Content.{in_file, place_in_chain}
 use Rattle.cfb_tables.proofs.ChainLemmas.{chain-stays, members-busy}
-use Rattle.cfb_sectors.specs.Sectors.{SectorStays}
-use Rattle.cfb_sectors.proofs.SectorLemmas.{SectorStays_refl, SectorStays_trans}
+use Rattle.cfb_alloc.specs.cfb_sectors.Sectors.{SectorStays}
+use Rattle.cfb_alloc.proofs.cfb_sectors.SectorLemmas.{SectorStays_refl, SectorStays_trans}
 use Rattle.cfb_alloc.specs.Frame.{IsForeign, IsFixedHeaderByte, NothingIsTouched, SparesLess, SparesInTurn, OtherChainsAreSpared, ForeignStays, BytesStayInPlace}
 
 pub nothing-touched : NothingIsTouched

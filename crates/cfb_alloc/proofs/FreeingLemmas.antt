@@ -18,15 +18,17 @@ use Rattle.cfb_tables.specs.Clean.{IsClean}
 use Rattle.cfb_tables.specs.Refused.{TableRefused, ChangeRefused}
 use Rattle.cfb_format.specs.Refused.{AfterMedium}
 use Rattle.cfb_alloc.specs.Broken.{BreaksOff}
-use Rattle.cfb_sectors.specs.Sectors.{SectorFile, IsMediumError}
+use Rattle.cfb_alloc.specs.cfb_sectors.Sectors.{SectorFile, IsMediumError}
 use Rattle.cfb_tables.specs.Tables.{TableState}
 use Rattle.cfb_table_words.proofs.AgreementLemmas.{changed_late}
-use Rattle.cfb_table_words.proofs.StrictLemmas.{if_strict, strict_changed}
-use Rattle.cfb_tables.proofs.ChainLemmas.{regular-le, follows-values}
+use Rattle.cfb_table_words.proofs.StrictLemmas.{strict_changed}
+use Rattle.cfb_tables.proofs.ChainLemmas.{follows-values}
 use Rattle.cfb_tables.proofs.CleanLemmas.{clean-within}
 use Rattle.cfb_table_words.proofs.FrameLemmas.{changes_refl}
 use Rattle.cfb_table_words.proofs.GrowthLemmas.{agrees_more, value_is, is_value}
-use Rattle.cfb_tables.proofs.Members.{Contains-cases, Contains-here, value-below}
+use Rattle.cfb_format.proofs.Walks.{regular-le, value-below}
+use Rattle.cfb_format.proofs.Members.{Contains-cases, Contains-here}
+use Rattle.cfb_format.proofs.Tests.{if_strict}
 
 -- ---- where a chain starts
 
@@ -55,7 +57,7 @@ invalid_changed why invalid memory full medium (Medium m) f r = absurd r
 invalid_changed why invalid memory full medium Unsound f r = absurd r
 invalid_changed why invalid memory full medium Failed f r = absurd r
 
-broke_by_medium : (broken kept : Type 0) (e : Error) → IsMediumError e → broken → AfterMedium broken kept e
+pub broke_by_medium : (broken kept : Type 0) (e : Error) → IsMediumError e → broken → AfterMedium broken kept e
 broke_by_medium broken kept (Medium m) is b = b
 broke_by_medium broken kept (InvalidData d) is b = absurd (omega (arith, is))
 broke_by_medium broken kept Memory is b = absurd (omega (arith, is))

@@ -9,8 +9,8 @@ use Rattle.cfb_format.specs.Bytes.{sector_len, sector_start, entries_per_sector,
 use Rattle.cfb_format.specs.DirectoryEntry.{entry_bytes, unallocated_entry}
 use Rattle.cfb_format.specs.Medium.{part}
 use Rattle.cfb_format.proofs.ByteLemmas.{part_at, length-part}
-use Rattle.cfb_sectors.specs.declared.sector.SectorInit.TheVariants.{Dir}
-use Rattle.cfb_sectors.specs.Sectors.{copies, init_bytes}
+use Rattle.cfb_alloc.specs.cfb_sectors.declared.sector.SectorInit.TheVariants.{Dir}
+use Rattle.cfb_alloc.specs.cfb_sectors.Sectors.{copies, init_bytes}
 use Rattle.cfb_alloc.specs.Fresh.{FreshSlotsAreUnallocated}
 
 -- the k-th copy

@@ -11,10 +11,10 @@ use Rattle.cfb_format.specs.Fat.{IsDifat, IsStrictDifat, difat_entries, next_dif
 use Rattle.cfb_format.specs.Chain.{value}
 use Rattle.cfb_format.specs.Medium.{ChangesOnlyBytes}
 use Rattle.cfb_tables.specs.Tables.{TableState}
-use Rattle.cfb_sectors.specs.Sectors.{SectorStays}
-use Rattle.cfb_sectors.specs.Words.{with_word}
-use Rattle.cfb_sectors.proofs.SectorLemmas.{after_header}
-use Rattle.cfb_sectors.proofs.WordLemmas.{length-with_word}
+use Rattle.cfb_alloc.specs.cfb_sectors.Sectors.{SectorStays}
+use Rattle.cfb_alloc.specs.cfb_sectors.Words.{with_word}
+use Rattle.cfb_alloc.proofs.cfb_sectors.SectorLemmas.{after_header}
+use Rattle.cfb_alloc.proofs.cfb_sectors.WordLemmas.{length-with_word}
 use Rattle.cfb_alloc.specs.declared.alloc.HeaderWord.{HeaderWord}
 use Rattle.cfb_alloc.specs.declared.alloc.HeaderWord.TheVariants.{DirectorySectors, FirstMiniFat, MiniFatSectors}
 use Rattle.cfb_alloc.specs.HeaderWords.{header_word_place}
@@ -25,11 +25,12 @@ use Rattle.cfb_alloc.specs.Frame.{IsFixedHeaderByte, Spares, table_sectors}
 use Rattle.cfb_table_words.proofs.AgreementLemmas.{agreement_stays}
 use Rattle.cfb_table_words.proofs.DifatEntries.{is_free}
 use Rattle.cfb_table_words.proofs.DifatHeader.{Within, within_word, within_words, fixed_stays, stored_same}
-use Rattle.cfb_table_words.proofs.DifatLemmas.{on_strict, past_header, same_entries, same_next, same_numbers, whole_list}
-use Rattle.cfb_table_words.proofs.DifatWalk.{all_same, flat_same, follows_on}
+use Rattle.cfb_table_words.proofs.DifatLemmas.{past_header, same_entries, same_next, same_numbers, whole_list}
+use Rattle.cfb_table_words.proofs.DifatWalk.{all_same, follows_on}
 use Rattle.cfb_table_words.proofs.HeldLemmas.{header_long, listed_whole}
 use Rattle.cfb_alloc.proofs.SeekLemmas.{strict_stays}
-use Rattle.cfb_table_words.proofs.StrictLemmas.{if_strict}
+use Rattle.cfb_format.proofs.Tests.{if_strict}
+use Rattle.cfb_format.proofs.Members.{same_flat}
 
 -- where such a word stands
 is_place : (word : HeaderWord) → (header_word_place word ≡ 40) ⊎ ((60 ≤ header_word_place word) × (header_word_place word ≤ 64))
@@ -101,7 +102,7 @@ module _ (word : HeaderWord) (a : List ℕ) (w : ℕ) (long : 512 ≤ length a) 
   listed_in validation list own h is d s =
       let v = h.version in
       let flat : flat_map (difat_entries v b) own ≡ flat_map (difat_entries v a) own =
-      flat_same (difat_entries v a) (difat_entries v b) own (λ i m. same_entries v a b i (same_words v i)) in
+      same_flat (difat_entries v a) (difat_entries v b) own (λ i m. same_entries v a b i (same_words v i)) in
       let longer = change.longer in
       record {
         header = renewed h;
@@ -114,7 +115,7 @@ module _ (word : HeaderWord) (a : List ℕ) (w : ℕ) (long : 512 ≤ length a) 
           entries = d.entries ∙ ap (λ (xs : List ℕ). without_end is_free (without_padding h (h.initial_difat_entries ++ xs))) (sym flat);
           in_file = whole_list v a b list longer d.in_file;
         };
-        strict = on_strict validation (IsStrictDifat a h list own) (IsStrictDifat b (renewed h) list own)
+        strict = if_strict validation (IsStrictDifat a h list own) (IsStrictDifat b (renewed h) list own)
             (λ t. record {
               ended = all_same (λ i. not (next_difat v a i == free_sector)) (λ i. not (next_difat v b i == free_sector)) own
                   (λ i m. ap (λ n. not (n == free_sector)) (same_next v a b i (same_words v i))) t.ended;

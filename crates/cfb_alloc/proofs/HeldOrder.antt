@@ -4,10 +4,10 @@ use Rattle.std.specs.Prelude.{Contains, slice_index}
 use Rattle.std.proofs.lemmas.Map.Steps.{length-le_from_distinct_below}
 use Rattle.cfb_format.specs.Bytes.{end_of_chain, max_regular_sector, fat_sector, difat_sector}
 use Rattle.cfb_format.specs.Chain.{value}
-use Rattle.cfb_tables.proofs.ChainLemmas.{follows-values, follows-member}
-use Rattle.cfb_tables.proofs.Members.{value-at}
+use Rattle.cfb_tables.proofs.ChainLemmas.{follows-values}
 use Rattle.cfb_tables.proofs.WordLemmas.{found_below}
 use Rattle.cfb_alloc.specs.Held.{MembersAreNoTableSectors, HeldTablesAreUsable}
+use Rattle.cfb_format.proofs.Walks.{follows-member, value-at}
 
 -- a mark is no member's value
 no_mark : (table : List ℕ) (i w : ℕ) → i < length table → (value table i ≤ max_regular_sector) ⊎ (value table i ≡ end_of_chain) → slice_index table i ≡ w

@@ -1,3 +1,6 @@
+pub use Rattle.cfb_table_words.proofs.cfb_sectors
+pub use Rattle.cfb_tables.proofs as cfb_tables
+pub use Rattle.cfb_table_words.proofs as cfb_table_words
 pub use Rattle.cfb_table_words.proofs.AgreementLemmas
 pub use Rattle.cfb_table_words.proofs.Answering
 pub use Rattle.cfb_table_words.proofs.DifatEntries

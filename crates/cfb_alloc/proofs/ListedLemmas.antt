@@ -11,16 +11,15 @@ use Rattle.cfb_format.specs.declared.error.Error.{Error}
 use Rattle.cfb_format.specs.declared.validate.Validation.{Validation}
 use Rattle.cfb_format.specs.Bytes.{end_of_chain, max_regular_sector}
 use Rattle.cfb_format.specs.Chain.{value, IsChain}
-use Rattle.cfb_sectors.specs.Sectors.{SectorFile}
+use Rattle.cfb_alloc.specs.cfb_sectors.Sectors.{SectorFile}
 use Rattle.cfb_tables.specs.Changes.{GivesBack}
 use Rattle.cfb_tables.specs.Clean.{IsClean, IsUnnamed}
 use Rattle.cfb_tables.specs.Listed.{EndsChain, ends_of, gained, last_or_end}
 use Rattle.cfb_tables.specs.Refused.{ChangeRefused, NextRefused}
 use Rattle.cfb_tables.specs.Tables.{TableState, HasTaken, TablesGiveBack, AreSizes, ending, first_or_end, sizes_of}
-use Rattle.cfb_tables.proofs.ChainLemmas.{chain_of, follows-rest, follows-values, members-busy}
+use Rattle.cfb_tables.proofs.ChainLemmas.{follows-rest, follows-values, members-busy}
 use Rattle.cfb_tables.proofs.CleanLemmas.{freed-clean, cut-clean}
 use Rattle.cfb_tables.proofs.ListedLemmas.{chain_ends, end_chain, ended_alone, ended_regular, ending_other, gained_is, last_pushed, last_split, rest-is, what_is_left-ends, what_is_left-is-chain}
-use Rattle.cfb_tables.proofs.Members.{Contains-nil, Contains-one}
 use Rattle.cfb_tables.proofs.PreparedLemmas.{chain-one}
 use Rattle.cfb_tables.proofs.TakenLemmas.{taken-none, taken-nothing}
 use Rattle.cfb_alloc.specs.Alloc.{AllocatorState}
@@ -31,6 +30,8 @@ use Rattle.cfb_alloc.proofs.AllocLemmas.{next_refused, refused-less}
 use Rattle.cfb_alloc.proofs.FreeingLemmas.{changed_holds}
 use Rattle.cfb_alloc.proofs.Frames.{spares-less}
 use Rattle.cfb_alloc.proofs.Spared.{freed_spares}
+use Rattle.cfb_format.proofs.Walks.{chain_of}
+use Rattle.cfb_format.proofs.Members.{Contains-nil, Contains-one}
 
 -- ---- what slices of the list show
 

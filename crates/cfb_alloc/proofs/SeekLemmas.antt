@@ -17,27 +17,24 @@ use Rattle.cfb_table_words.specs.Holding.{HoldsBut, IsPlaced}
 use Rattle.cfb_tables.specs.Clean.{IsClean}
 use Rattle.cfb_alloc.specs.Frame.{LieOutside, table_sectors}
 use Rattle.cfb_alloc.specs.InSector.{LiesIn, IsNoTableSector}
-use Rattle.cfb_sectors.specs.Sectors.{SectorFile, sectors_end}
+use Rattle.cfb_alloc.specs.cfb_sectors.Sectors.{SectorFile, sectors_end}
 use Rattle.cfb_tables.specs.Tables.{TableState}
 use Rattle.cfb_table_words.proofs.AgreementLemmas.{agreement_stays}
 use Rattle.cfb_table_words.proofs.DifatLemmas.{listing_stays}
-use Rattle.cfb_table_words.proofs.HeldLemmas.{listed_whole}
+use Rattle.cfb_table_words.proofs.HeldLemmas.{listed_whole, header_long}
 use Rattle.cfb_alloc.proofs.Spared.{apart_from, lies_past}
-use Rattle.cfb_sectors.proofs.SectorLemmas.{Stays_apart, sector_apart}
-use Rattle.cfb_table_words.proofs.StrictLemmas.{if_strict}
+use Rattle.cfb_alloc.proofs.cfb_sectors.SectorLemmas.{Stays_apart, sector_apart}
 use Rattle.cfb_table_words.proofs.TableWords.{kept_word}
+use Rattle.cfb_format.proofs.Tests.{if_strict}
+use Rattle.cfb_format.proofs.Along.{sectors_apart}
 
 -- ---- where a sector lies
-
-end_inside : (v : Version) (sector m : ℕ) → sector < m → sector_start v sector + sector_len v ≤ sector_start v m
-end_inside V3 sector m low = omega arith
-end_inside V4 sector m low = omega arith
 
 -- a sector of the file ends where its sectors do
 pub sector_inside : (f : SectorFile) (t : TableState) (sector : ℕ) → IsPlaced f t → sector < length t.fat → sector_start t.version sector + sector_len t.version ≤ sectors_end f
 sector_inside f t sector p low =
     let last : sectors_end f ≡ sector_start t.version (length t.fat) = λ j. sector_start (p.same_version j) (p.count j) in
-    subst (λ n. sector_start t.version sector + sector_len t.version ≤ n) (sym last) (end_inside t.version sector (length t.fat) low)
+    subst (λ n. sector_start t.version sector + sector_len t.version ≤ n) (sym last) (sectors_apart t.version sector (length t.fat) low)
 
 pub sector_fits : (v : Version) (sector : ℕ) → sector < 2 ^ 32 → sector_start v sector + sector_len v < 2 ^ 46
 sector_fits V3 sector low = omega arith
@@ -80,10 +77,6 @@ first_start : (v : Version) (at : ℕ) → sector_len v ≤ at → sector_start 
 first_start V3 at past = omega (arith, past)
 first_start V4 at past = omega (arith, past)
 
-header_before : (v : Version) (at : ℕ) → sector_len v ≤ at → 512 ≤ at
-header_before V3 at past = omega (arith, past)
-header_before V4 at past = omega (arith, past)
-
 module _ (validation : Validation) (late : List ℕ) (old new : SectorFile) (t : TableState) (at : ℕ) (from : List ℕ) where
   abbrev v : Version
   v = t.version
@@ -100,7 +93,7 @@ module _ (validation : Validation) (late : List ℕ) (old new : SectorFile) (t :
       let all : length new.bytes ≡ max (length old.bytes) (at + length from) = ap (λ (xs : List ℕ). length xs) is ∙ length-written old.bytes at from in
       let change : ChangesOnlyBytes at (length from) old.bytes new.bytes =
       subst (λ (b : List ℕ). ChangesOnlyBytes at (length from) old.bytes b) (sym is) (ChangesOnly-written old.bytes at from) in
-      let behind = header_before v at past in
+      let behind = header_long v at past in
       let keeps : (list : List ℕ) → ((i : ℕ) → Contains list i → Contains (table_sectors t) i) → KeepsSectors v list old.bytes new.bytes =
       λ list among i m. sector_apart v at (length from) i old.bytes new.bytes change (outside i (among i m)) in
       let fats = keeps t.fat_sectors (λ i m. Contains-append_left t.fat_sectors t.difat_sectors i m) in

@@ -2,18 +2,16 @@
 use Rattle.std.proofs.Common.{◌≡◌, ◌≢◌, ◌≤◌, ◌<◌, ◌+◌, ◌-◌, ◌*◌, inl, inr, min, ℕ, List, [], ◌∷◌, ◌++◌, Bool, true, false, refl, sym, ◌∙◌, ap, subst, length, arith, length-take, length-drop, get_or-drop}
 use Rattle.std.specs.Prelude.{slice_index, slice_index_or, IsTrue, Contains, flat_map, nat_eq, Option, Some, None, unwrap_or, if◌then◌else◌, not, ◌&&◌, ◌==◌}
 use Rattle.std.specs.List.{IsDistinct}
-use Rattle.std.proofs.lemmas.Bool.{leb-true}
 use Rattle.std.proofs.lemmas.List.{get_or_default}
 use Rattle.std.proofs.lemmas.List.FromFn.{get_or-map-range_with_len, length-map-range_with_len}
 use Rattle.std.proofs.lemmas.List.Elements.{Contains-append_cases, Contains-get_or}
 use Rattle.cfb_format.specs.declared.validate.Validation.{Validation}
 use Rattle.cfb_format.specs.declared.validate.Validation.TheVariants.{Permissive, Strict}
 use Rattle.cfb_format.specs.declared.version.Version.{Version}
-use Rattle.cfb_format.specs.declared.version.Version.TheVariants.{V3, V4}
 use Rattle.cfb_format.specs.Bytes.{sector_count, is_whole_sector, is_regular, words_per_sector, free_sector, fat_sector, difat_sector, invalid_sector}
 use Rattle.cfb_format.specs.Chain.{value, Follows, chain_from}
 use Rattle.cfb_format.specs.Content.{sector_chain}
-use Rattle.cfb_format.specs.Fat.{fat_of, fat_value, raw_fat, fat_words, fat_padding, is_among, is_fat_padding, ended_past_file, FollowsDifat, next_difat, IsStrictDifat, IsStrictFat}
+use Rattle.cfb_format.specs.Fat.{fat_of, fat_value, raw_fat, fat_words, fat_padding, is_among, is_fat_padding, ended_past_file, IsStrictDifat, IsStrictFat}
 use Rattle.cfb_format.specs.Header.{IfStrict}
 use Rattle.cfb_format.specs.Names.{Cases}
 use Rattle.cfb_format.specs.Reading.{Reading, Reads, root_entry}
@@ -27,45 +25,17 @@ use Rattle.cfb_tables.specs.Clean.{IsClean}
 use Rattle.cfb_table_words.specs.Difat.{ListsTables}
 use Rattle.cfb_alloc.specs.Held.{SoundTablesAreHeld, StrictTablesAreHeld, HeldTablesAreStrict}
 use Rattle.cfb_table_words.proofs.AgreementLemmas.{within-stays}
-use Rattle.cfb_tables.proofs.ChainLemmas.{regular-le, follows-busy}
+use Rattle.cfb_tables.proofs.ChainLemmas.{follows-busy}
 use Rattle.cfb_tables.proofs.CleanLemmas.{clean-within, follows-next}
-use Rattle.cfb_table_words.proofs.HeldLemmas.{every_member}
 use Rattle.cfb_alloc.proofs.StrictFat.{strict_is, strict_from}
-use Rattle.cfb_table_words.proofs.StrictLemmas.{if_strict}
-use Rattle.cfb_table_words.proofs.Listed.{among-Contains, Contains-among}
-use Rattle.cfb_tables.proofs.Members.{Contains-nil, Contains-here, Contains-there, Contains-cases, Contains-or, value-at, distinct-left, distinct-apart}
 use Rattle.cfb_table_words.proofs.TableWords.{raw_fat-at, fat_words-at, length-fat_words}
-
-pub not-among : (xs : List ℕ) (x : ℕ) → (Contains xs x → ⊥) → is_among xs x ≡ false
-not-among xs x out = go (is_among xs x) refl
-  where
-    go : (b : Bool) → is_among xs x ≡ b → is_among xs x ≡ false
-    go true h = absurd (out (among-Contains xs x h))
-    go false h = h
+use Rattle.cfb_format.proofs.Walks.{regular-le, value-at, difat-whole}
+use Rattle.cfb_format.proofs.Members.{Contains-among, Contains-nil, Contains-there, Contains-or, distinct-left, distinct-apart, flat-Contains, not-among, every_member}
+use Rattle.cfb_format.proofs.Words.{whole-below}
+use Rattle.cfb_format.proofs.Tests.{if_strict}
 
 not_joined : (xs ys : List ℕ) (i : ℕ) → (Contains xs i → ⊥) → (Contains ys i → ⊥) → is_among (xs ++ ys) i ≡ false
 not_joined xs ys i out out' = not-among (xs ++ ys) i (λ m. elim (Contains-append_cases xs ys i m) [ inl a ↦ out a | inr b ↦ out' b ])
-
--- which of several lists has a member
-flat-Contains : (f : ℕ → List ℕ) (xs : List ℕ) (x : ℕ) → Contains (flat_map f xs) x → (k : ℕ) × Contains xs k × Contains (f k) x
-flat-Contains f [] x m = absurd (Contains-nil x m)
-flat-Contains f (y ∷ xs) x m = elim (Contains-append_cases (f y) (flat_map f xs) x m) [
-  | inl l ↦ (y, Contains-here y xs, l)
-  | inr r ↦ let n = flat-Contains f xs x r in (n.0, Contains-there y xs n.0 n.1, n.2)
-]
-
--- ---- whole sectors
-
-pub difat-whole : (v : Version) (bytes : List ℕ) (s : ℕ) (own : List ℕ) → FollowsDifat v bytes s own → (i : ℕ) → Contains own i → is_whole_sector v bytes i ≡ true
-difat-whole v bytes s [] f i m = absurd (Contains-nil i m)
-difat-whole v bytes s (x ∷ own) f i m = elim (Contains-cases x own i m) [
-  | inl same ↦ subst (λ k. is_whole_sector v bytes k ≡ true) same f.2
-  | inr r ↦ difat-whole v bytes (next_difat v bytes x) own f.4 i r
-]
-
-pub whole-below : (v : Version) (bytes : List ℕ) (i : ℕ) → is_whole_sector v bytes i ≡ true → i < sector_count v bytes
-whole-below V3 bytes i w = let fits : (i + 1) * 512 + 512 ≤ length bytes = leb-true ((i + 1) * 512 + 512) (length bytes) w in omega (arith, fits)
-whole-below V4 bytes i w = let fits : (i + 1) * 4096 + 4096 ≤ length bytes = leb-true ((i + 1) * 4096 + 4096) (length bytes) w in omega (arith, fits)
 
 -- ---- the values of the FAT that was read
 

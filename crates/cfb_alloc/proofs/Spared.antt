@@ -9,16 +9,16 @@ use Rattle.cfb_format.specs.Chain.{value, IsChain}
 use Rattle.cfb_format.specs.Medium.{ChangesOnlyBytes}
 use Rattle.cfb_format.proofs.Unique.{IsChain-unique}
 use Rattle.cfb_tables.specs.Tables.{TableState, HasTaken, TablesGiveBack}
-use Rattle.cfb_sectors.specs.Words.{Apart}
-use Rattle.cfb_sectors.specs.Sectors.{SectorFile, place_in_sector}
-use Rattle.cfb_sectors.proofs.SectorLemmas.{sector_apart}
+use Rattle.cfb_alloc.specs.cfb_sectors.Words.{Apart}
+use Rattle.cfb_alloc.specs.cfb_sectors.Sectors.{SectorFile, place_in_sector}
+use Rattle.cfb_alloc.proofs.cfb_sectors.SectorLemmas.{sector_apart}
 use Rattle.cfb_alloc.specs.Alloc.{AllocatorState}
 use Rattle.cfb_table_words.specs.Holding.{ChangesSectors, IsOtherHeaderByte, IsPlaced}
 use Rattle.cfb_alloc.specs.Frame.{IsFixedHeaderByte, Spares, LieAmong, TakingSpares, FreeingSpares, WritingSpares, table_sectors}
 use Rattle.cfb_alloc.specs.InSector.{LiesIn}
 use Rattle.cfb_alloc.proofs.AllocLemmas.{others_written}
-use Rattle.cfb_table_words.proofs.Listed.{not_in_nil}
 use Rattle.cfb_alloc.proofs.Frames.{nothing-touched, spares-less}
+use Rattle.cfb_format.proofs.Members.{Contains-nil}
 
 -- ---- where nothing changes
 
@@ -83,7 +83,7 @@ taken_spares old new touched more h o =
           | inr b ↦ f.busy (h.fresh i (late_difat i b))
         ]
       ];
-      sectors = λ i f. o.sectors i f.busy f.no_table (not_in_nil i);
+      sectors = λ i f. o.sectors i f.busy f.no_table (Contains-nil i);
       header = λ i lt fixed. o.header i lt (fixed_other old.tables.version i fixed);
     }
 

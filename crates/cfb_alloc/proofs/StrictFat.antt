@@ -11,10 +11,8 @@ use Rattle.cfb_format.specs.Fat.{raw_fat, fat_words, fat_padding, IsStrictFat}
 use Rattle.cfb_table_words.specs.Agreement.{word_of, WordsAgree, IsStrictBut}
 use Rattle.cfb_tables.specs.Changes.{AreDisjoint}
 use Rattle.cfb_table_words.proofs.AgreementLemmas.{every}
-use Rattle.cfb_table_words.proofs.HeldLemmas.{every_member}
-use Rattle.cfb_table_words.proofs.Listed.{not_in_nil}
-use Rattle.cfb_tables.proofs.Members.{Contains-or}
 use Rattle.cfb_table_words.proofs.TableWords.{raw_fat-at, fat_words-at, length-fat_words}
+use Rattle.cfb_format.proofs.Members.{Contains-nil, Contains-or, every_member}
 
 each_member : (p : ℕ → Bool) (xs : List ℕ) → ((i : ℕ) → Contains xs i → p i ≡ true) → list_all p xs ≡ true
 each_member p xs h = every p xs (λ k lt. h (slice_index xs k) (Contains-get_or xs k 0 lt))
@@ -51,20 +49,20 @@ module _ (version : Version) (bytes list own table : List ℕ) (a : WordsAgree v
         eq-eqb _ _ (p.1 ∙ s.padding (sector_count version bytes + i) (let c = a.count in omega (arith, c)) p.0));
     fat_marks = each_member (λ i. slice_index_or (raw_fat version bytes list) i free_sector == fat_sector) list (λ i m.
         let f = a.fat_marks i m in
-        eq-eqb _ _ (in_raw i f.0 ∙ s.words i f.0 (not_in_nil i) ∙ f.1));
+        eq-eqb _ _ (in_raw i f.0 ∙ s.words i f.0 (Contains-nil i) ∙ f.1));
     difat_marks = each_member (λ i. slice_index_or (raw_fat version bytes list) i free_sector == difat_sector) own (λ i m.
         let d = a.difat_marks i m (λ n. apart i n m) in
         let lt : i < length table = elim (cases_lt i (length table)) [
           | inl less ↦ less
           | inr ge ↦ absurd (let zero_there : slice_index table i ≡ 0 = get_or_past table i 0 ge in omega (arith, zero_there, d))
         ] in
-        eq-eqb _ _ (in_raw i lt ∙ s.words i lt (not_in_nil i) ∙ d));
+        eq-eqb _ _ (in_raw i lt ∙ s.words i lt (Contains-nil i) ∙ d));
     pointers = every (points_below (sector_count version bytes)) (raw_fat version bytes list) (λ i lt.
         let all = length-fat_words version bytes list in
         let cut : length (raw_fat version bytes list) ≡ min (sector_count version bytes) (length (fat_words version bytes list)) = length-take (sector_count version bytes) (fat_words version bytes list) in
         let inside : i < length table = let c = a.count in omega (arith, lt, cut, c) in
         let same : slice_index (raw_fat version bytes list) i ≡ slice_index table i =
-        get_or_default (raw_fat version bytes list) i 0 free_sector lt ∙ in_raw i inside ∙ s.words i inside (not_in_nil i) in
+        get_or_default (raw_fat version bytes list) i 0 free_sector lt ∙ in_raw i inside ∙ s.words i inside (Contains-nil i) in
         subst (λ w. points_below (sector_count version bytes) w ≡ true) (sym same)
         (points (sector_count version bytes) (slice_index table i) (λ r. let w = a.within i inside r in let c = a.count in omega (arith, w, c))));
   }

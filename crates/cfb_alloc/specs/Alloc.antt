@@ -4,10 +4,10 @@ use Rattle.cfb_format.specs.declared.version.Version.{Version}
 use Rattle.cfb_format.specs.declared.validate.Validation.{Validation}
 use Rattle.cfb_format.specs.Bytes.{free_sector}
 use Rattle.cfb_format.specs.Chain.{value}
-use Rattle.cfb_sectors.specs.Sectors.{SectorFile, SectorStays}
+use Rattle.cfb_alloc.specs.cfb_sectors.Sectors.{SectorFile, SectorStays}
 use Rattle.cfb_tables.specs.Clean.{IsClean}
 use Rattle.cfb_tables.specs.Tables.{TableState, AreSizes, IsCovered}
-pub use Rattle.cfb_table_words.specs.Holding.{IsPlaced, IsMeasured, HoldsBut, IsFilled, IsOtherHeaderByte, ChangesSectors}
+pub use Rattle.cfb_table_words.specs.Holding.{IsPlaced, IsMeasured, HoldsBut, IsAsFilled, IsOtherHeaderByte, ChangesSectors}
 
 -- what an allocator keeps
 pub record AllocatorState : Type 0 where

@@ -8,8 +8,8 @@ use Rattle.cfb_format.specs.Content.{place_in_chain}
 use Rattle.cfb_format.specs.Medium.{ChangesOnlyBytes}
 use Rattle.cfb_tables.specs.Changes.{AreDisjoint}
 use Rattle.cfb_tables.specs.Tables.{TableState, HasTaken, TakesFor, TablesGiveBack, GivesBackChain}
-use Rattle.cfb_sectors.specs.Sectors.{SectorStays}
-use Rattle.cfb_sectors.specs.Words.{Apart}
+use Rattle.cfb_alloc.specs.cfb_sectors.Sectors.{SectorStays}
+use Rattle.cfb_alloc.specs.cfb_sectors.Words.{Apart}
 use Rattle.cfb_table_words.specs.Agreement.{KeepsSectors}
 use Rattle.cfb_alloc.specs.Alloc.{AllocatorState, OthersStay}
 use Rattle.cfb_table_words.specs.Holding.{ChangesSectors}

@@ -4,12 +4,12 @@ use Rattle.cfb_format.specs.declared.version.Version.{Version}
 use Rattle.cfb_format.specs.Bytes.{sector_start, entries_per_sector}
 use Rattle.cfb_format.specs.DirectoryEntry.{entry_bytes, unallocated_entry}
 use Rattle.cfb_format.specs.Medium.{part}
-use Rattle.cfb_sectors.specs.declared.sector.SectorInit.TheVariants.{Dir}
-use Rattle.cfb_table_words.specs.Holding.{IsFilled}
+use Rattle.cfb_alloc.specs.cfb_sectors.declared.sector.SectorInit.TheVariants.{Dir}
+use Rattle.cfb_table_words.specs.Holding.{IsAsFilled}
 
 -- ---- laws
 
 -- each slot of a fresh directory sector is that of an unallocated entry
 abbrev pub FreshSlotsAreUnallocated : Type 0
-FreshSlotsAreUnallocated = (version : Version) (bytes : List ℕ) (i k : ℕ) → IsFilled version Dir bytes i → k < entries_per_sector version
+FreshSlotsAreUnallocated = (version : Version) (bytes : List ℕ) (i k : ℕ) → IsAsFilled version Dir bytes i → k < entries_per_sector version
     → part bytes (sector_start version i + k * 128) 128 ≡ entry_bytes unallocated_entry

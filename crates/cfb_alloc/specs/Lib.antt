@@ -1,3 +1,6 @@
+pub use Rattle.cfb_table_words.specs.cfb_sectors
+pub use Rattle.cfb_tables.specs as cfb_tables
+pub use Rattle.cfb_table_words.specs as cfb_table_words
 pub use Rattle.cfb_table_words.specs.Agreement
 pub use Rattle.cfb_table_words.specs.Difat
 pub mod Alloc

@@ -7,20 +7,20 @@ ghost use Rattle.cfb_format.specs.Refused.{CountsFailure, IsInvalidData};
 ghost use Rattle.cfb_alloc.specs.Alloc.{AreListed, HoldsTables, IsUsable, OthersStay};
 ghost use Rattle.cfb_table_words.specs.Agreement.{KeepsSectors};
 ghost use Rattle.cfb_table_words.specs.Along.{AreFilledFrom};
-ghost use Rattle.cfb_table_words.specs.Holding.{ChangesSectors, IsPlaced, IsFilled};
+ghost use Rattle.cfb_table_words.specs.Holding.{ChangesSectors, IsPlaced, IsAsFilled};
 ghost use Rattle.cfb_tables.specs.ReadFat.{AcceptsFat, AcceptsNoFat};
 ghost use Rattle.cfb_tables.specs.Changes.{IsNextOf, NoChain};
 ghost use Rattle.cfb_tables.specs.Refused.{TableRefused, NextRefused, NoLast, WalkRefused, ChangeRefused};
 ghost use Rattle.cfb_alloc.specs.Broken.{BreaksOff};
 ghost use Rattle.cfb_tables.specs.Listed.{EndsChain, ends_of, gained};
 ghost use Rattle.cfb_tables.specs.Room.{IsTooFewAfter};
-ghost use Rattle.cfb_sectors.specs.Words.{with_word};
+ghost use Rattle.cfb_alloc.specs.cfb_sectors.Words.{with_word};
 ghost use Rattle.cfb_alloc.specs.Frame.{Spares, LieAmong, LieOutside, table_sectors};
 ghost use Rattle.cfb_alloc.specs.HeaderWords.{header_word_place};
 ghost use Rattle.cfb_alloc.specs.ListedChain.{CanShorten, Lengthens, Shortens, ListBreaksOff};
 ghost use Rattle.cfb_tables.specs.Tables.{HasTaken, TakesFor, Extended, ExtendsFrom, GivesBackChain, TablesGiveBack, AreSizes, IsTooFew, ending, first_or_end, sizes_of, tables_of};
 ghost use Rattle.cfb_tables.specs.Clean.{IsUnnamed};
-ghost use Rattle.cfb_sectors.specs.Sectors.{IsMediumError, IsRaised, OtherSectorsStay, place_in_sector, sectors_end};
+ghost use Rattle.cfb_alloc.specs.cfb_sectors.Sectors.{IsMediumError, IsRaised, OtherSectorsStay, place_in_sector, sectors_end};
 ghost use Rattle.cfb_format.specs.Medium.{ChangesOnlyBytes, part, written};
 
 use cfb_format::consts::{END_OF_CHAIN, NUM_DIFAT_ENTRIES_IN_HEADER};
@@ -28,8 +28,8 @@ use cfb_format::error::{Detail, Error};
 use cfb_format::medium::{Medium, ReadMedium};
 use cfb_format::validate::Validation;
 use cfb_format::version::Version;
-use cfb_sectors::sector::{SectorInit, Sectors};
 use cfb_table_words::writing::{TableSizes, write_taken, write_values};
+use cfb_table_words::{SectorInit, Sectors};
 use cfb_tables::ends::first_number;
 use cfb_tables::fat::read_fat;
 use cfb_tables::tables::Tables;
@@ -380,7 +380,7 @@ impl<F: Medium, A: Heap> Allocator<F, A> {
         ensures chain { IfOk result (λ x. IsChain self.new.tables.fat x (x ∷ [])) }
         ensures filled { IsTrue F.tells
             → (validation : Validation) → HoldsTables validation self.old
-            → IfOk result (λ x. IsFilled self.new.tables.version init self.new.file.bytes x) }
+            → IfOk result (λ x. IsAsFilled self.new.tables.version init self.new.file.bytes x) }
         ensures holds { IsTrue F.tells → (validation : Validation)
             → HoldsTables validation self.old → OnOk result (HoldsTables validation self.new) }
         ensures others { IsTrue F.tells → OthersStay self.old self.new }
@@ -437,7 +437,7 @@ impl<F: Medium, A: Heap> Allocator<F, A> {
         ensures filled { IsTrue F.tells
             → (validation : Validation) → HoldsTables validation self.old
             → OnOk result ((i : ℕ) → Contains (gained ids.old.items ids.new.items) i
-            → IsFilled self.new.tables.version init self.new.file.bytes i) }
+            → IsAsFilled self.new.tables.version init self.new.file.bytes i) }
         ensures holds { IsTrue F.tells → (validation : Validation)
             → HoldsTables validation self.old → OnOk result (HoldsTables validation self.new) }
         ensures others { IsTrue F.tells → OthersStay self.old self.new }
@@ -721,7 +721,7 @@ impl<F: Medium, A: Heap + Clone> Allocator<F, A> {
             Extended self.old.tables self.new.tables start (x ∷ [])) }
         ensures filled { IsTrue F.tells
             → (validation : Validation) → HoldsTables validation self.old
-            → IfOk result (λ x. IsFilled self.new.tables.version init self.new.file.bytes x) }
+            → IfOk result (λ x. IsAsFilled self.new.tables.version init self.new.file.bytes x) }
         ensures holds { IsTrue F.tells → (validation : Validation)
             → HoldsTables validation self.old → OnOk result (HoldsTables validation self.new) }
         ensures others { IsTrue F.tells → OthersStay self.old self.new }
@@ -772,7 +772,7 @@ impl<F: Medium, A: Heap + Clone> Allocator<F, A> {
         ensures none { count ≡ 0 → self.new ≡ self.old }
         ensures filled { IsTrue F.tells → (validation : Validation)
             → HoldsTables validation self.old → IfOk result (λ list. (i : ℕ)
-            → Contains list.items i → IsFilled self.new.tables.version init self.new.file.bytes i) }
+            → Contains list.items i → IsAsFilled self.new.tables.version init self.new.file.bytes i) }
         ensures holds { IsTrue F.tells → (validation : Validation)
             → HoldsTables validation self.old → OnOk result (HoldsTables validation self.new) }
         ensures others { IsTrue F.tells → OthersStay self.old self.new }
@@ -863,7 +863,7 @@ impl<F: Medium, A: Heap + Clone> Allocator<F, A> {
         ensures none { count ≡ 0 → self.new ≡ self.old }
         ensures filled { IsTrue F.tells → (validation : Validation)
             → HoldsTables validation self.old → IfOk result (λ list. (i : ℕ)
-            → Contains list.items i → IsFilled self.new.tables.version init self.new.file.bytes i) }
+            → Contains list.items i → IsAsFilled self.new.tables.version init self.new.file.bytes i) }
         ensures holds { IsTrue F.tells → (validation : Validation)
             → HoldsTables validation self.old → OnOk result (HoldsTables validation self.new) }
         ensures others { IsTrue F.tells → OthersStay self.old self.new }
@@ -906,7 +906,7 @@ impl<F: Medium, A: Heap + Clone> Allocator<F, A> {
         ensures none { count ≡ 0 → self.new ≡ self.old }
         ensures filled { IsTrue F.tells → (validation : Validation)
             → HoldsTables validation self.old → IfOk result (λ list. (i : ℕ)
-            → Contains list.items i → IsFilled self.new.tables.version init self.new.file.bytes i) }
+            → Contains list.items i → IsAsFilled self.new.tables.version init self.new.file.bytes i) }
         ensures holds { IsTrue F.tells → (validation : Validation)
             → HoldsTables validation self.old → OnOk result (HoldsTables validation self.new) }
         ensures others { IsTrue F.tells → OthersStay self.old self.new }

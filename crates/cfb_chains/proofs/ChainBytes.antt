@@ -1,14 +1,10 @@
 -- The bytes of a chain of sectors, by their places.
 use Rattle.std.proofs.Common.{◌≡◌, ◌≤◌, ◌<◌, ◌+◌, ℕ, zero, suc, List, ◌∷◌, [], refl, sym, ◌∙◌, ap, subst, length, take, drop, arith, drop-cons, add-one}
-use Rattle.std.specs.Prelude.{if◌then◌else◌, Option, Some, None}
+use Rattle.std.specs.Prelude.{Option, Some}
 use Rattle.std.specs.Option.{option_map_or}
-use Rattle.std.proofs.lemmas.Bool.{lt-ltb}
 use Rattle.cfb_format.specs.Bytes.{byte_at}
-use Rattle.cfb_format.specs.Content.{in_file, placed_from}
+use Rattle.cfb_format.specs.Content.{placed_from}
 use Rattle.cfb_format.specs.Medium.{part}
-
-pub in_file_at : (bytes : List ℕ) (at : ℕ) → at < length bytes → in_file bytes at ≡ Some at
-in_file_at bytes at h = ap (λ b. if b then Some at else None) (lt-ltb at (length bytes) h)
 
 -- ---- bytes that stand one behind the other
 

@@ -12,13 +12,15 @@ use Rattle.cfb_format.specs.Bytes.{sector_len, sector_start, sector_bytes}
 use Rattle.cfb_format.specs.Content.{bytes_along}
 use Rattle.cfb_format.specs.Medium.{written}
 use Rattle.cfb_format.proofs.ByteLemmas.{length-written, written_below, written_at, written_above, written_from_bytes, written_inside}
-use Rattle.cfb_alloc.specs.Agreement.{HasSectors, KeepsSectors}
-use Rattle.cfb_alloc.specs.Alloc.{IsFilled}
+use Rattle.cfb_chains.specs.cfb_alloc.Agreement.{HasSectors, KeepsSectors}
+use Rattle.cfb_chains.specs.cfb_alloc.Alloc.{IsAsFilled}
 use Rattle.cfb_chains.specs.ChainPlaces.{place_along}
 use Rattle.cfb_sectors.specs.Sectors.{SectorStays, copies, init_bytes}
 use Rattle.cfb_sectors.specs.declared.sector.SectorInit.{SectorInit}
-use Rattle.cfb_alloc.proofs.Listed.{in_rest, place_once}
-use Rattle.cfb_tables.proofs.Members.{distinct-left}
+use Rattle.cfb_chains.proofs.cfb_alloc.Listed.{place_once}
+use Rattle.cfb_format.proofs.Members.{Contains-there, distinct-left}
+use Rattle.cfb_format.proofs.Along.{next_start, first_quotient, first_rest, next_quotient, next_rest}
+use Rattle.cfb_chains.proofs.cfb_alloc.ChainView.{index_inside}
 
 -- ---- one sector and those behind it
 
@@ -26,7 +28,7 @@ first_has : (v : Version) (bytes : List ℕ) (i : ℕ) (list : List ℕ) → Has
 first_has v bytes i list h = h i (0, omega arith, refl)
 
 rest_has : (v : Version) (bytes : List ℕ) (i : ℕ) (list : List ℕ) → HasSectors v bytes (i ∷ list) → HasSectors v bytes list
-rest_has v bytes i list h = λ j m. h j (in_rest i list j m)
+rest_has v bytes i list h = λ j m. h j (Contains-there i list j m)
 
 pub along_cons : (v : Version) (bytes : List ℕ) (i : ℕ) (list : List ℕ) → sector_start v i + sector_len v ≤ length bytes
     → bytes_along v bytes (i ∷ list) ≡ sector_bytes v bytes i ++ bytes_along v bytes list
@@ -71,22 +73,6 @@ append_has v bytes xs ys h g = λ i m. elim (Contains-append_cases xs ys i m) [ 
 
 -- ---- where a byte of it stands in the file
 
-first_quotient : (v : Version) (k : ℕ) → k < sector_len v → k / sector_len v ≡ 0
-first_quotient V3 k h = omega arith
-first_quotient V4 k h = omega arith
-
-first_rest : (v : Version) (k : ℕ) → k < sector_len v → k % sector_len v ≡ k
-first_rest V3 k h = omega arith
-first_rest V4 k h = omega arith
-
-next_quotient : (v : Version) (k : ℕ) → sector_len v ≤ k → k / sector_len v ≡ suc ((k - sector_len v) / sector_len v)
-next_quotient V3 k h = omega arith
-next_quotient V4 k h = omega arith
-
-next_rest : (v : Version) (k : ℕ) → sector_len v ≤ k → k % sector_len v ≡ (k - sector_len v) % sector_len v
-next_rest V3 k h = omega arith
-next_rest V4 k h = omega arith
-
 next_inside : (v : Version) (k n : ℕ) → sector_len v ≤ k → k < suc n * sector_len v → k - sector_len v < n * sector_len v
 next_inside V3 k n h lt = omega arith
 next_inside V4 k n h lt = omega arith
@@ -121,17 +107,9 @@ along_at v bytes (i ∷ list) k h lt =
 pub sectors_stay : (v : Version) (old new ids : List ℕ) → HasSectors v old ids → length old ≤ length new → HasSectors v new ids
 sectors_stay v old new ids h longer = λ i m. let there = h i m in omega (arith, there, longer)
 
-pub index_inside : (v : Version) (k m : ℕ) → k < m * sector_len v → k / sector_len v < m
-index_inside V3 k m h = omega arith
-index_inside V4 k m h = omega arith
-
 pub rest_short : (v : Version) (k : ℕ) → k % sector_len v < sector_len v
 rest_short V3 k = omega arith
 rest_short V4 k = omega arith
-
-pub next_start : (v : Version) (i : ℕ) → sector_start v (i + 1) ≡ sector_start v i + sector_len v
-next_start V3 i = omega arith
-next_start V4 i = omega arith
 
 stays_there : (v : Version) (i r : ℕ) (old new : List ℕ) → SectorStays v i old new → sector_start v i + sector_len v ≤ length old → r < sector_len v
     → slice_index new (sector_start v i + r) ≡ slice_index old (sector_start v i + r)
@@ -154,27 +132,27 @@ along_stays v old new ids h keeps longer =
 
 -- ---- sectors that were filled
 
-pub filled_has : (v : Version) (init : SectorInit) (bytes more : List ℕ) → ((i : ℕ) → Contains more i → IsFilled v init bytes i) → HasSectors v bytes more
+pub filled_has : (v : Version) (init : SectorInit) (bytes more : List ℕ) → ((i : ℕ) → Contains more i → IsAsFilled v init bytes i) → HasSectors v bytes more
 filled_has v init bytes more filled = λ i m. (filled i m).whole
 
-pub along_filled : (v : Version) (init : SectorInit) (bytes more : List ℕ) → ((i : ℕ) → Contains more i → IsFilled v init bytes i)
+pub along_filled : (v : Version) (init : SectorInit) (bytes more : List ℕ) → ((i : ℕ) → Contains more i → IsAsFilled v init bytes i)
     → bytes_along v bytes more ≡ copies (length more) (init_bytes v init)
 along_filled v init bytes [] filled = refl
 along_filled v init bytes (i ∷ list) filled =
     let here = filled i (0, omega arith, refl) in
     along_cons v bytes i list (here.whole)
-    ∙ (λ j. here.filled j ++ along_filled v init bytes list (λ k m. filled k (in_rest i list k m)) j)
+    ∙ (λ j. here.filled j ++ along_filled v init bytes list (λ k m. filled k (Contains-there i list k m)) j)
 
 -- the chain grew by sectors that were filled
 pub along_grown : (v : Version) (init : SectorInit) (old new ids more : List ℕ) → HasSectors v old ids → KeepsSectors v ids old new → length old ≤ length new
-    → ((i : ℕ) → Contains more i → IsFilled v init new i)
+    → ((i : ℕ) → Contains more i → IsAsFilled v init new i)
     → bytes_along v new (ids ++ more) ≡ bytes_along v old ids ++ copies (length more) (init_bytes v init)
 along_grown v init old new ids more h keeps longer filled =
     along_append v new ids more (sectors_stay v old new ids h longer)
     ∙ (λ j. along_stays v old new ids h keeps longer j ++ along_filled v init new more filled j)
 
 pub grown_has : (v : Version) (init : SectorInit) (old new ids more : List ℕ) → HasSectors v old ids → length old ≤ length new
-    → ((i : ℕ) → Contains more i → IsFilled v init new i) → HasSectors v new (ids ++ more)
+    → ((i : ℕ) → Contains more i → IsAsFilled v init new i) → HasSectors v new (ids ++ more)
 grown_has v init old new ids more h longer filled =
     append_has v new ids more (sectors_stay v old new ids h longer) (filled_has v init new more filled)
 

@@ -10,15 +10,15 @@ use Rattle.cfb_format.specs.declared.version.Version.{Version}
 use Rattle.cfb_format.specs.Bytes.{end_of_chain, sector_len}
 use Rattle.cfb_format.specs.Chain.{IsChain, chain_from}
 use Rattle.cfb_format.specs.Refused.{AfterMedium}
-use Rattle.cfb_alloc.specs.Alloc.{AllocatorState}
-use Rattle.cfb_alloc.specs.ListedChain.{ListBreaksOff}
-use Rattle.cfb_tables.specs.Listed.{ends_of, last_or_end}
-use Rattle.cfb_tables.specs.Tables.{TableState, GivesBackChain, TablesGiveBack, ending, first_or_end}
-use Rattle.cfb_alloc.proofs.AllocLemmas.{ending_other}
-use Rattle.cfb_alloc.proofs.Answering.{on_ok, all_ok}
-use Rattle.cfb_alloc.proofs.ChainView.{found_chain, chain_found}
-use Rattle.cfb_alloc.proofs.EmptyChain.{none_freed}
-use Rattle.cfb_tables.proofs.Members.{Contains-nil, Contains-here, Contains-one}
+use Rattle.cfb_chains.specs.cfb_alloc.Alloc.{AllocatorState}
+use Rattle.cfb_chains.specs.cfb_alloc.ListedChain.{ListBreaksOff}
+use Rattle.cfb_chains.specs.cfb_tables.Listed.{ends_of, last_or_end}
+use Rattle.cfb_chains.specs.cfb_tables.Tables.{TableState, GivesBackChain, TablesGiveBack, ending, first_or_end}
+use Rattle.cfb_chains.proofs.cfb_alloc.Answering.{on_ok, all_ok}
+use Rattle.cfb_chains.proofs.cfb_alloc.ChainView.{found_chain, chain_found}
+use Rattle.cfb_chains.proofs.cfb_alloc.EmptyChain.{none_freed}
+use Rattle.cfb_chains.proofs.cfb_tables.ListedLemmas.{ending_other}
+use Rattle.cfb_format.proofs.Members.{Contains-nil, Contains-here, Contains-one}
 
 pub on_err : {T E : Type 0} (P Q : E → Type 0) (r : Result T E) → ((e : E) → P e → Q e) → IfErr r P → IfErr r Q
 on_err P Q (Ok x) f p = tt

@@ -14,7 +14,7 @@ use Rattle.cfb_format.specs.Medium.{part, written}
 use Rattle.cfb_format.specs.declared.medium.ReadMedium as medium
 use Rattle.cfb_format.proofs.ByteLemmas.{length-part, part_at, written_at, written_from_bytes}
 use Rattle.cfb_sectors.specs.Sectors.{SectorStays}
-use Rattle.cfb_alloc.specs.Agreement.{HasSectors}
+use Rattle.cfb_chains.specs.cfb_alloc.Agreement.{HasSectors}
 use Rattle.cfb_runs.specs.Along.{ChangesOnlyRun}
 use Rattle.cfb_runs.specs.Runs.{IsLongestRun, IsRun, place_along}
 use Rattle.cfb_runs.proofs.Along.{run_stands}
@@ -22,9 +22,11 @@ use Rattle.cfb_runs.proofs.Runs.{in_sector, offset_short, placed_once, shorter_r
 use Rattle.cfb_chains.specs.LentChain.{ids_of, version_of, len_of, position_of, file_bytes_of, place_at, place_of, byte_of, HoldsWanted, ChangesOnlyWanted, HasWritten}
 use Rattle.cfb_chains.specs.declared.chain.Chain.{Chain}
 use Rattle.cfb_chains.specs.declared.chain.Numbers as numbers
-use Rattle.cfb_chains.proofs.ChainBytes.{in_file_at, placed_part}
-use Rattle.cfb_chains.proofs.ChainContent.{along_at, along_len, beside_kept, next_start, place_later, written_has}
+use Rattle.cfb_chains.proofs.ChainBytes.{placed_part}
+use Rattle.cfb_chains.proofs.ChainContent.{along_at, along_len, beside_kept, place_later, written_has}
 use Rattle.cfb_chains.proofs.LentContent.{HasContent, content_same}
+use Rattle.cfb_format.proofs.Along.{in_file_at, next_start}
+use Rattle.cfb_chains.proofs.cfb_alloc.ChainView.{index_inside}
 
 -- ---- how far it goes
 
@@ -39,10 +41,6 @@ run_fits v ids at n some run = fits_by v at n (length ids) some (run.listed (n -
 pub inside_listed : (v : Version) (k m : ℕ) → k / sector_len v < m → k < m * sector_len v
 inside_listed V3 k m low = omega (arith, low)
 inside_listed V4 k m low = omega (arith, low)
-
-pub listed_inside : (v : Version) (k m : ℕ) → k < m * sector_len v → k / sector_len v < m
-listed_inside V3 k m low = omega (arith, low)
-listed_inside V4 k m low = omega (arith, low)
 
 -- ---- the bytes of one sector
 
@@ -134,7 +132,7 @@ beside_run v ids i k n once low run other = elim (cases_lt (place_along v ids i)
         let less : j < n = omega (arith, from, before) in
         let differ : i ≢ k + j = λ same. elim other [ inl below ↦ omega (arith, below, same) | inr above ↦ omega (arith, above, same, less) ] in
         let there : place_along v ids k + j ≡ place_along v ids i = omega (arith, from) in
-        absurd (placed_once v ids i (k + j) once (listed_inside v i (length ids) low) (run.listed j less) differ (sym (run.follow j less ∙ there)))
+        absurd (placed_once v ids i (k + j) once (index_inside v i (length ids) low) (run.listed j less) differ (sym (run.follow j less ∙ there)))
   ]
 ]
 

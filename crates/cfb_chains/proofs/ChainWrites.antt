@@ -1,10 +1,7 @@
 -- Writing into a chain: the room that it has, and its zeros.
 use Rattle.std.proofs.Common.{◌≡◌, ◌<◌, ◌≤◌, ◌+◌, ◌-◌, ◌*◌, ◌/◌, ◌%◌, min, max, true, ℕ, List, ◌++◌, take, replicate, length, sym, subst, ◌∙◌, ap, arith, length-append, length-take}
 use Rattle.std.specs.Prelude.{Result, Ok, Err, IfOk, MatchResult, OnOk}
-use Rattle.std.proofs.lemmas.List.{take-replicate, length-replicate}
-use Rattle.cfb_format.specs.Refused.{AfterMedium}
-use Rattle.cfb_format.specs.declared.error.Error.{Error}
-use Rattle.cfb_format.specs.declared.error.Error.TheVariants.{NotFound, AlreadyExists, InvalidInput, InvalidData, Medium, Memory, Full, Unsound, Failed}
+use Rattle.std.proofs.lemmas.List.{length-replicate}
 use Rattle.cfb_format.specs.declared.version.Version.{Version}
 use Rattle.cfb_format.specs.declared.version.Version.TheVariants.{V3, V4}
 use Rattle.cfb_format.specs.Bytes.{sector_len}
@@ -12,15 +9,11 @@ use Rattle.cfb_format.specs.Full.{rounded_up}
 use Rattle.cfb_chains.specs.ChainLists.{}
 use Rattle.cfb_format.specs.Medium.{part, written}
 use Rattle.cfb_format.proofs.ByteLemmas.{part_written}
-use Rattle.cfb_sectors.specs.Sectors.{SectorFile, IsMediumError}
+use Rattle.cfb_sectors.specs.Sectors.{SectorFile}
 
 pub not_end : (v : Version) (k m : ℕ) → k ≤ m * sector_len v → (k % sector_len v ≡ 0 → ⊥) → k < m * sector_len v
 not_end V3 k m le some = omega arith
 not_end V4 k m le some = omega arith
-
-pub rest_short : (v : Version) (k : ℕ) → k % sector_len v < sector_len v
-rest_short V3 k = omega arith
-rest_short V4 k = omega arith
 
 pub none_missing : (v : Version) (p n len : ℕ) → rounded_up (p + n - len) (sector_len v) ≡ 0 → p + n ≤ len
 none_missing V3 p n len none = omega arith
@@ -48,20 +41,6 @@ same_rest V4 len m is = omega arith
 pub enough_room : (v : Version) (p n m more : ℕ) → more ≡ rounded_up (p + n - m * sector_len v) (sector_len v) → p + n ≤ (m + more) * sector_len v
 enough_room V3 p n m more is = omega arith
 enough_room V4 p n m more is = omega arith
-
-pub zeros_of : (zeros : List ℕ) (n : ℕ) → zeros ≡ replicate 4096 0 → n ≤ 4096 → take n zeros ≡ replicate n 0
-zeros_of zeros n is few = ap (take n) is ∙ take-replicate n 4096 0 few
-
-pub after_medium : (broken kept : Type 0) (e : Error) → IsMediumError e → broken → AfterMedium broken kept e
-after_medium broken kept (Medium f) is b = b
-after_medium broken kept (NotFound d) is b = absurd (omega (arith, is))
-after_medium broken kept (AlreadyExists d) is b = absurd (omega (arith, is))
-after_medium broken kept (InvalidInput d) is b = absurd (omega (arith, is))
-after_medium broken kept (InvalidData d) is b = absurd (omega (arith, is))
-after_medium broken kept Memory is b = absurd (omega (arith, is))
-after_medium broken kept Full is b = absurd (omega (arith, is))
-after_medium broken kept Unsound is b = absurd (omega (arith, is))
-after_medium broken kept Failed is b = absurd (omega (arith, is))
 
 pub if_ok : {T E : Type 0} (P Q : T → Type 0) (r : Result T E) → ((x : T) → P x → Q x) → IfOk r P → IfOk r Q
 if_ok P Q (Ok x) f p = f x p

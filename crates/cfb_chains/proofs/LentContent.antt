@@ -12,14 +12,15 @@ use Rattle.cfb_format.specs.Chain.{value, chain_from}
 use Rattle.cfb_format.specs.Content.{bytes_along}
 use Rattle.cfb_format.specs.Full.{rounded_up}
 use Rattle.cfb_format.specs.Medium.{written}
-use Rattle.cfb_alloc.specs.Agreement.{HasSectors, KeepsSectors}
-use Rattle.cfb_alloc.specs.Alloc.{AllocatorState, HoldsTables, ChangesSectors, OthersStay, IsFilled}
+use Rattle.cfb_chains.specs.cfb_alloc.Agreement.{HasSectors, KeepsSectors}
+use Rattle.cfb_chains.specs.cfb_alloc.Alloc.{AllocatorState, HoldsTables, ChangesSectors, OthersStay, IsAsFilled}
 use Rattle.cfb_sectors.specs.Sectors.{copies, init_bytes}
 use Rattle.cfb_sectors.specs.declared.sector.SectorInit.{SectorInit}
 use Rattle.cfb_chains.proofs.ChainContent.{along_len, along_stays, sectors_stay, along_grown, grown_has, along_cut, cut_has, written_to_end}
-use Rattle.cfb_tables.proofs.ChainLemmas.{follows-values, members-busy}
-use Rattle.cfb_alloc.proofs.ChainView.{found_chain}
-use Rattle.cfb_tables.proofs.Members.{Contains-nil, value-at}
+use Rattle.cfb_chains.proofs.cfb_tables.ChainLemmas.{follows-values, members-busy}
+use Rattle.cfb_chains.proofs.cfb_alloc.ChainView.{found_chain}
+use Rattle.cfb_format.proofs.Members.{Contains-nil}
+use Rattle.cfb_format.proofs.Walks.{value-at}
 
 -- the chain has each of its sectors whole, and these are its bytes
 abbrev pub HasContent : Version → List ℕ → List ℕ → List ℕ → Type 0
@@ -72,10 +73,10 @@ module _ (validation : Validation) (a b : AllocatorState) (s : ℕ) (ids ids' : 
   content = bytes_along v a.file.bytes ids
 
   pub content_grown : (count : ℕ) (init : SectorInit) (more : List ℕ) → ids' ≡ ids ++ more → length more ≡ count → OthersStay a b
-      → ((i : ℕ) → Contains more i → IsFilled b.tables.version init b.file.bytes i)
+      → ((i : ℕ) → Contains more i → IsAsFilled b.tables.version init b.file.bytes i)
       → HasContent b.tables.version b.file.bytes ids' (content ++ copies count (init_bytes v init))
   content_grown count init more listed counted others filled =
-      let filled' : (i : ℕ) → Contains more i → IsFilled v init b.file.bytes i = λ i m. subst (λ (w : Version). IsFilled w init b.file.bytes i) version (filled i m) in
+      let filled' : (i : ℕ) → Contains more i → IsAsFilled v init b.file.bytes i = λ i m. subst (λ (w : Version). IsAsFilled w init b.file.bytes i) version (filled i m) in
       let keeps = keeps_own validation a b s ids e h others in
       content_same v b.tables.version b.file.bytes b.file.bytes (ids ++ more) ids' (content ++ copies count (init_bytes v init)) version refl listed (
         grown_has v init a.file.bytes b.file.bytes ids more has others.no_shorter filled',
@@ -103,11 +104,11 @@ content_uncut v bytes ids m has few = (has, sym (take_all (m * sector_len v) (by
 
 -- ---- a shorter length, in the same sectors or in fewer
 
-none_left : (v : Version) (len : ℕ) → len % sector_len v ≡ 0 → rounded_up len (sector_len v) * sector_len v ≡ len
+pub none_left : (v : Version) (len : ℕ) → len % sector_len v ≡ 0 → rounded_up len (sector_len v) * sector_len v ≡ len
 none_left V3 len is = omega arith
 none_left V4 len is = omega arith
 
-some_left : (v : Version) (len : ℕ) → 0 < len % sector_len v → rounded_up len (sector_len v) * sector_len v ≡ len + (sector_len v - len % sector_len v)
+pub some_left : (v : Version) (len : ℕ) → 0 < len % sector_len v → rounded_up len (sector_len v) * sector_len v ≡ len + (sector_len v - len % sector_len v)
 some_left V3 len is = omega arith
 some_left V4 len is = omega arith
 

@@ -1,3 +1,5 @@
+pub use Rattle.cfb_runs.proofs.cfb_tables
+pub use Rattle.cfb_runs.proofs.cfb_alloc
 pub mod ChainBytes
 pub mod ChainContent
 pub mod ChainLists

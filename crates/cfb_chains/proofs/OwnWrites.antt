@@ -10,17 +10,19 @@ use Rattle.cfb_format.specs.Chain.{value}
 use Rattle.cfb_format.specs.Full.{rounded_up}
 use Rattle.cfb_format.specs.Medium.{ChangesOnlyBytes}
 use Rattle.cfb_format.specs.declared.medium.ReadMedium as medium
-use Rattle.cfb_alloc.specs.Alloc.{AllocatorState, ChangesSectors, IsOtherHeaderByte, OthersStay, OthersStayBut}
-use Rattle.cfb_tables.specs.Tables.{HasTaken}
-use Rattle.cfb_alloc.proofs.ChainView.{sector_member}
+use Rattle.cfb_chains.specs.cfb_alloc.Alloc.{AllocatorState, ChangesSectors, IsOtherHeaderByte, OthersStay, OthersStayBut}
+use Rattle.cfb_chains.specs.cfb_tables.Tables.{HasTaken}
+use Rattle.cfb_chains.proofs.cfb_alloc.ChainView.{sector_member}
 use Rattle.cfb_chains.specs.LentChain.{allocator_of, ids_of, version_of, file_bytes_of, HoldsWanted, ChangesOnlyWanted}
 use Rattle.cfb_chains.specs.declared.chain.Chain.{Chain}
 use Rattle.cfb_chains.specs.declared.chain.Numbers as numbers
 use Rattle.cfb_sectors.specs.Sectors.{SectorStays}
-use Rattle.cfb_chains.proofs.ChainWrites.{not_end, rest_short}
-use Rattle.cfb_alloc.proofs.FrameLemmas.{changes_in_sector}
-use Rattle.cfb_tables.proofs.Members.{Contains-nil, Contains-one, first_of_three}
+use Rattle.cfb_chains.proofs.ChainWrites.{not_end}
+use Rattle.cfb_chains.proofs.cfb_alloc.FrameLemmas.{changes_in_sector}
+use Rattle.cfb_chains.proofs.cfb_tables.Members.{first_of_three}
 use Rattle.cfb_sectors.proofs.SectorLemmas.{SectorStays_next, SectorStays_refl, SectorStays_trans}
+use Rattle.cfb_chains.proofs.ChainContent.{rest_short}
+use Rattle.cfb_format.proofs.Members.{Contains-nil, Contains-one}
 
 -- a sector that is the chain's own, or was free
 abbrev IsOwn : List ℕ → AllocatorState → ℕ → Type 0

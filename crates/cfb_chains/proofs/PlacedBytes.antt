@@ -12,11 +12,14 @@ use Rattle.cfb_format.specs.Medium.{written}
 use Rattle.cfb_format.proofs.ByteLemmas.{length-written, written_at}
 use Rattle.cfb_sectors.specs.Sectors.{SectorStays, init_bytes}
 use Rattle.cfb_sectors.specs.declared.sector.SectorInit.{SectorInit}
-use Rattle.cfb_alloc.specs.Agreement.{KeepsSectors}
-use Rattle.cfb_alloc.specs.Alloc.{IsFilled}
+use Rattle.cfb_chains.specs.cfb_alloc.Agreement.{KeepsSectors}
+use Rattle.cfb_chains.specs.cfb_alloc.Alloc.{IsAsFilled}
 use Rattle.cfb_chains.specs.ChainPlaces.{place_along}
-use Rattle.cfb_chains.proofs.ChainContent.{beside, beside_kept, index_inside, next_start, place_later, rest_short, taken_index}
+use Rattle.cfb_chains.proofs.ChainContent.{beside, beside_kept, place_later, rest_short, taken_index}
 use Rattle.cfb_chains.proofs.ChainWrites.{not_end}
+use Rattle.cfb_chains.proofs.cfb_alloc.ChainView.{index_inside}
+use Rattle.cfb_format.proofs.Along.{next_start}
+use Rattle.cfb_chains.proofs.LentContent.{none_left, some_left}
 
 -- ---- a sector that stays, and one that was filled
 
@@ -28,7 +31,7 @@ kept_there v ids a b k keeps inside there =
     let member = Contains-get_or ids (k / sector_len v) 0 (index_inside v k (length ids) inside) in
     (keeps i member).each (place_along v ids k) there (omega arith) (omega (arith, rest_short v k, next_start v i))
 
-filled_there : (v : Version) (init : SectorInit) (b : List ℕ) (i r : ℕ) → IsFilled v init b i → r < sector_len v
+filled_there : (v : Version) (init : SectorInit) (b : List ℕ) (i r : ℕ) → IsAsFilled v init b i → r < sector_len v
     → (sector_start v i + r < length b) × (slice_index b (sector_start v i + r) ≡ slice_index (init_bytes v init) r)
 filled_there v init b i r filled short =
     let whole = filled.whole in (
@@ -58,7 +61,7 @@ gained_member v ids more k low high =
     let right : slice_index (ids ++ more) q ≡ slice_index more (q - length ids) = get_or-append_right ids more (length ids) q 0 refl from in
     subst (Contains more) (sym right) (Contains-get_or more (q - length ids) 0 there)
 
-fresh_there : (v : Version) (init : SectorInit) (b ids more : List ℕ) (k : ℕ) → ((i : ℕ) → Contains more i → IsFilled v init b i)
+fresh_there : (v : Version) (init : SectorInit) (b ids more : List ℕ) (k : ℕ) → ((i : ℕ) → Contains more i → IsAsFilled v init b i)
     → length ids * sector_len v ≤ k → k < length (ids ++ more) * sector_len v
     → (place_along v (ids ++ more) k < length b) × (slice_index b (place_along v (ids ++ more) k) ≡ slice_index (init_bytes v init) (k % sector_len v))
 fresh_there v init b ids more k filled low high =
@@ -92,12 +95,12 @@ module _ (v v' : Version) (ids ids' more : List ℕ) (version : v' ≡ v) (liste
       → slice_index b (place_along v' ids' k) ≡ slice_index a (place_along v ids k)
   grown_stays a b k keeps inside there = ap (slice_index b) (grown_place k inside) ∙ kept_there v ids a b k keeps inside there
 
-  pub grown_fresh : (init : SectorInit) (b : List ℕ) (k : ℕ) → ((i : ℕ) → Contains more i → IsFilled v' init b i) → length ids * sector_len v ≤ k → k < length ids' * sector_len v'
+  pub grown_fresh : (init : SectorInit) (b : List ℕ) (k : ℕ) → ((i : ℕ) → Contains more i → IsAsFilled v' init b i) → length ids * sector_len v ≤ k → k < length ids' * sector_len v'
       → (place_along v' ids' k < length b) × (slice_index b (place_along v' ids' k) ≡ slice_index (init_bytes v init) (k % sector_len v))
   grown_fresh init b k filled low high =
       subst (λ (w : Version). (place_along w ids' k < length b) × (slice_index b (place_along w ids' k) ≡ slice_index (init_bytes v init) (k % sector_len v))) (sym version)
       (subst (λ (z : List ℕ). (place_along v z k < length b) × (slice_index b (place_along v z k) ≡ slice_index (init_bytes v init) (k % sector_len v))) (sym listed)
-      (fresh_there v init b ids more k (λ i m. subst (λ (w : Version). IsFilled w init b i) version (filled i m)) low
+      (fresh_there v init b ids more k (λ i m. subst (λ (w : Version). IsAsFilled w init b i) version (filled i m)) low
       (subst (λ (w : Version). k < length (ids ++ more) * sector_len w) version (subst (λ (z : List ℕ). k < length z * sector_len v') listed high))))
 
 -- ---- a cut
@@ -144,14 +147,6 @@ zero_or_more : (n : ℕ) → (n ≡ 0) ⊎ (0 < n)
 zero_or_more zero = inl refl
 zero_or_more (suc n) = inr (omega arith)
 
-none_behind : (v : Version) (len : ℕ) → len % sector_len v ≡ 0 → rounded_up len (sector_len v) * sector_len v ≡ len
-none_behind V3 len is = omega arith
-none_behind V4 len is = omega arith
-
-some_behind : (v : Version) (len : ℕ) → 0 < len % sector_len v → rounded_up len (sector_len v) * sector_len v ≡ len + (sector_len v - len % sector_len v)
-some_behind V3 len is = omega arith
-some_behind V4 len is = omega arith
-
 module _ (v : Version) (ids a b : List ℕ) (len : ℕ) (once : IsDistinct nat_eq ids) (within : len ≤ length ids * sector_len v)
     (none : len % sector_len v ≡ 0 → b ≡ a)
     (some : 0 < len % sector_len v → b ≡ written a (place_along v ids len) (replicate (sector_len v - len % sector_len v) 0)) where
@@ -177,9 +172,9 @@ module _ (v : Version) (ids a b : List ℕ) (len : ℕ) (once : IsDistinct nat_e
 
   pub zero_there : (k : ℕ) → len ≤ k → k < rounded_up len (sector_len v) * sector_len v → (place_along v ids k < length b) × (slice_index b (place_along v ids k) ≡ 0)
   zero_there k behind high = elim (zero_or_more (len % sector_len v)) [
-    | inl whole ↦ (let end = none_behind v len whole in absurd (omega (arith, end, behind, high)))
+    | inl whole ↦ (let end = none_left v len whole in absurd (omega (arith, end, behind, high)))
     | inr parted ↦
-        (let end = some_behind v len parted in
+        (let end = some_left v len parted in
         let count = zero_count in
         let less : k - len < length zeros = omega (arith, end, count, behind, high) in
         let put = put_there v ids a len zeros once (inside parted) zeros_fit (k - len) less in

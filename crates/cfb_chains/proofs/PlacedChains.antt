@@ -10,8 +10,8 @@ use Rattle.cfb_format.specs.declared.version.Version.{Version}
 use Rattle.cfb_format.specs.Full.{rounded_up}
 use Rattle.cfb_format.specs.Medium.{written}
 use Rattle.cfb_format.specs.declared.medium.ReadMedium as medium
-use Rattle.cfb_alloc.specs.Agreement.{KeepsSectors}
-use Rattle.cfb_alloc.specs.Alloc.{IsFilled}
+use Rattle.cfb_chains.specs.cfb_alloc.Agreement.{KeepsSectors}
+use Rattle.cfb_chains.specs.cfb_alloc.Alloc.{IsAsFilled}
 use Rattle.cfb_chains.specs.ChainPlaces.{place_along}
 use Rattle.cfb_chains.specs.LentChain.{allocator_of, ids_of, init_of, version_of, len_of, position_of, file_bytes_of, place_at, byte_of, HoldsWanted, ChangesOnlyWanted, HasWritten, HasResized}
 use Rattle.cfb_chains.specs.declared.chain.Chain.{Chain}
@@ -48,7 +48,7 @@ module _ {F A : Type 0} {g : medium.Ghosts F} {l : numbers.Ghosts (Vec ℕ A)} w
 
   module _ (old grown : Chain F A (Vec ℕ A) g l) (more : List ℕ) (version : version_of grown ≡ version_of old) (listed : ids_of grown ≡ ids_of old ++ more) (some : 0 < length more)
       (keeps : KeepsSectors (version_of old) (ids_of old) (file_bytes_of old) (file_bytes_of grown))
-      (filled : (i : ℕ) → Contains more i → IsFilled (version_of grown) (init_of old) (file_bytes_of grown) i) where
+      (filled : (i : ℕ) → Contains more i → IsAsFilled (version_of grown) (init_of old) (file_bytes_of grown) i) where
     pub grown_resized : (len : ℕ) → HasResized len old grown
     grown_resized len =
         let longer = longer_chain (version_of old) (version_of grown) (ids_of old) (ids_of grown) more version listed some in

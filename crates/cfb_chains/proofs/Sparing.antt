@@ -1,9 +1,9 @@
 -- What the calls on a chain spare: every sector in use that is none of the chain's.
 use Rattle.std.proofs.Common.{◌≡◌, inl, inr, ℕ, List, ◌++◌, take}
-use Rattle.cfb_alloc.specs.Alloc.{AllocatorState}
-use Rattle.cfb_alloc.specs.Frame.{Spares}
-use Rattle.cfb_alloc.proofs.Frames.{spares-then}
-use Rattle.cfb_tables.specs.Tables.{HasTaken}
+use Rattle.cfb_chains.specs.cfb_alloc.Alloc.{AllocatorState}
+use Rattle.cfb_chains.specs.cfb_alloc.Frame.{Spares}
+use Rattle.cfb_chains.proofs.cfb_alloc.Frames.{spares-then}
+use Rattle.cfb_chains.specs.cfb_tables.Tables.{HasTaken}
 use Rattle.cfb_chains.proofs.OwnWrites.{own_gained, own_kept}
 
 -- sectors are gained, and then the chain is written

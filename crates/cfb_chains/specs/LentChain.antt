@@ -8,15 +8,15 @@ use Rattle.cfb_format.specs.Full.{rounded_up}
 use Rattle.cfb_format.specs.declared.error.Error.{Error}
 use Rattle.cfb_format.specs.declared.medium.ReadMedium as medium
 use Rattle.cfb_format.specs.declared.version.Version.{Version}
-use Rattle.cfb_alloc.specs.Agreement.{HasSectors}
-use Rattle.cfb_alloc.specs.Alloc.{AllocatorState}
+use Rattle.cfb_chains.specs.cfb_alloc.Agreement.{HasSectors}
+use Rattle.cfb_chains.specs.cfb_alloc.Alloc.{AllocatorState}
 use Rattle.cfb_chains.specs.ChainPlaces.{place_along}
-use Rattle.cfb_tables.specs.Listed.{gained}
+use Rattle.cfb_chains.specs.cfb_tables.Listed.{gained}
 use Rattle.cfb_chains.specs.declared.chain.Chain.{Chain}
 use Rattle.cfb_chains.specs.declared.chain.Numbers as numbers
 use Rattle.cfb_sectors.specs.Sectors.{init_bytes}
 use Rattle.cfb_sectors.specs.declared.sector.SectorInit.{SectorInit}
-use Rattle.cfb_alloc.specs.contracts.alloc.Allocator.{the_row}
+use Rattle.cfb_chains.specs.cfb_alloc.contracts.alloc.Allocator.{the_row}
 
 module _ {F A : Type 0} {g : medium.Ghosts F} {n : numbers.Ghosts (Vec ℕ A)} where
   -- the allocator that it is borrowed from
@@ -77,8 +77,8 @@ module _ {F A : Type 0} {g : medium.Ghosts F} {n : numbers.Ghosts (Vec ℕ A)} w
   tail_of c offset = sector_len (version_of c) - offset % sector_len (version_of c)
 
   -- the file has each of its sectors whole
-  abbrev pub IsWholeChain : Chain F A (Vec ℕ A) g n → Type 0
-  IsWholeChain c = HasSectors (version_of c) (allocator_of c).now.file.bytes (ids_of c)
+  abbrev pub HasAllSectors : Chain F A (Vec ℕ A) g n → Type 0
+  HasAllSectors c = HasSectors (version_of c) (allocator_of c).now.file.bytes (ids_of c)
 
   -- the bytes of its sectors, one after the other
   abbrev pub content_of : Chain F A (Vec ℕ A) g n → List ℕ
@@ -86,7 +86,7 @@ module _ {F A : Type 0} {g : medium.Ghosts F} {n : numbers.Ghosts (Vec ℕ A)} w
 
   -- each of its sectors is whole, and these are its bytes
   abbrev pub HasBytes : Chain F A (Vec ℕ A) g n → List ℕ → Type 0
-  HasBytes c content = IsWholeChain c × (content_of c ≡ content)
+  HasBytes c content = HasAllSectors c × (content_of c ≡ content)
 
   -- this sector holds one of so many bytes from the position on
   pub record HoldsWanted (count : ℕ) (c : Chain F A (Vec ℕ A) g n) (sector : ℕ) : Type 0 where

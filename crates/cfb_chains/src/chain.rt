@@ -6,24 +6,23 @@ ghost use Rattle.cfb_format.specs.Chain.{IsChain, chain_from, value};
 ghost use Rattle.cfb_format.specs.Content.{place_in_chain, placed_from};
 ghost use Rattle.cfb_format.specs.Medium.{ChangesOnlyBytes, part, written};
 ghost use Rattle.cfb_format.specs.Refused.{AfterMedium, CountsFailure, IsInvalidData, IsInvalidInput};
-ghost use Rattle.cfb_alloc.specs.Alloc.{ChangesSectors, HoldsTables, IsFilled, IsUsable, OthersStay, OthersStayBut};
-ghost use Rattle.cfb_tables.specs.Clean.{IsUnnamed};
+ghost use Rattle.cfb_chains.specs.cfb_alloc.Alloc.{ChangesSectors, HoldsTables, IsAsFilled, IsUsable, OthersStay, OthersStayBut};
+ghost use Rattle.cfb_chains.specs.cfb_tables.Clean.{IsUnnamed};
 ghost use Rattle.cfb_sectors.specs.Sectors.{copies, init_bytes, IsMediumError, IsRaised, SectorStays};
-ghost use Rattle.cfb_tables.specs.Refused.{WalkRefused, ChangeRefused};
-ghost use Rattle.cfb_alloc.specs.Broken.{BreaksOff};
-ghost use Rattle.cfb_alloc.specs.Frame.{Spares};
-ghost use Rattle.cfb_alloc.specs.ListedChain.{Lengthens, Shortens, ListBreaksOff};
-ghost use Rattle.cfb_tables.specs.Tables.{GivesBackChain, TablesGiveBack, HasTaken, IsTooFew, ending};
+ghost use Rattle.cfb_chains.specs.cfb_tables.Refused.{WalkRefused, ChangeRefused};
+ghost use Rattle.cfb_chains.specs.cfb_alloc.Broken.{BreaksOff};
+ghost use Rattle.cfb_chains.specs.cfb_alloc.Frame.{Spares};
+ghost use Rattle.cfb_chains.specs.cfb_alloc.ListedChain.{Lengthens, Shortens, ListBreaksOff};
+ghost use Rattle.cfb_chains.specs.cfb_tables.Tables.{GivesBackChain, TablesGiveBack, HasTaken, IsTooFew, ending};
 ghost use Rattle.cfb_chains.specs.ChainLists.{StaysOrBecomes};
-ghost use Rattle.cfb_tables.specs.Listed.{ends_of, gained, last_or_end};
+ghost use Rattle.cfb_chains.specs.cfb_tables.Listed.{ends_of, gained, last_or_end};
 
-use cfb_alloc::alloc::Allocator;
 use cfb_format::error::{Detail, Error};
 use cfb_format::medium::{Medium, ReadMedium};
 use cfb_runs::reading::read_run;
 use cfb_runs::writing::{write_run, zero_run};
+use cfb_runs::{Allocator, first_number};
 use cfb_sectors::sector::SectorInit;
-use cfb_tables::ends::first_number;
 use std::alloc::{Allocator as Heap, Global};
 
 /// A list of numbers of sectors.
@@ -92,7 +91,7 @@ impl<'a, F: ReadMedium, A: Heap + Clone> Chain<'a, F, A> {
 }
 
 impl<'a, F: ReadMedium, A: Heap> Chain<'a, F, A> {
-    ghost use Rattle.cfb_chains.specs.LentChain.{allocator_of, start_sector_of, ids_of, init_of, version_of, len_of, left_of, position_of, room_of, place_at, place_of, IsWholeChain, content_of};
+    ghost use Rattle.cfb_chains.specs.LentChain.{allocator_of, start_sector_of, ids_of, init_of, version_of, len_of, left_of, position_of, room_of, place_at, place_of, HasAllSectors, content_of};
 
     /// The number of its first sector, or END where it has none.
     pub fn start_sector_id(&self) -> u32
@@ -182,7 +181,7 @@ impl<'a, F: ReadMedium, A: Heap> Chain<'a, F, A> {
             (allocator_of self.old).now.file.bytes (place_in_chain (version_of self.old)
             (allocator_of self.old).now.file.bytes (ids_of self.old)) (position_of self.old) n) }
         ensures rest { IfOk result (λ n. drop n into.new ≡ drop n into.old) }
-        ensures content { IsTrue F.tells → IsWholeChain self.old → IfOk result (λ n. take n into.new
+        ensures content { IsTrue F.tells → HasAllSectors self.old → IfOk result (λ n. take n into.new
             ≡ part (content_of self.old) (position_of self.old) n) }
         ensures cut { 0 < min (length into.old) (left_of self.old)
             → (allocator_of self.old).now.file.len ≤ place_of self.old
@@ -222,7 +221,7 @@ impl<'a, F: ReadMedium, A: Heap> Chain<'a, F, A> {
 }
 
 impl<'a, F: Medium, A: Heap> Chain<'a, F, A> {
-    ghost use Rattle.cfb_chains.specs.LentChain.{allocator_of, start_sector_of, ids_of, init_of, version_of, len_of, position_of, left_of, place_at, place_of, tail_of, IsWholeChain, content_of, HasBytes, HoldsWanted, ChangesOnlyWanted, HasWritten};
+    ghost use Rattle.cfb_chains.specs.LentChain.{allocator_of, start_sector_of, ids_of, init_of, version_of, len_of, position_of, left_of, place_at, place_of, tail_of, HasAllSectors, content_of, HasBytes, HoldsWanted, ChangesOnlyWanted, HasWritten};
 
     /// Writes a beginning of `from` over what the chain has from the position on, goes on behind it, and answers how many bytes that
     /// is: none exactly where `from` is empty or the end is reached. `Medium` where the medium fails: the position then stays, and no
@@ -258,7 +257,7 @@ impl<'a, F: Medium, A: Heap> Chain<'a, F, A> {
             → (validation : Validation) → HoldsTables validation (allocator_of self.old).now
             → OnOk result (HoldsTables validation (allocator_of self.new).now) }
         ensures content { IsTrue F.tells
-            → IsWholeChain self.old → IfOk result (λ n. 0 < n → HasBytes self.new
+            → HasAllSectors self.old → IfOk result (λ n. 0 < n → HasBytes self.new
             (written (content_of self.old) (position_of self.old) (take n from.now))) }
         ensures err { IfErr result IsMediumError }
         ensures begun { 0 < min (length from.now) (left_of self.old)
@@ -312,11 +311,11 @@ impl<'a, F: Medium, A: Heap> Chain<'a, F, A> {
             → (validation : Validation) → HoldsTables validation (allocator_of self.old).now
             → OnOk result (HoldsTables validation (allocator_of self.new).now) }
         ensures whole { IsTrue F.tells
-            → IsWholeChain self.old → OnOk result (IsWholeChain self.new) }
+            → HasAllSectors self.old → OnOk result (HasAllSectors self.new) }
         ensures same { IsTrue F.tells
-            → IsWholeChain self.old → offset % sector_len (version_of self.old) ≡ 0
+            → HasAllSectors self.old → offset % sector_len (version_of self.old) ≡ 0
             → OnOk result (content_of self.new ≡ content_of self.old) }
-        ensures content { IsTrue F.tells → IsWholeChain self.old
+        ensures content { IsTrue F.tells → HasAllSectors self.old
             → 0 < offset % sector_len (version_of self.old) → OnOk result (content_of self.new
             ≡ written (content_of self.old) offset (replicate (tail_of self.old offset) 0)) }
         ensures err { IfErr result IsMediumError }
@@ -350,7 +349,7 @@ impl<'a, F: Medium, A: Heap> Chain<'a, F, A> {
 }
 
 impl<'a, F: Medium, A: Heap + Clone> Chain<'a, F, A> {
-    ghost use Rattle.cfb_chains.specs.LentChain.{allocator_of, start_sector_of, ids_of, init_of, version_of, len_of, position_of, missing_of, wanted_of, HasGained, HasTurned, IsAsBefore, IsWholeChain, content_of, HasBytes, HoldsWanted, HasWritten, HasResized};
+    ghost use Rattle.cfb_chains.specs.LentChain.{allocator_of, start_sector_of, ids_of, init_of, version_of, len_of, position_of, missing_of, wanted_of, HasGained, HasTurned, IsAsBefore, HasAllSectors, content_of, HasBytes, HoldsWanted, HasWritten, HasResized};
 
     /// Frees its sectors: then it has none. Where it had none nothing changes.
     ///
@@ -427,7 +426,7 @@ impl<'a, F: Medium, A: Heap + Clone> Chain<'a, F, A> {
             → IfOk result (λ n. HasWritten n from.now self.old self.new) }
         ensures content { IsTrue F.tells
             → (validation : Validation) → HoldsTables validation (allocator_of self.old).now
-            → IsWholeChain self.old → IfOk result (λ n. 0 < n
+            → HasAllSectors self.old → IfOk result (λ n. 0 < n
             → (n ≡ length from.now) ⊎ (missing_of self.old (length from.now) ≡ 0)
             → HasBytes self.new (written (content_of self.old
             ++ copies (missing_of self.old (length from.now)) (init_bytes
@@ -493,7 +492,7 @@ impl<'a, F: Medium, A: Heap + Clone> Chain<'a, F, A> {
         ensures filled { IsTrue F.tells
             → (validation : Validation) → HoldsTables validation (allocator_of self.old).now
             → length (ids_of self.old) < wanted_of self.old len → OnOk result ((i : ℕ)
-            → Contains (gained (ids_of self.old) (ids_of self.new)) i → IsFilled
+            → Contains (gained (ids_of self.old) (ids_of self.new)) i → IsAsFilled
             (version_of self.new) (init_of self.old) (allocator_of self.new).now.file.bytes i) }
         ensures cut { wanted_of self.old len ≤ length (ids_of self.old)
             → OnOk result (ids_of self.new ≡ take (wanted_of self.old len) (ids_of self.old)) }
@@ -519,12 +518,12 @@ impl<'a, F: Medium, A: Heap + Clone> Chain<'a, F, A> {
             → OnOk result (HasResized len self.old self.new) }
         ensures longer { IsTrue F.tells
             → (validation : Validation) → HoldsTables validation (allocator_of self.old).now
-            → IsWholeChain self.old → length (ids_of self.old) < wanted_of self.old len
+            → HasAllSectors self.old → length (ids_of self.old) < wanted_of self.old len
             → OnOk result (HasBytes self.new (content_of self.old ++ copies (wanted_of self.old len
             - length (ids_of self.old)) (init_bytes (version_of self.old) (init_of self.old)))) }
         ensures shorter { IsTrue F.tells
             → (validation : Validation) → HoldsTables validation (allocator_of self.old).now
-            → IsWholeChain self.old → wanted_of self.old len ≤ length (ids_of self.old)
+            → HasAllSectors self.old → wanted_of self.old len ≤ length (ids_of self.old)
             → OnOk result (HasBytes self.new (take len (content_of self.old)
             ++ replicate (wanted_of self.old len * sector_len (version_of self.old) - len) 0)) }
         ensures others { IsTrue F.tells → (i : ℕ) → (value (allocator_of self.old).now.tables.fat i
@@ -578,14 +577,14 @@ impl<'a, F: Medium, A: Heap + Clone> Chain<'a, F, A> {
             (ending (last_or_end (ids_of self.old))) (gained (ids_of self.old) (ids_of self.new))) }
         ensures filled { IsTrue F.tells → (validation : Validation)
             → HoldsTables validation (allocator_of self.old).now → OnOk result ((i : ℕ)
-            → Contains (gained (ids_of self.old) (ids_of self.new)) i → IsFilled
+            → Contains (gained (ids_of self.old) (ids_of self.new)) i → IsAsFilled
             (version_of self.new) (init_of self.old) (allocator_of self.new).now.file.bytes i) }
         ensures holds { IsTrue F.tells
             → (validation : Validation) → HoldsTables validation (allocator_of self.old).now
             → OnOk result (HoldsTables validation (allocator_of self.new).now) }
         ensures content { IsTrue F.tells
             → (validation : Validation) → HoldsTables validation (allocator_of self.old).now
-            → IsWholeChain self.old → OnOk result (HasBytes self.new (content_of self.old
+            → HasAllSectors self.old → OnOk result (HasBytes self.new (content_of self.old
             ++ copies count (init_bytes (version_of self.old) (init_of self.old)))) }
         ensures others { IsTrue F.tells
             → OthersStay (allocator_of self.old).now (allocator_of self.new).now }
@@ -631,7 +630,7 @@ impl<'a, F: Medium, A: Heap + Clone> Chain<'a, F, A> {
             → OnOk result (HoldsTables validation (allocator_of self.new).now) }
         ensures content { IsTrue F.tells
             → (validation : Validation) → HoldsTables validation (allocator_of self.old).now
-            → IsWholeChain self.old → OnOk result (HasBytes self.new (take (count
+            → HasAllSectors self.old → OnOk result (HasBytes self.new (take (count
             * sector_len (version_of self.old)) (content_of self.old))) }
         ensures changes { IsTrue F.tells
             → ChangesSectors (allocator_of self.old).now.tables.fat_sectors
@@ -689,7 +688,7 @@ fn extend_list<F: Medium, A: Heap + Clone>(
     ensures filled { IsTrue F.tells
         → (validation : Validation) → HoldsTables validation allocator.old
         → OnOk result ((i : ℕ) → Contains (gained ids.old.items ids.new.items) i
-        → IsFilled allocator.new.tables.version init allocator.new.file.bytes i) }
+        → IsAsFilled allocator.new.tables.version init allocator.new.file.bytes i) }
     ensures holds { IsTrue F.tells
         → (validation : Validation) → HoldsTables validation allocator.old
         → OnOk result (HoldsTables validation allocator.new) }

@@ -3,11 +3,11 @@ use Rattle.std.proofs.Common.{◌≡◌, refl, subst}
 use Rattle.std.specs.Prelude.{Err, IfErr, IfOk, Ok, Result}
 use Rattle.cfb_format.specs.declared.error.Error.{Error}
 use Rattle.cfb_format.specs.declared.error.Error.TheVariants.{Memory}
-use Rattle.cfb_rules.specs.Calls.{Call, Reply, refused}
-use Rattle.cfb_rules.specs.Refusal.{Refusal, out_of_memory}
-use Rattle.cfb_rules.specs.Steps.{asking, kind_of}
-use Rattle.cfb_agreement.specs.Files.{FileState}
-use Rattle.cfb_path_changes.specs.Answers.{Answers, AnswersNot}
+use Rattle.cfb_commands.specs.cfb_rules.Calls.{Call, Reply, refused}
+use Rattle.cfb_commands.specs.cfb_rules.Refusal.{Refusal, out_of_memory}
+use Rattle.cfb_commands.specs.cfb_rules.Steps.{asking, kind_of}
+use Rattle.cfb_commands.specs.cfb_agreement.Files.{FileState}
+use Rattle.cfb_commands.specs.cfb_path_changes.Answers.{Answers, AnswersNot}
 use Rattle.cfb_compound_file.proofs.Asked.{refused-for-memory}
 use Rattle.cfb_commands.specs.Commands.{call_answer, refusal_of}
 use Rattle.cfb_commands.proofs.Errors.{known}

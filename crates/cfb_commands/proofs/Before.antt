@@ -1,22 +1,22 @@
 -- A file that is as before but for the count of failures, as the rules of calls see it.
 use Rattle.std.proofs.Common.{◌≡◌, ◌∙◌, ℕ, List, [], true, false, sym, ap, subst, inl, inr}
 use Rattle.std.specs.Prelude.{Option, Some, None, is_some, option_and_then, unwrap_or}
+use Rattle.cfb_format.specs.Bytes.{max_stream_len}
 use Rattle.cfb_format.specs.Path.{names_of_path}
 use Rattle.cfb_format.specs.Reading.{IsOutline, Outline}
 use Rattle.cfb_format.specs.Tree.{Tree}
-use Rattle.cfb_rules.specs.Lists.{IsSeenAsBefore, names_at}
-use Rattle.cfb_siblings.specs.Paths.{number_from}
-use Rattle.cfb_directory.specs.State.{IsFullForEntry}
-use Rattle.cfb_mini_sectors.specs.State.{cases_of, entries_of, root_len_of}
-use Rattle.cfb_format.specs.Bytes.{max_stream_len}
-use Rattle.cfb_agreement.specs.Changes.{StaysOrFails}
-use Rattle.cfb_agreement.specs.Files.{FileState, IsAsBefore, IsFullFile, SameSetting, failures_of, is_failed}
-use Rattle.cfb_agreement.specs.Laws.{with_flags}
-use Rattle.cfb_agreement.proofs.Flags.{as-before-same}
-use Rattle.cfb_path_changes.specs.Answers.{setting_of}
-use Rattle.cfb_path_changes.specs.Finding.{LeadTo, StandsAt}
+use Rattle.cfb_commands.specs.cfb_rules.Lists.{IsSeenAsBefore, names_at}
+use Rattle.cfb_commands.specs.cfb_siblings.Paths.{number_from}
+use Rattle.cfb_commands.specs.cfb_directory.State.{IsFullForEntry}
+use Rattle.cfb_commands.specs.cfb_mini_sectors.State.{cases_of, entries_of, root_len_of}
+use Rattle.cfb_commands.specs.cfb_agreement.Changes.{StaysOrFails}
+use Rattle.cfb_commands.specs.cfb_agreement.Files.{FileState, IsAsBefore, IsFullFile, SameSetting, failures_of, is_failed}
+use Rattle.cfb_commands.specs.cfb_agreement.Laws.{with_flags}
+use Rattle.cfb_commands.proofs.cfb_agreement.Flags.{as-before-same}
+use Rattle.cfb_commands.specs.cfb_path_changes.Answers.{setting_of}
+use Rattle.cfb_commands.specs.cfb_path_changes.Finding.{LeadTo, StandsAt}
 use Rattle.cfb_compound_file.specs.Stored.{KeepsRest, kept_of}
-use Rattle.cfb_path_changes.proofs.NewObjects.{moved_leads}
+use Rattle.cfb_commands.proofs.cfb_path_changes.NewObjects.{moved_leads}
 use Rattle.cfb_compound_file.proofs.StoredStreams.{as_before}
 use Rattle.cfb_commands.specs.Seen.{IsTooLongAt, seen_as, standing_at}
 
@@ -26,18 +26,6 @@ pub setting_same : (first now : FileState) → SameSetting first now → setting
 setting_same first now s = λ j. record {
   cases = s.limits.cases j;
   stream = record { limit = ap max_stream_len s.limits.version j; sound = s.is_sound j };
-}
-
-pub setting_then : (a b c : FileState) → SameSetting a b → SameSetting b c → SameSetting a c
-setting_then a b c p q = record {
-  limits = record {
-    version = q.limits.version ∙ p.limits.version;
-    cases = q.limits.cases ∙ p.limits.cases;
-    max_sectors = q.limits.max_sectors ∙ p.limits.max_sectors;
-    max_mini_sectors = q.limits.max_mini_sectors ∙ p.limits.max_mini_sectors;
-  };
-  is_sound = q.is_sound ∙ p.is_sound;
-  buffer_limit = q.buffer_limit ∙ p.buffer_limit;
 }
 
 -- ---- what is seen

@@ -6,17 +6,18 @@ use Rattle.cfb_format.specs.declared.error.Error.TheVariants.{NotFound, AlreadyE
 use Rattle.cfb_format.specs.declared.medium.MediumFault.{MediumFault}
 use Rattle.cfb_format.specs.Refused.{CountsError, HasReason, at_every_error}
 use Rattle.cfb_format.specs.Tree.{Tree}
-use Rattle.cfb_rules.specs.Calls.{Call, Reply, create_storage_all, done, entries, flag, one_entry, refused, remove_storage_all, remove_stream}
-use Rattle.cfb_rules.specs.Lists.{CallStep, LeavesAll, blame_of, reply_blame}
-use Rattle.cfb_rules.specs.Refusal.{IsRefusal, Refusal, already_exists, failed_earlier, file_full, invalid_data, invalid_input, medium_failed, not_found, not_sound, out_of_memory, refusal_number}
-use Rattle.cfb_rules.specs.Runs.{CallRuns, Setting}
-use Rattle.cfb_rules.specs.Steps.{CallKind, asking, asking_freely, changing, creating, emptying, flushing, is_changing, kind_of, opening, opening_to_read}
-use Rattle.cfb_agreement.specs.Changes.{StaysOrFails}
-use Rattle.cfb_agreement.specs.Files.{FileState, IsAsBefore, SameSetting, failures_of, is_failed}
-use Rattle.cfb_path_changes.specs.Answers.{ForMemory, IsRefusedBy, IsRefusedInTurn, MeansTree, RunsOn, StopsInTurn, causes_of_call, setting_of, state_with}
-use Rattle.cfb_commands.specs.Promised.{Asks, CallKeeps, Changes, Refuses, IsKeptBy, promised}
+use Rattle.cfb_commands.specs.cfb_rules.Calls.{Call, Reply, create_storage_all, done, entries, flag, one_entry, refused, remove_storage_all, remove_stream}
+use Rattle.cfb_commands.specs.cfb_rules.Lists.{CallStep, LeavesAll, blame_of, reply_blame}
+use Rattle.cfb_commands.specs.cfb_rules.Refusal.{IsRefusal, Refusal, already_exists, failed_earlier, file_full, invalid_data, invalid_input, medium_failed, not_found, not_sound, out_of_memory, refusal_number}
+use Rattle.cfb_commands.specs.cfb_rules.Runs.{CallRuns, Setting}
+use Rattle.cfb_commands.specs.cfb_rules.Steps.{CallKind, asking, asking_freely, changing, creating, emptying, flushing, is_changing, kind_of, opening, opening_to_read}
+use Rattle.cfb_commands.specs.cfb_agreement.Changes.{StaysOrFails}
+use Rattle.cfb_commands.specs.cfb_agreement.Files.{FileState, IsAsBefore, SameSetting, failures_of, is_failed}
+use Rattle.cfb_commands.specs.cfb_path_changes.Answers.{ForMemory, IsRefusedBy, IsRefusedInTurn, MeansTree, RunsOn, StopsInTurn, causes_of_call, setting_of, state_with}
+use Rattle.cfb_commands.specs.Promised.{IsAnswered, CallKeeps, Changes, RefusesChange, IsKeptBy, promised}
 use Rattle.cfb_commands.specs.Seen.{seen_as, standing_at}
 use Rattle.cfb_commands.proofs.Before.{same_before, seen_before, setting_same, stayed}
+use Rattle.cfb_commands.proofs.cfb_volume.Settings.{setting-same}
 
 -- ---- errors by their kinds
 
@@ -84,7 +85,7 @@ at_once can_give old call new e why = record {
 }
 
 -- what every refused call promises
-pub in_turn : (can_give : MediumFault → Bool) (old : FileState) (call : Call) (new : FileState) (e : Error) → Refuses can_give old call new e → IsRefusedInTurn can_give old call new e
+pub in_turn : (can_give : MediumFault → Bool) (old : FileState) (call : Call) (new : FileState) (e : Error) → RefusesChange can_give old call new e → IsRefusedInTurn can_give old call new e
 in_turn can_give old (create_storage_all path moment) new e why = why.0
 in_turn can_give old call new e why = at_once can_give old call new e why
 
@@ -153,7 +154,7 @@ module _ (can_give : MediumFault → Bool) (old new : FileState) (call : Call) w
     does_change : Changes can_give old call reply new → (is_changing (kind_of call) ≡ false → reply ≡ done → new ≡ old) → Does
     does_change k same = record { runs = change_runs reply k; before = change_before reply k same; counts = change_counts reply k }
 
-    does_ask : Asks old call reply new → Does
+    does_ask : IsAnswered old call reply new → Does
     does_ask k = record {
       runs = subst (λ (z : FileState). RunsOn (causes_of_call old z) old call reply z) (sym k.same) k.answers;
       before = λ leaves calm. same_before old new k.same;
@@ -172,13 +173,6 @@ module _ (can_give : MediumFault → Bool) (old new : FileState) (call : Call) w
 
 -- ---- the setting stays
 
-pub setting_none : (file : FileState) → SameSetting file file
-setting_none file = record {
-  limits = record { version = refl; cases = refl; max_sectors = refl; max_mini_sectors = refl };
-  is_sound = refl;
-  buffer_limit = refl;
-}
-
 module _ (can_give : MediumFault → Bool) (old new : FileState) (call : Call) where
   change_setting : (reply : Reply) → Changes can_give old call reply new → SameSetting old new
   change_setting done k = k.order.setting
@@ -187,8 +181,8 @@ module _ (can_give : MediumFault → Bool) (old new : FileState) (call : Call) w
   change_setting (one_entry e) k = absurd k
   change_setting (entries es) k = absurd k
 
-  ask_setting : (reply : Reply) → Asks old call reply new → SameSetting old new
-  ask_setting reply k = subst (λ (z : FileState). SameSetting old z) (sym k.same) (setting_none old)
+  ask_setting : (reply : Reply) → IsAnswered old call reply new → SameSetting old new
+  ask_setting reply k = subst (λ (z : FileState). SameSetting old z) (sym k.same) (setting-same old)
 
   setting_by : (kind : CallKind) (reply : Reply) → IsKeptBy can_give kind old call reply new → SameSetting old new
   setting_by creating reply k = change_setting reply k

@@ -5,11 +5,11 @@ use Rattle.cfb_format.specs.declared.error.Error.{Error}
 use Rattle.cfb_format.specs.declared.error.Error.TheVariants.{NotFound, AlreadyExists, InvalidInput, InvalidData, Medium, Memory, Full, Unsound, Failed}
 use Rattle.cfb_format.specs.declared.medium.MediumFault.{MediumFault}
 use Rattle.cfb_format.specs.Refused.{CountsError}
-use Rattle.cfb_rules.specs.Calls.{Call, create_storage_all, done, flush}
-use Rattle.cfb_agreement.specs.Files.{FileState, failures_of}
-use Rattle.cfb_path_changes.specs.Answers.{IsDoneBy, IsRefusedBy, LacksRoomOnTheWay}
-use Rattle.cfb_path_changes.specs.Calls.{CallAnswers, CallAnswersInTurn}
-use Rattle.cfb_commands.specs.Promised.{CallKeeps, Changes, Refuses}
+use Rattle.cfb_commands.specs.cfb_rules.Calls.{Call, create_storage_all, done, flush}
+use Rattle.cfb_commands.specs.cfb_agreement.Files.{FileState, failures_of}
+use Rattle.cfb_commands.specs.cfb_path_changes.Answers.{IsDoneBy, IsRefusedBy, LacksRoomOnTheWay}
+use Rattle.cfb_commands.specs.cfb_path_changes.Calls.{CallAnswers, CallAnswersInTurn}
+use Rattle.cfb_commands.specs.Promised.{CallKeeps, Changes, RefusesChange}
 use Rattle.cfb_commands.specs.Commands.{call_answer}
 use Rattle.cfb_commands.proofs.Errors.{refusal_is}
 
@@ -57,7 +57,7 @@ flush_keeps few all old new (Err e) wider is_done same why = record { changes = 
 
 -- a call that may change the file
 pub changed : {T : Type 0} (can_give : MediumFault → Bool) (old : FileState) (call : Call) (new : FileState) (result : Result T Error) → CallAnswers can_give old call result new
-    → ((e : Error) → IsRefusedBy can_give old call new e → Refuses can_give old call new e) → Changes can_give old call (call_answer (λ _. done) result) new
+    → ((e : Error) → IsRefusedBy can_give old call new e → RefusesChange can_give old call new e) → Changes can_give old call (call_answer (λ _. done) result) new
 changed can_give old call new (Ok x) answers so = answers
 changed can_give old call new (Err e) answers so = (e, refusal_is e, so e answers)
 

@@ -4,8 +4,8 @@ use Rattle.std.specs.Prelude.{Some}
 use Rattle.std.proofs.lemmas.Option.{same_Some}
 use Rattle.cfb_format.specs.declared.error.Error.{Error}
 use Rattle.cfb_format.specs.declared.error.Error.TheVariants.{NotFound, AlreadyExists, InvalidInput, InvalidData, Medium, Memory, Full, Unsound, Failed}
-use Rattle.cfb_rules.specs.Refusal.{IsRefusal, Refusal, failed_earlier, file_full, out_of_memory, refusal_number}
-use Rattle.cfb_rules.specs.StreamCalls.{StreamReply, not_done, offset}
+use Rattle.cfb_commands.specs.cfb_rules.Refusal.{IsRefusal, Refusal, failed_earlier, file_full, out_of_memory, refusal_number}
+use Rattle.cfb_commands.specs.cfb_rules.StreamCalls.{StreamReply, not_done, offset}
 use Rattle.cfb_commands.proofs.CallSteps.{same_refusal}
 use Rattle.cfb_commands.specs.Commands.{refusal_of}
 

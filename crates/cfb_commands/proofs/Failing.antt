@@ -2,16 +2,16 @@
 use Rattle.std.proofs.Common.{◌≡◌, ℕ, Bool, true, false, List, [], ◌∷◌, ap, arith, inl, inr, refl, subst, sym}
 use Rattle.std.specs.Prelude.{◌⊎◌, ◌||◌, IsTrue, MatchBool, MatchOption, Option, Some, None, is_some, ⊤}
 use Rattle.cfb_format.specs.declared.medium.MediumFault.{MediumFault}
-use Rattle.cfb_rules.specs.Calls.{Call, Reply, done, flush, refused}
-use Rattle.cfb_rules.specs.Lists.{CallStep, Command, CommandReply, CommandRuns, IsLegalRun, Opening, by_path, causes_between, creates, creates_new, on_stream, opening_call, opens, replied, stream_in, streamed}
-use Rattle.cfb_rules.specs.Refusal.{Refusal, failed_earlier, is_of_rules}
-use Rattle.cfb_rules.specs.Runs.{BlamesOneOf, CallRuns, Causes, Closes, FollowsRules, IsBroken, MayBreak, OnFailed, Setting, StreamRun, TreeState, any_cause}
-use Rattle.cfb_rules.specs.Steps.{CallKind, asking, asking_freely, changing, creating, emptying, flushing, kind_of, kind_on, opening, opening_to_read}
-use Rattle.cfb_rules.proofs.CallBreaks.{flush_fails}
-use Rattle.cfb_rules.proofs.LegalRuns.{call_weaker}
-use Rattle.cfb_rules.proofs.RuleKinds.{ReplyOfRules, Step-rules}
-use Rattle.cfb_agreement.specs.Files.{Agrees, FileState, is_failed}
-use Rattle.cfb_path_changes.specs.Answers.{setting_of}
+use Rattle.cfb_commands.specs.cfb_rules.Calls.{Call, Reply, done, flush, refused}
+use Rattle.cfb_commands.specs.cfb_rules.Lists.{CallStep, Command, CommandReply, CommandRuns, IsLegalRun, Opening, by_path, causes_between, creates, creates_new, on_stream, opening_call, opens, replied, stream_in, streamed}
+use Rattle.cfb_commands.specs.cfb_rules.Refusal.{Refusal, failed_earlier, is_of_rules}
+use Rattle.cfb_commands.specs.cfb_rules.Runs.{BlamesOneOf, CallRuns, Causes, Closes, FollowsRules, IsBroken, MayBreak, OnFailed, Setting, StreamRun, TreeState, any_cause}
+use Rattle.cfb_commands.specs.cfb_rules.Steps.{CallKind, asking, asking_freely, changing, creating, emptying, flushing, kind_of, kind_on, opening, opening_to_read}
+use Rattle.cfb_commands.proofs.cfb_rules.CallBreaks.{flush_fails}
+use Rattle.cfb_commands.proofs.cfb_rules.LegalRuns.{call_weaker}
+use Rattle.cfb_commands.proofs.cfb_rules.RuleKinds.{ReplyOfRules, Step-rules}
+use Rattle.cfb_commands.specs.cfb_agreement.Files.{Agrees, FileState, is_failed}
+use Rattle.cfb_commands.specs.cfb_path_changes.Answers.{setting_of}
 use Rattle.cfb_commands.specs.Promised.{promised}
 use Rattle.cfb_commands.specs.Seen.{Standing, seen_as, standing_at}
 use Rattle.cfb_commands.proofs.Idle.{run_idle}

@@ -7,10 +7,10 @@ use Rattle.cfb_format.specs.declared.error.Error.{Error}
 use Rattle.cfb_format.specs.declared.error.Error.TheVariants.{NotFound, AlreadyExists, InvalidInput, InvalidData, Medium, Memory, Full, Unsound, Failed}
 use Rattle.cfb_format.specs.declared.medium.MediumFault.{MediumFault}
 use Rattle.cfb_format.specs.Refused.{CountsError, CountsFailure}
-use Rattle.cfb_rules.specs.Calls.{Call, flush}
-use Rattle.cfb_agreement.specs.Files.{FileState, failures_of}
-use Rattle.cfb_path_changes.specs.Answers.{IsRefusedBy}
-use Rattle.cfb_path_changes.specs.Calls.{CallAnswers, CallAnswersInTurn}
+use Rattle.cfb_commands.specs.cfb_rules.Calls.{Call, flush}
+use Rattle.cfb_commands.specs.cfb_agreement.Files.{FileState, failures_of}
+use Rattle.cfb_commands.specs.cfb_path_changes.Answers.{IsRefusedBy}
+use Rattle.cfb_commands.specs.cfb_path_changes.Calls.{CallAnswers, CallAnswersInTurn}
 use Rattle.cfb_compound_file.specs.Asking.{IsOfAsking, IsOfOpeningStream}
 use Rattle.cfb_commands.specs.Faults.{CanBeGiven}
 use Rattle.cfb_commands.proofs.Calls.{counts_wider}

@@ -4,13 +4,13 @@ use Rattle.std.specs.Prelude.{◌⊎◌, MatchBool}
 use Rattle.cfb_format.specs.declared.error.Error.{Error}
 use Rattle.cfb_format.specs.declared.error.Error.TheVariants.{AlreadyExists, Failed, Full, InvalidData, InvalidInput, Medium, Memory, NotFound, Unsound}
 use Rattle.cfb_format.specs.declared.medium.MediumFault.{MediumFault}
-use Rattle.cfb_rules.specs.Calls.{Call, Reply, done, entries, flag, one_entry, refused}
-use Rattle.cfb_rules.specs.Lists.{CallStep, Command, CommandReply, CommandRuns, IsLegalRun, Opening, by_path, causes_between, creates, creates_new, on_stream, opening_call, opens, replied, streamed}
-use Rattle.cfb_rules.specs.Refusal.{IsRefusal, Refusal, failed_earlier, refusal_number}
-use Rattle.cfb_rules.specs.Runs.{CallRuns, Causes, FollowsRules, IsBroken, OnFailed, Setting, TreeState}
-use Rattle.cfb_rules.specs.Steps.{CallKind, asking, asking_freely, changing, creating, emptying, flushing, kind_of, opening, opening_to_read}
-use Rattle.cfb_agreement.specs.Files.{FileState, is_failed}
-use Rattle.cfb_path_changes.specs.Answers.{IsRefusedInTurn}
+use Rattle.cfb_commands.specs.cfb_rules.Calls.{Call, Reply, done, entries, flag, one_entry, refused}
+use Rattle.cfb_commands.specs.cfb_rules.Lists.{CallStep, Command, CommandReply, CommandRuns, IsLegalRun, Opening, by_path, causes_between, creates, creates_new, on_stream, opening_call, opens, replied, streamed}
+use Rattle.cfb_commands.specs.cfb_rules.Refusal.{IsRefusal, Refusal, failed_earlier, refusal_number}
+use Rattle.cfb_commands.specs.cfb_rules.Runs.{CallRuns, Causes, FollowsRules, IsBroken, OnFailed, Setting, TreeState}
+use Rattle.cfb_commands.specs.cfb_rules.Steps.{CallKind, asking, asking_freely, changing, creating, emptying, flushing, kind_of, opening, opening_to_read}
+use Rattle.cfb_commands.specs.cfb_agreement.Files.{FileState, is_failed}
+use Rattle.cfb_commands.specs.cfb_path_changes.Answers.{IsRefusedInTurn}
 use Rattle.cfb_commands.specs.Laws.{RunsStayIdle}
 use Rattle.cfb_commands.specs.Promised.{Changes, IsKeptBy, promised}
 use Rattle.cfb_commands.specs.Seen.{Standing, seen_as}

@@ -1,36 +1,33 @@
 -- What a list of commands keeps of a file, by what its calls promise.
-use Rattle.std.proofs.Common.{◌≡◌, ◌∙◌, ℕ, Bool, true, false, List, [], ◌∷◌, refl, sym, subst}
+use Rattle.std.proofs.Common.{◌≡◌, ℕ, Bool, true, false, List, [], ◌∷◌, sym, subst}
 use Rattle.std.specs.Prelude.{◌⊎◌, MatchBool, Option}
 use Rattle.cfb_format.specs.declared.medium.MediumFault.{MediumFault}
-use Rattle.cfb_rules.specs.Calls.{Call, Reply, done, entries, flag, one_entry, refused}
-use Rattle.cfb_rules.specs.Lists.{CallStep, Command, CommandReply, CommandRuns, IsLegalRun, Opening, StreamCallsRun, StreamedRun, by_path, causes_between, names_at, on_stream, opening_call, replied, streamed}
-use Rattle.cfb_rules.specs.Refusal.{Refusal}
-use Rattle.cfb_rules.specs.Runs.{CallRuns, Causes, FollowsRules, IsBroken, OnFailed, Setting, TreeState}
-use Rattle.cfb_rules.specs.Steps.{CallKind, asking, asking_freely, changing, creating, emptying, flushing, kind_of, opening, opening_to_read}
-use Rattle.cfb_rules.specs.StreamCalls.{StreamCall, StreamReply, StreamState}
-use Rattle.cfb_agreement.specs.Files.{FileState, IsAsMade, is_failed}
-use Rattle.cfb_agreement.proofs.HeldBytes.{as-made-is-low}
+use Rattle.cfb_commands.specs.cfb_rules.Calls.{Call, Reply, done, entries, flag, one_entry, refused}
+use Rattle.cfb_commands.specs.cfb_rules.Lists.{CallStep, Command, CommandReply, CommandRuns, IsLegalRun, Opening, StreamCallsRun, StreamedRun, by_path, causes_between, names_at, on_stream, opening_call, replied, streamed}
+use Rattle.cfb_commands.specs.cfb_rules.Refusal.{Refusal}
+use Rattle.cfb_commands.specs.cfb_rules.Runs.{CallRuns, Causes, FollowsRules, IsBroken, OnFailed, Setting, TreeState}
+use Rattle.cfb_commands.specs.cfb_rules.Steps.{CallKind, asking, asking_freely, changing, creating, emptying, flushing, kind_of, opening, opening_to_read}
+use Rattle.cfb_commands.specs.cfb_rules.StreamCalls.{StreamCall, StreamReply, StreamState}
+use Rattle.cfb_commands.specs.cfb_agreement.Files.{FileState, IsAsMade, is_failed}
+use Rattle.cfb_commands.proofs.cfb_agreement.HeldBytes.{as-made-is-low}
 use Rattle.cfb_commands.specs.Laws.{RunsStayLow}
 use Rattle.cfb_commands.specs.Made.{StaysMade}
-use Rattle.cfb_commands.specs.Promised.{Asks, Changes, IsKeptBy, StreamKeeps, promised}
+use Rattle.cfb_commands.specs.Promised.{IsAnswered, Changes, IsKeptBy, StreamKeeps, promised}
 use Rattle.cfb_commands.specs.Seen.{Standing, seen_as}
-use Rattle.cfb_commands.proofs.Before.{setting_then}
-use Rattle.cfb_commands.proofs.CallSteps.{in_turn, keeps_setting, setting_none}
+use Rattle.cfb_commands.proofs.CallSteps.{in_turn, keeps_setting}
+use Rattle.cfb_commands.proofs.cfb_volume.Settings.{setting-same}
+use Rattle.cfb_commands.proofs.cfb_agreement.InTurn.{calm-before, setting-then}
 
 -- ---- nothing, and one thing after the other
 
 pub stays_made_none : (file : FileState) → StaysMade file file
-stays_made_none file = record { setting = setting_none file; failed = λ failed. failed; made = λ calm made. made }
-
-calm_before : (a b : Bool) → (a ≡ true → b ≡ true) → b ≡ false → a ≡ false
-calm_before false b stays calm = refl
-calm_before true b stays calm = absurd (let w : true ≡ false = sym (stays refl) ∙ calm in cc)
+stays_made_none file = record { setting = setting-same file; failed = λ failed. failed; made = λ calm made. made }
 
 pub stays_made_then : (a b c : FileState) → StaysMade a b → StaysMade b c → StaysMade a c
 stays_made_then a b c p q = record {
-  setting = setting_then a b c p.setting q.setting;
+  setting = setting-then a b c p.setting q.setting;
   failed = λ failed. q.failed (p.failed failed);
-  made = λ calm made. q.made calm (p.made (calm_before (is_failed b) (is_failed c) q.failed calm) made);
+  made = λ calm made. q.made calm (p.made (calm-before (is_failed b) (is_failed c) q.failed calm) made);
 }
 
 -- ---- one call
@@ -60,7 +57,7 @@ module _ (can_give : MediumFault → Bool) (old new : FileState) (call : Call) (
   change_made (one_entry e) k = absurd k
   change_made (entries es) k = absurd k
 
-  ask_made : (reply : Reply) → Asks old call reply new → IsAsMade new.base
+  ask_made : (reply : Reply) → IsAnswered old call reply new → IsAsMade new.base
   ask_made reply k = subst (λ (z : FileState). IsAsMade z.base) (sym k.same) made
 
   made_by : (kind : CallKind) (reply : Reply) → IsKeptBy can_give kind old call reply new → IsAsMade new.base

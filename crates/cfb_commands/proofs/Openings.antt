@@ -6,33 +6,33 @@ use Rattle.cfb_format.specs.declared.error.Error.TheVariants.{Failed, Memory}
 use Rattle.cfb_format.specs.declared.medium.MediumFault.{MediumFault}
 use Rattle.cfb_format.specs.Names.{Cases}
 use Rattle.cfb_format.specs.Tree.{Tree}
-use Rattle.cfb_rules.specs.Calls.{Call, create_new_stream, create_stream, done, open_stream, refused}
-use Rattle.cfb_rules.specs.Lists.{Opening, creates, creates_new, on_stream, opening_call, opens, replied, streamed, StreamCallsRun, names_at}
-use Rattle.cfb_rules.specs.Refusal.{Refusal, failed_earlier, out_of_memory}
-use Rattle.cfb_rules.specs.Runs.{opened_by_path}
-use Rattle.cfb_rules.specs.StreamCalls.{StreamCall, StreamReply, StreamState}
-use Rattle.cfb_mini_sectors.specs.State.{cases_of}
-use Rattle.cfb_agreement.specs.Files.{Agrees, FileState, SameSetting, is_failed}
-use Rattle.cfb_stream_window.specs.Windows.{Window}
-use Rattle.cfb_path_changes.specs.Answers.{AnswersNot, IsRefusedBy, MeansTree, setting_of}
-use Rattle.cfb_path_changes.specs.Answers as path
-use Rattle.cfb_path_changes.specs.Finding.{StandsAt}
+use Rattle.cfb_commands.specs.cfb_rules.Calls.{Call, create_new_stream, create_stream, done, open_stream, refused}
+use Rattle.cfb_commands.specs.cfb_rules.Lists.{Opening, creates, creates_new, on_stream, opening_call, opens, replied, streamed, StreamCallsRun, names_at}
+use Rattle.cfb_commands.specs.cfb_rules.Refusal.{Refusal, failed_earlier, out_of_memory}
+use Rattle.cfb_commands.specs.cfb_rules.Runs.{opened_by_path}
+use Rattle.cfb_commands.specs.cfb_rules.StreamCalls.{StreamCall, StreamReply, StreamState}
+use Rattle.cfb_commands.specs.cfb_mini_sectors.State.{cases_of}
+use Rattle.cfb_commands.specs.cfb_agreement.Files.{Agrees, FileState, SameSetting, is_failed}
+use Rattle.cfb_commands.specs.cfb_stream_window.Windows.{Window}
+use Rattle.cfb_commands.specs.cfb_path_changes.Answers.{AnswersNot, IsRefusedBy, setting_of}
+use Rattle.cfb_commands.specs.cfb_path_changes.Answers as path
+use Rattle.cfb_commands.specs.cfb_path_changes.Finding.{StandsAt}
 use Rattle.cfb_compound_file.specs.Adding.{IsCreatedBy}
 use Rattle.cfb_compound_file.specs.OpenedStreams.{BeginsAt, IsOpenedAt}
 use Rattle.cfb_compound_file.specs.Stored.{KeepsRest}
 use Rattle.cfb_compound_file.specs.StreamAnswers.{OpenStream, stream_in}
-use Rattle.cfb_path_changes.specs.declared.placing.Creation.TheVariants.{EmptyStream, NewStream}
-use Rattle.cfb_path_changes.proofs.NewObjects.{creation_asks, creation_rule}
-use Rattle.cfb_path_changes.proofs.Refusing.{refused_as_failed, refused_for_memory}
+use Rattle.cfb_commands.specs.cfb_path_changes.declared.placing.Creation.TheVariants.{EmptyStream, NewStream}
+use Rattle.cfb_commands.proofs.cfb_path_changes.NewObjects.{creation_asks, creation_rule}
+use Rattle.cfb_commands.proofs.cfb_path_changes.Refusing.{refused_as_failed, refused_for_memory}
 use Rattle.cfb_compound_file.proofs.OpenedStreams.{memory_answers, not_found_answers}
 use Rattle.cfb_commands.specs.Promised.{CallKeeps, IsClosedOf, promised}
 use Rattle.cfb_commands.specs.Seen.{seen_as, standing_at}
-use Rattle.cfb_commands.proofs.Before.{setting_then}
 use Rattle.cfb_commands.proofs.CallSteps.{call_step, keeps_setting}
 use Rattle.cfb_commands.proofs.Steps.{closing_step}
 use Rattle.cfb_commands.specs.Commands.{refusal_of}
-use Rattle.cfb_commands.specs.Working.{Answers, IsOpenedBy, Works}
+use Rattle.cfb_commands.specs.Working.{AnswersCommand, IsOpenedBy, Works}
 use Rattle.cfb_commands.proofs.Errors.{known, refusal_is}
+use Rattle.cfb_commands.proofs.cfb_agreement.InTurn.{setting-then}
 
 -- the two calls that make a stream: one empties a stream that is there
 abbrev pub made_by : Bool → List ℕ → Call
@@ -69,7 +69,7 @@ module _ (can_give : MediumFault → Bool) (old : FileState) (at : List ℕ) (ag
 
 -- so was the command
 pub refused_so : (can_give : MediumFault → Bool) (old new : FileState) (how : Opening) (at : List ℕ) (calls : List StreamCall) (refusal : Refusal)
-    → CallKeeps can_give old (opening_call how at) (refused refusal) new → Answers can_give old (on_stream how at calls) (replied (refused refusal)) new
+    → CallKeeps can_give old (opening_call how at) (refused refusal) new → AnswersCommand can_give old (on_stream how at calls) (replied (refused refusal)) new
 refused_so can_give old new how at calls refusal keeps = λ first tree same means.
     let step = call_step can_give first old new tree (opening_call how at) (refused refusal) same keeps means in
     (step.0, step.1, ((refusal, refl), step.2))
@@ -127,10 +127,10 @@ same_file P a b is h = subst P (sym is) h
 pub done_so : (can_give : MediumFault → Bool) (old new : FileState) (how : Opening) (at : List ℕ) (s now : OpenStream) (calls : List StreamCall) (replies : List StreamReply) (closing : Option Refusal)
     → IsOpenedBy can_give (opening_call how at) old at s
     → ((first : FileState) (tree : Tree) → SameSetting first s.file → Works can_give first s.file at tree s calls replies now) → IsClosedOf s.file now closing new
-    → Answers can_give old (on_stream how at calls) (streamed replies closing) new
+    → AnswersCommand can_give old (on_stream how at calls) (streamed replies closing) new
 done_so can_give old new how at s now calls replies closing o works closed = λ first tree same means.
     let step = call_step can_give first old s.file tree (opening_call how at) done same o.keeps means in
-    let setting = setting_then first old s.file same (keeps_setting can_give old s.file (opening_call how at) done o.keeps) in
+    let setting = setting-then first old s.file same (keeps_setting can_give old s.file (opening_call how at) done o.keeps) in
     let w = works first step.0 setting in
     let ends = closing_step can_give first s.file at now new step.0 closing setting o.agrees step.1 w.since closed in
     let begins : stream_in s ≡ opened_by_path (cases_of first.base) step.0 at =

@@ -6,12 +6,12 @@ use Rattle.cfb_format.specs.declared.error.Error.{Error}
 use Rattle.cfb_format.specs.declared.error.Error.TheVariants.{Full}
 use Rattle.cfb_format.specs.declared.medium.MediumFault.{MediumFault}
 use Rattle.cfb_format.specs.Refused.{CountsFailure}
-use Rattle.cfb_rules.specs.Refusal.{Refusal, failed_earlier, file_full, out_of_memory}
-use Rattle.cfb_rules.specs.Runs.{is_never_refused, is_served, may_leave_failed, reading, work_of}
-use Rattle.cfb_rules.specs.StreamCalls.{StreamCall, StreamReply, not_done, read}
-use Rattle.cfb_agreement.specs.Files.{IsAsBefore, failures_of, is_failed}
-use Rattle.cfb_stream_buffer.specs.Contents.{stream_setting_of}
-use Rattle.cfb_stream_window.specs.Windows.{Runs}
+use Rattle.cfb_commands.specs.cfb_rules.Refusal.{Refusal, failed_earlier, file_full, out_of_memory}
+use Rattle.cfb_commands.specs.cfb_rules.Runs.{is_never_refused, is_served, may_leave_failed, reading, work_of}
+use Rattle.cfb_commands.specs.cfb_rules.StreamCalls.{StreamCall, StreamReply, not_done, read}
+use Rattle.cfb_commands.specs.cfb_agreement.Files.{IsAsBefore, failures_of, is_failed}
+use Rattle.cfb_commands.specs.cfb_stream_buffer.Contents.{stream_setting_of}
+use Rattle.cfb_commands.specs.cfb_stream_window.Windows.{Runs}
 use Rattle.cfb_compound_file.specs.StreamAnswers.{GoesOn, GoesOnInTurn, IsStreamRefused, OpenStream, StreamRunsBy, run_in, stored_in, stream_in}
 use Rattle.cfb_compound_file.proofs.StoredStreams.{nothing_changes}
 use Rattle.cfb_compound_file.proofs.StreamCalls.{goes_at_once}

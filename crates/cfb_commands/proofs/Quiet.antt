@@ -3,8 +3,8 @@ use Rattle.std.proofs.Common.{◌≡◌, ◌∙◌, ◌≤◌, ◌++◌, ℕ, Bo
 use Rattle.std.specs.Prelude.{◌==◌, nat_lt, if◌then◌else◌}
 use Rattle.std.proofs.lemmas.Bool.{eqb-true}
 use Rattle.std.proofs.lemmas.List.{take-append-drop, take-append-le}
-use Rattle.cfb_rules.specs.Runs.{appending, may_leave_failed, no_work, overwriting, resizing, work_of}
-use Rattle.cfb_rules.specs.StreamCalls.{StreamState, set_len, write}
+use Rattle.cfb_commands.specs.cfb_rules.Runs.{appending, may_leave_failed, no_work, overwriting, resizing, work_of}
+use Rattle.cfb_commands.specs.cfb_rules.StreamCalls.{StreamState, set_len, write}
 
 -- a write of no byte
 pub writes_none : (s : StreamState) (bytes : List ℕ) → may_leave_failed s.pending (work_of s (write bytes)) ≡ false → length bytes ≡ 0

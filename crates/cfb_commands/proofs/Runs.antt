@@ -3,14 +3,14 @@ use Rattle.std.proofs.Common.{◌≡◌, ◌∙◌, ◌<◌, ◌≤◌, ◌+◌,
 use Rattle.cfb_format.specs.Created.{empty_tree}
 use Rattle.cfb_format.specs.declared.medium.MediumFault.{MediumFault}
 use Rattle.cfb_format.specs.Tree.{Tree}
-use Rattle.cfb_rules.specs.Calls as calls
-use Rattle.cfb_rules.specs.Lists.{Command, CommandReply, by_path, replied}
-use Rattle.cfb_objects.specs.Objects.{tree_from}
-use Rattle.cfb_mini_sectors.specs.State.{content_of, entries_of}
-use Rattle.cfb_sequences.proofs.Lists.{run-goes-on}
-use Rattle.cfb_agreement.specs.Files.{Agrees, FileState, is_failed}
-use Rattle.cfb_agreement.proofs.HeldBytes.{held-means-its-tree}
-use Rattle.cfb_path_changes.specs.Answers.{MeansTree, setting_of}
+use Rattle.cfb_commands.specs.cfb_rules.Calls as calls
+use Rattle.cfb_commands.specs.cfb_rules.Lists.{Command, CommandReply, by_path, replied}
+use Rattle.cfb_commands.specs.cfb_objects.Objects.{tree_from}
+use Rattle.cfb_commands.specs.cfb_mini_sectors.State.{content_of, entries_of}
+use Rattle.cfb_commands.proofs.cfb_sequences.Lists.{run-goes-on}
+use Rattle.cfb_commands.specs.cfb_agreement.Files.{Agrees, FileState, is_failed}
+use Rattle.cfb_commands.proofs.cfb_agreement.HeldBytes.{held-means-its-tree}
+use Rattle.cfb_commands.specs.cfb_path_changes.Answers.{MeansTree, setting_of}
 use Rattle.cfb_commands.specs.Made.{StaysMade}
 use Rattle.cfb_commands.specs.Promised.{CallKeeps, promised}
 use Rattle.cfb_commands.specs.Seen.{seen_as, standing_at}
@@ -19,7 +19,7 @@ use Rattle.cfb_commands.proofs.Made.{run_stays}
 use Rattle.cfb_commands.specs.declared.command.Command.{Command as TheCommand}
 use Rattle.cfb_commands.specs.declared.command.Reply.{Reply}
 use Rattle.cfb_commands.specs.Commands.{command_of, reply_of}
-use Rattle.cfb_commands.specs.Working.{Answers, RunsLegally}
+use Rattle.cfb_commands.specs.Working.{AnswersCommand, RunsLegally}
 use Rattle.cfb_commands.proofs.Growing.{put_behind, taken_more}
 
 -- the bytes of each file mean some tree, unless it has failed
@@ -34,7 +34,7 @@ some_tree file agrees = go (is_failed file) refl
 
 module _ (can_give : MediumFault → Bool) where
   -- a call by path is a command
-  pub by_call : (old new : FileState) (call : calls.Call) (reply : calls.Reply) → CallKeeps can_give old call reply new → Answers can_give old (by_path call) (replied reply) new
+  pub by_call : (old new : FileState) (call : calls.Call) (reply : calls.Reply) → CallKeeps can_give old call reply new → AnswersCommand can_give old (by_path call) (replied reply) new
   by_call old new call reply keeps = λ first tree same means. call_step can_give first old new tree call reply same keeps means
 
   pub runs_none : (file : FileState) → RunsLegally can_give file [] [] file
@@ -47,7 +47,7 @@ module _ (can_give : MediumFault → Bool) where
       run_stays can_give (setting_of old) (standing_at old t.0) (standing_at now r.0) commands replies r.2
 
   pub runs_on : (old now next : FileState) (commands : List Command) (replies : List CommandReply) (command : Command) (reply : CommandReply)
-      → RunsLegally can_give old commands replies now → Answers can_give now command reply next
+      → RunsLegally can_give old commands replies now → AnswersCommand can_give now command reply next
       → RunsLegally can_give old (commands ++ command ∷ []) (replies ++ reply ∷ []) next
   runs_on old now next commands replies command reply runs answers = λ tree means.
       let r = runs tree means in
@@ -61,7 +61,7 @@ module _ (can_give : MediumFault → Bool) where
   -- one more of a list of them, with its reply behind those that were there
   pub runs_more : {A : Type 0} (old now next : FileState) (commands : List (TheCommand A)) (i : ℕ) (command : TheCommand A) (n : ℕ) (olds news : List (Reply A)) (reply : Reply A)
       → i < length commands → command ≡ get_or commands i command → news ≡ olds ++ reply ∷ [] → n ≤ length olds
-      → RunsLegally can_give old (map command_of (take i commands)) (map reply_of (drop n olds)) now → Answers can_give now (command_of command) (reply_of reply) next
+      → RunsLegally can_give old (map command_of (take i commands)) (map reply_of (drop n olds)) now → AnswersCommand can_give now (command_of command) (reply_of reply) next
       → RunsLegally can_give old (map command_of (take (i + 1) commands)) (map reply_of (drop n news)) next
   runs_more old now next commands i command n olds news reply less is put longer runs answers =
       subst (λ (cs : List Command). RunsLegally can_give old cs (map reply_of (drop n news)) next) (sym (taken_more command_of commands i command less is))

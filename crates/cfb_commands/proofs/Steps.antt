@@ -3,22 +3,23 @@ use Rattle.std.proofs.Common.{◌≡◌, ℕ, Bool, true, false, List, refl, sym
 use Rattle.std.specs.Prelude.{MatchBool, Option, ⊤, ◌&&◌, if◌then◌else◌}
 use Rattle.cfb_format.specs.declared.medium.MediumFault.{MediumFault}
 use Rattle.cfb_format.specs.Tree.{Tree}
-use Rattle.cfb_rules.specs.Lists.{ClosingStep, LacksFor, StreamCallStep, causes_between, names_at}
-use Rattle.cfb_rules.specs.Refusal.{Refusal}
-use Rattle.cfb_rules.specs.Runs.{ClosedTree, Setting, StreamCallRuns, tree_with_stream}
-use Rattle.cfb_rules.specs.StreamCalls.{StreamCall, StreamReply, StreamSetting, StreamState, ask_is_empty, ask_len, ask_position, consume, fill_buf, flush, read, read_to_end, seek, set_len, write}
-use Rattle.cfb_rules.proofs.LegalRuns.{stream_call_weaker}
-use Rattle.cfb_mini_sectors.specs.State.{cases_of}
-use Rattle.cfb_agreement.specs.Files.{Agrees, FileState, SameSetting, is_failed}
-use Rattle.cfb_stream_window.specs.Windows.{Runs}
-use Rattle.cfb_path_changes.specs.Answers.{MeansTree, setting_of, state_with}
-use Rattle.cfb_path_changes.specs.Finding.{StandsAt}
+use Rattle.cfb_commands.specs.cfb_rules.Lists.{ClosingStep, LacksFor, StreamCallStep, causes_between, names_at}
+use Rattle.cfb_commands.specs.cfb_rules.Refusal.{Refusal}
+use Rattle.cfb_commands.specs.cfb_rules.Runs.{ClosedTree, Setting, StreamCallRuns, tree_with_stream}
+use Rattle.cfb_commands.specs.cfb_rules.StreamCalls.{StreamCall, StreamReply, StreamSetting, StreamState, ask_is_empty, ask_len, ask_position, consume, fill_buf, flush, read, read_to_end, seek, set_len, write}
+use Rattle.cfb_commands.proofs.cfb_rules.LegalRuns.{stream_call_weaker}
+use Rattle.cfb_commands.specs.cfb_mini_sectors.State.{cases_of}
+use Rattle.cfb_commands.specs.cfb_agreement.Files.{Agrees, FileState, SameSetting, is_failed}
+use Rattle.cfb_commands.specs.cfb_stream_window.Windows.{Runs}
+use Rattle.cfb_commands.specs.cfb_path_changes.Answers.{MeansTree, setting_of, state_with}
+use Rattle.cfb_commands.specs.cfb_path_changes.Finding.{StandsAt}
 use Rattle.cfb_compound_file.specs.Stored.{ChangesInTurn, ChangesStream, KeepsRest}
 use Rattle.cfb_compound_file.specs.StreamAnswers.{OpenStream, closed_tree, open_stream_of, run_in, stream_in}
 use Rattle.cfb_commands.specs.Promised.{IsClosedOf, IsOpenSince, IsWorkedOn, LacksRoomAt, LacksRoomFor, StreamKeeps, causes_on, may_come_second, promised}
 use Rattle.cfb_compound_file.proofs.StreamCalls.{at_once}
 use Rattle.cfb_commands.specs.Seen.{seen_as, standing_at}
-use Rattle.cfb_commands.proofs.Before.{same_before, seen_before, setting_same, setting_then, still_named}
+use Rattle.cfb_commands.proofs.Before.{same_before, seen_before, setting_same, still_named}
+use Rattle.cfb_commands.proofs.cfb_agreement.InTurn.{setting-then}
 
 -- ---- a call on a stream
 
@@ -30,7 +31,7 @@ once_by false second entry old new k calm once single = subst (λ (z : FileState
 
 module _ (can_give : MediumFault → Bool) (first opened : FileState) (path : List ℕ) (old new : OpenStream) (tree : Tree) (same : SameSetting first opened) (since : IsOpenSince opened path old) where
   setting : SameSetting first old.file
-  setting = setting_then first opened old.file same since.rest.setting
+  setting = setting-then first opened old.file same since.rest.setting
 
   keeps : (call : StreamCall) (reply : StreamReply) → IsWorkedOn old call reply new → StreamKeeps (names_at path) ((stream_in old).pending && may_come_second call) old.file new.file
   keeps call reply w = record {

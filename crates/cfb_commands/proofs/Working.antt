@@ -6,14 +6,14 @@ use Rattle.cfb_format.specs.declared.error.Error.TheVariants.{Full}
 use Rattle.cfb_format.specs.declared.medium.MediumFault.{MediumFault}
 use Rattle.cfb_format.specs.Refused.{CountsFailure}
 use Rattle.cfb_format.specs.Tree.{Tree}
-use Rattle.cfb_rules.specs.Lists.{names_at}
-use Rattle.cfb_rules.specs.Refusal.{Refusal}
-use Rattle.cfb_rules.specs.Runs.{Closes}
-use Rattle.cfb_rules.specs.StreamCalls.{StreamCall}
-use Rattle.cfb_rules.specs.StreamCalls as rules
-use Rattle.cfb_sequences.proofs.Lists.{stream-calls-go-on}
-use Rattle.cfb_agreement.specs.Files.{FileState, SameSetting, failures_of, is_failed}
-use Rattle.cfb_path_changes.specs.Answers.{causes_of, setting_of}
+use Rattle.cfb_commands.specs.cfb_rules.Lists.{names_at}
+use Rattle.cfb_commands.specs.cfb_rules.Refusal.{Refusal}
+use Rattle.cfb_commands.specs.cfb_rules.Runs.{Closes}
+use Rattle.cfb_commands.specs.cfb_rules.StreamCalls.{StreamCall}
+use Rattle.cfb_commands.specs.cfb_rules.StreamCalls as rules
+use Rattle.cfb_commands.proofs.cfb_sequences.Lists.{stream-calls-go-on}
+use Rattle.cfb_commands.specs.cfb_agreement.Files.{FileState, SameSetting, failures_of, is_failed}
+use Rattle.cfb_commands.specs.cfb_path_changes.Answers.{causes_of, setting_of}
 use Rattle.cfb_compound_file.specs.Stored.{ChangesStream, KeepsRest}
 use Rattle.cfb_compound_file.specs.StreamAnswers.{ClosesTree, IsClosingRefused, LacksRoomToWriteOut, OpenStream, run_in, stream_in}
 use Rattle.cfb_commands.specs.Promised.{IsClosedOf, IsOpenSince, IsWorkedOn, promised}

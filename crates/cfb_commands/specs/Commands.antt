@@ -2,14 +2,14 @@
 use Rattle.std.specs.Prelude.{Vec, Option, Some, None, Result, Ok, Err, chars, map, string_bytes}
 use Rattle.cfb_format.specs.declared.error.Error.{Error}
 use Rattle.cfb_format.specs.declared.error.Error.TheVariants as error
-use Rattle.cfb_rules.specs.Calls.{Reply, create_storage, create_storage_all, done, entries, entry, exists, flag, is_storage, is_stream, one_entry, read_storage, refused, remove_storage, remove_storage_all, remove_stream, set_created_time, set_modified_time, set_state_bits, set_storage_clsid, touch, walk_storage}
-use Rattle.cfb_rules.specs.Calls as calls
-use Rattle.cfb_rules.specs.Lists.{CommandReply, by_path, creates, creates_new, on_stream, opens, replied, streamed}
-use Rattle.cfb_rules.specs.Lists as rules
-use Rattle.cfb_rules.specs.Refusal.{Refusal, already_exists, failed_earlier, file_full, invalid_data, invalid_input, medium_failed, not_found, not_sound, out_of_memory}
-use Rattle.cfb_rules.specs.StreamCalls.{StreamCall, ask_len, ask_position, count, got, not_done, offset, read, read_to_end, ready, seek, set_len, write}
-use Rattle.cfb_rules.specs.StreamCalls as streams
-use Rattle.cfb_stream_window.specs.Windows.{whence_of}
+use Rattle.cfb_commands.specs.cfb_rules.Calls.{Reply, create_storage, create_storage_all, done, entries, entry, exists, flag, is_storage, is_stream, one_entry, read_storage, refused, remove_storage, remove_storage_all, remove_stream, set_created_time, set_modified_time, set_state_bits, set_storage_clsid, touch, walk_storage}
+use Rattle.cfb_commands.specs.cfb_rules.Calls as calls
+use Rattle.cfb_commands.specs.cfb_rules.Lists.{CommandReply, by_path, creates, creates_new, on_stream, opens, replied, streamed}
+use Rattle.cfb_commands.specs.cfb_rules.Lists as rules
+use Rattle.cfb_commands.specs.cfb_rules.Refusal.{Refusal, already_exists, failed_earlier, file_full, invalid_data, invalid_input, medium_failed, not_found, not_sound, out_of_memory}
+use Rattle.cfb_commands.specs.cfb_rules.StreamCalls.{StreamCall, ask_len, ask_position, count, got, not_done, offset, read, read_to_end, ready, seek, set_len, write}
+use Rattle.cfb_commands.specs.cfb_rules.StreamCalls as streams
+use Rattle.cfb_commands.specs.cfb_stream_window.Windows.{whence_of}
 use Rattle.cfb_commands.specs.declared.command.Opening.{Opening}
 use Rattle.cfb_commands.specs.declared.command.Opening.TheVariants as opening
 use Rattle.cfb_commands.specs.declared.command.StreamOp.{StreamOp}

@@ -1,10 +1,10 @@
 -- What commands are answered once a file has failed, and how what only looks is refused on any file.
 use Rattle.std.specs.Prelude.{◌≡◌, ◌||◌, Bool, true, false, IfErr, IsTrue, List, [], ◌∷◌, Option, is_some, ⊤}
-use Rattle.cfb_rules.specs.Calls.{Call, Reply, done, entries, flag, flush, one_entry, refused}
-use Rattle.cfb_rules.specs.Lists.{Command, CommandReply, by_path, on_stream, replied, streamed}
-use Rattle.cfb_rules.specs.Refusal.{Refusal, already_exists, failed_earlier, file_full, invalid_data, invalid_input, medium_failed, not_found, not_sound, out_of_memory}
-use Rattle.cfb_rules.specs.Steps.{CallKind, asking, asking_freely, changing, creating, emptying, flushing, kind_of, opening, opening_to_read}
-use Rattle.cfb_agreement.specs.Files.{FileState, is_failed}
+use Rattle.cfb_commands.specs.cfb_rules.Calls.{Call, Reply, done, entries, flag, flush, one_entry, refused}
+use Rattle.cfb_commands.specs.cfb_rules.Lists.{Command, CommandReply, by_path, on_stream, replied, streamed}
+use Rattle.cfb_commands.specs.cfb_rules.Refusal.{Refusal, already_exists, failed_earlier, file_full, invalid_data, invalid_input, medium_failed, not_found, not_sound, out_of_memory}
+use Rattle.cfb_commands.specs.cfb_rules.Steps.{CallKind, asking, asking_freely, changing, creating, emptying, flushing, kind_of, opening, opening_to_read}
+use Rattle.cfb_commands.specs.cfb_agreement.Files.{FileState, is_failed}
 use Rattle.cfb_compound_file.specs.Asking.{IsOfAsking}
 use Rattle.cfb_commands.specs.declared.command.Reply.{Reply as TheReply}
 use Rattle.cfb_commands.specs.declared.command.Reply.TheVariants as reply

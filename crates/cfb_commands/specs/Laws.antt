@@ -3,15 +3,15 @@ use Rattle.std.specs.Prelude.{ℕ, ◌≡◌, Bool, true, false, List, Option}
 use Rattle.cfb_format.specs.declared.medium.MediumFault.{MediumFault}
 use Rattle.cfb_format.specs.Reading.{IsOutline, Outline}
 use Rattle.cfb_format.specs.Tree.{Tree}
-use Rattle.cfb_rules.specs.Calls.{Call, Reply}
-use Rattle.cfb_rules.specs.Lists.{CallStep, ClosingStep, Command, CommandReply, IsLegalRun, StreamCallStep, names_at}
-use Rattle.cfb_rules.specs.Refusal.{Refusal}
-use Rattle.cfb_rules.specs.Runs.{Setting}
-use Rattle.cfb_rules.specs.StreamCalls.{StreamCall, StreamReply}
-use Rattle.cfb_objects.specs.Balance.{AreLow}
-use Rattle.cfb_mini_sectors.specs.State.{cases_of, entries_of}
-use Rattle.cfb_agreement.specs.Files.{Agrees, FileState, IsAsMade, SameSetting, is_failed}
-use Rattle.cfb_path_changes.specs.Answers.{MeansTree, setting_of}
+use Rattle.cfb_commands.specs.cfb_rules.Calls.{Call, Reply}
+use Rattle.cfb_commands.specs.cfb_rules.Lists.{CallStep, ClosingStep, Command, CommandReply, IsLegalRun, StreamCallStep, names_at}
+use Rattle.cfb_commands.specs.cfb_rules.Refusal.{Refusal}
+use Rattle.cfb_commands.specs.cfb_rules.Runs.{Setting}
+use Rattle.cfb_commands.specs.cfb_rules.StreamCalls.{StreamCall, StreamReply}
+use Rattle.cfb_commands.specs.cfb_objects.Balance.{AreLow}
+use Rattle.cfb_commands.specs.cfb_mini_sectors.State.{cases_of, entries_of}
+use Rattle.cfb_commands.specs.cfb_agreement.Files.{Agrees, FileState, IsAsMade, SameSetting, is_failed}
+use Rattle.cfb_commands.specs.cfb_path_changes.Answers.{MeansTree, setting_of}
 use Rattle.cfb_compound_file.specs.StreamAnswers.{OpenStream, stream_in}
 use Rattle.cfb_commands.specs.Promised.{CallKeeps, IsClosedOf, IsOpenSince, IsWorkedOn, promised}
 use Rattle.cfb_commands.specs.Made.{StaysMade}

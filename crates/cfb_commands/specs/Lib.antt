@@ -1,3 +1,15 @@
+pub use Rattle.cfb_compound_file.specs.cfb_siblings
+pub use Rattle.cfb_compound_file.specs.cfb_directory
+pub use Rattle.cfb_compound_file.specs.cfb_mini_sectors
+pub use Rattle.cfb_listing.specs.cfb_rules
+pub use Rattle.cfb_compound_file.specs.cfb_stream_buffer
+pub use Rattle.cfb_compound_file.specs.cfb_stream_window
+pub use Rattle.cfb_compound_file.specs.cfb_objects
+pub use Rattle.cfb_compound_file.specs.cfb_content
+pub use Rattle.cfb_compound_file.specs.cfb_agreement
+pub use Rattle.cfb_compound_file.specs.cfb_opening
+pub use Rattle.cfb_compound_file.specs.cfb_path_changes
+pub use Rattle.cfb_compound_file.specs as cfb_compound_file
 pub mod Seen
 pub mod Promised
 pub mod Made

@@ -3,16 +3,16 @@ use Rattle.std.specs.Prelude.{ℕ, ◌≡◌, ◌⊎◌, ◌&&◌, Bool, List, O
 use Rattle.cfb_format.specs.declared.error.Error.{Error}
 use Rattle.cfb_format.specs.declared.error.Error.TheVariants.{Full}
 use Rattle.cfb_format.specs.declared.medium.MediumFault.{MediumFault}
-use Rattle.cfb_rules.specs.Calls.{Call, Reply, create_storage_all, done, entries, flag, one_entry, refused}
-use Rattle.cfb_rules.specs.Lists.{Deed, LeavesFile, by_call, by_closing, by_stream_call, closing_blame, stream_reply_blame}
-use Rattle.cfb_rules.specs.Refusal.{IsRefusal, Refusal, file_full, medium_failed}
-use Rattle.cfb_rules.specs.Runs.{Causes, Closes}
-use Rattle.cfb_rules.specs.Steps.{CallKind, asking, asking_freely, changing, creating, emptying, flushing, kind_of, opening, opening_to_read}
-use Rattle.cfb_rules.specs.StreamCalls.{StreamCall, StreamReply, StreamState, ask_is_empty, ask_len, ask_position, consume, fill_buf, flush, not_done, read, read_to_end, seek, set_len, write}
-use Rattle.cfb_agreement.specs.Files.{FileState, IsAsBefore, failures_of, is_failed}
-use Rattle.cfb_stream_window.specs.Windows.{Window}
-use Rattle.cfb_path_changes.specs.Answers.{Answers, IsDoneBy, IsRefusedBy, IsRefusedInTurn, LacksRoomOnTheWay, causes_of}
-use Rattle.cfb_path_changes.specs.Finding.{LeadTo, StandsAt}
+use Rattle.cfb_commands.specs.cfb_rules.Calls.{Call, Reply, create_storage_all, done, entries, flag, one_entry, refused}
+use Rattle.cfb_commands.specs.cfb_rules.Lists.{Deed, LeavesFile, by_call, by_closing, by_stream_call, closing_blame, stream_reply_blame}
+use Rattle.cfb_commands.specs.cfb_rules.Refusal.{IsRefusal, Refusal, file_full, medium_failed}
+use Rattle.cfb_commands.specs.cfb_rules.Runs.{Causes, Closes}
+use Rattle.cfb_commands.specs.cfb_rules.Steps.{CallKind, asking, asking_freely, changing, creating, emptying, flushing, kind_of, opening, opening_to_read}
+use Rattle.cfb_commands.specs.cfb_rules.StreamCalls.{StreamCall, StreamReply, StreamState, ask_is_empty, ask_len, ask_position, consume, fill_buf, flush, not_done, read, read_to_end, seek, set_len, write}
+use Rattle.cfb_commands.specs.cfb_agreement.Files.{FileState, IsAsBefore, failures_of, is_failed}
+use Rattle.cfb_commands.specs.cfb_stream_window.Windows.{Window}
+use Rattle.cfb_commands.specs.cfb_path_changes.Answers.{Answers, IsDoneBy, IsRefusedBy, IsRefusedInTurn, LacksRoomOnTheWay, causes_of}
+use Rattle.cfb_commands.specs.cfb_path_changes.Finding.{LeadTo, StandsAt}
 use Rattle.cfb_compound_file.specs.Stored.{ChangesInTurn, ChangesStream, KeepsRest}
 use Rattle.cfb_compound_file.specs.StreamAnswers.{ClosesTree, GoesOnInTurn, LacksRoomToWrite, LacksRoomToWriteOut, LosesRoomBetween, OpenStream, StreamRunsBy, causes_of_len, open_stream_of, run_in, stream_in}
 use Rattle.cfb_commands.specs.Seen.{Standing}
@@ -20,21 +20,21 @@ use Rattle.cfb_commands.specs.Seen.{Standing}
 -- ---- calls by path
 
 -- a question, or the opening of a stream, was answered so, and changes nothing
-pub record Asks (old : FileState) (call : Call) (reply : Reply) (new : FileState) : Type 0 where
+pub record IsAnswered (old : FileState) (call : Call) (reply : Reply) (new : FileState) : Type 0 where
   pub same : new ≡ old
   pub answers : Answers old call reply
 
 module _ (can_give : MediumFault → Bool) where
   -- a call that may change the file was refused; one that makes storages in turn can lack numbers for a later one, by the file between
-  abbrev pub Refuses : FileState → Call → FileState → Error → Type 0
-  Refuses old (create_storage_all path moment) new e =
+  abbrev pub RefusesChange : FileState → Call → FileState → Error → Type 0
+  RefusesChange old (create_storage_all path moment) new e =
       IsRefusedInTurn can_give old (create_storage_all path moment) new e × (e ≡ Full → LacksRoomOnTheWay old path moment new)
-  Refuses old call new e = IsRefusedBy can_give old call new e
+  RefusesChange old call new e = IsRefusedBy can_give old call new e
 
   -- it was done, or it was refused by some error of this kind; no other reply comes
   abbrev pub Changes : FileState → Call → Reply → FileState → Type 0
   Changes old call done new = IsDoneBy old call done new
-  Changes old call (refused refusal) new = (e : Error) × IsRefusal refusal e × Refuses old call new e
+  Changes old call (refused refusal) new = (e : Error) × IsRefusal refusal e × RefusesChange old call new e
   Changes old call (flag b) new = ⊥
   Changes old call (one_entry e) new = ⊥
   Changes old call (entries es) new = ⊥
@@ -50,10 +50,10 @@ module _ (can_give : MediumFault → Bool) where
   IsKeptBy emptying old call reply new = Changes old call reply new
   IsKeptBy changing old call reply new = Changes old call reply new
   IsKeptBy flushing old call reply new = HandsOn old call reply new
-  IsKeptBy opening old call reply new = Asks old call reply new
-  IsKeptBy opening_to_read old call reply new = Asks old call reply new
-  IsKeptBy asking old call reply new = Asks old call reply new
-  IsKeptBy asking_freely old call reply new = Asks old call reply new
+  IsKeptBy opening old call reply new = IsAnswered old call reply new
+  IsKeptBy opening_to_read old call reply new = IsAnswered old call reply new
+  IsKeptBy asking old call reply new = IsAnswered old call reply new
+  IsKeptBy asking_freely old call reply new = IsAnswered old call reply new
 
   -- what each call promises
   abbrev pub CallKeeps : FileState → Call → Reply → FileState → Type 0

@@ -1,12 +1,12 @@
 -- A file between two commands, as the rules of calls see it.
 use Rattle.std.specs.Prelude.{ℕ, List, Some}
 use Rattle.cfb_format.specs.Tree.{Tree}
-use Rattle.cfb_rules.specs.Lists.{FileView}
-use Rattle.cfb_directory.specs.State.{IsFullForEntry}
-use Rattle.cfb_content.specs.Contents.{IsTooLongFor}
-use Rattle.cfb_agreement.specs.Files.{FileState, IsFullFile, failures_of}
-use Rattle.cfb_path_changes.specs.Answers.{state_with}
-use Rattle.cfb_path_changes.specs.Finding.{LeadTo}
+use Rattle.cfb_commands.specs.cfb_rules.Lists.{FileView}
+use Rattle.cfb_commands.specs.cfb_directory.State.{IsFullForEntry}
+use Rattle.cfb_commands.specs.cfb_content.Contents.{IsTooLongFor}
+use Rattle.cfb_commands.specs.cfb_agreement.Files.{FileState, IsFullFile, failures_of}
+use Rattle.cfb_commands.specs.cfb_path_changes.Answers.{state_with}
+use Rattle.cfb_commands.specs.cfb_path_changes.Finding.{LeadTo}
 
 -- what is in memory and on the medium, and the tree that its bytes mean
 pub record Standing : Type 0 where

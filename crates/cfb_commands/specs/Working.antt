@@ -2,11 +2,11 @@
 use Rattle.std.specs.Prelude.{ℕ, ◌≡◌, Bool, List, false}
 use Rattle.cfb_format.specs.declared.medium.MediumFault.{MediumFault}
 use Rattle.cfb_format.specs.Tree.{Tree}
-use Rattle.cfb_rules.specs.Calls.{Call, done}
-use Rattle.cfb_rules.specs.Lists.{Command, CommandReply, CommandRuns, IsLegalRun, StreamCallsRun, names_at}
-use Rattle.cfb_rules.specs.StreamCalls.{StreamCall, StreamReply}
-use Rattle.cfb_agreement.specs.Files.{Agrees, FileState, SameSetting, is_failed}
-use Rattle.cfb_path_changes.specs.Answers.{MeansTree, setting_of}
+use Rattle.cfb_commands.specs.cfb_rules.Calls.{Call, done}
+use Rattle.cfb_commands.specs.cfb_rules.Lists.{Command, CommandReply, CommandRuns, IsLegalRun, StreamCallsRun, names_at}
+use Rattle.cfb_commands.specs.cfb_rules.StreamCalls.{StreamCall, StreamReply}
+use Rattle.cfb_commands.specs.cfb_agreement.Files.{Agrees, FileState, SameSetting, is_failed}
+use Rattle.cfb_commands.specs.cfb_path_changes.Answers.{MeansTree, setting_of}
 use Rattle.cfb_compound_file.specs.OpenedStreams.{BeginsAt}
 use Rattle.cfb_compound_file.specs.StreamAnswers.{OpenStream, stream_in}
 use Rattle.cfb_commands.specs.Promised.{CallKeeps, IsOpenSince, promised}
@@ -33,8 +33,8 @@ module _ (can_give : MediumFault → Bool) where
     pub lends : LendsNothing now
 
   -- from a file whose bytes mean any tree, one command leads to one whose bytes mean a tree, by the rules
-  abbrev pub Answers : FileState → Command → CommandReply → FileState → Type 0
-  Answers old command reply new = (first : FileState) (tree : Tree) → SameSetting first old → MeansTree old tree → (after : Tree) × MeansTree new after
+  abbrev pub AnswersCommand : FileState → Command → CommandReply → FileState → Type 0
+  AnswersCommand old command reply new = (first : FileState) (tree : Tree) → SameSetting first old → MeansTree old tree → (after : Tree) × MeansTree new after
       × CommandRuns seen_as (promised can_give) (setting_of first) (standing_at old tree) command reply (standing_at new after)
 
   -- and so does a list of them

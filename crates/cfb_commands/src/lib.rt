@@ -7,3 +7,7 @@ pub mod laws;
 mod queries;
 pub mod run;
 mod streams;
+
+// What crates above name of those below.
+pub use cfb_compound_file::compound_file::CompoundFile;
+pub use cfb_compound_file::stream::Stream;

@@ -1,8 +1,8 @@
 //! What is listed of a storage, taken into a list of its own.
 ghost use Rattle.std.specs.Prelude.{IfErr, IsTrue, chars};
 ghost use Rattle.cfb_compound_file.specs.Asking.{IsOfAsking};
-ghost use Rattle.cfb_path_changes.specs.Answers.{Answers};
-ghost use Rattle.cfb_rules.specs.Calls.{entries, read_storage, walk_storage};
+ghost use Rattle.cfb_commands.specs.cfb_path_changes.Answers.{Answers};
+ghost use Rattle.cfb_commands.specs.cfb_rules.Calls.{entries, read_storage, walk_storage};
 ghost use Rattle.cfb_commands.specs.Commands.{call_answer};
 
 use cfb_compound_file::compound_file::CompoundFile;

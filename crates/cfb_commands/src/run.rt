@@ -1,12 +1,12 @@
 //! Commands are done one after the other.
 ghost use Rattle.std.specs.Prelude.{◌≡◌, ◌≤◌, ◌+◌, ◌||◌, true, All, IsTrue, drop, length, map, take, vec_capacity};
-ghost use Rattle.cfb_agreement.specs.Files.{is_failed};
+ghost use Rattle.cfb_commands.specs.cfb_agreement.Files.{is_failed};
 ghost use Rattle.cfb_commands.specs.Commands.{command_of, reply_of};
 ghost use Rattle.cfb_commands.specs.Failing.{IsAsked, OnceFailed};
 ghost use Rattle.cfb_commands.specs.Faults.{IsGiven};
 ghost use Rattle.cfb_commands.specs.Kinds.{AreOfKinds, IsOfKind, kind_of_command};
 ghost use Rattle.cfb_commands.specs.Made.{StaysMade};
-ghost use Rattle.cfb_commands.specs.Working.{Answers, RunsLegally};
+ghost use Rattle.cfb_commands.specs.Working.{AnswersCommand, RunsLegally};
 
 use crate::command::{Command, Reply};
 use crate::queries::{read_list, walk_list};
@@ -24,7 +24,7 @@ fn run_one<F: Medium, A: Heap + Clone>(
     ensures of_kind { IsOfKind (kind_of_command command.now) result }
     ensures asked { IsAsked result }
     ensures given { IsTrue F.tells → IsGiven (λ f. F.read_faults f || F.write_faults f) result }
-    ensures answers { IsTrue F.tells → Answers (λ f. F.read_faults f || F.write_faults f) file.old
+    ensures answers { IsTrue F.tells → AnswersCommand (λ f. F.read_faults f || F.write_faults f) file.old
         (command_of command.now) (reply_of result) file.new }
 {
     match command {

@@ -1,17 +1,17 @@
 //! What is done with one stream, from its opening to its closing.
 ghost use Rattle.std.specs.Prelude.{◌≡◌, ◌≤◌, ◌||◌, ℕ, All, List, [], IfErr, IfOk, IsTrue, length, map, chars, vec_capacity};
 ghost use Rattle.std.specs.Borrow.{sem};
-ghost use Rattle.cfb_agreement.specs.Files.{FileState, SameSetting};
+ghost use Rattle.cfb_commands.specs.cfb_agreement.Files.{FileState, SameSetting};
 ghost use Rattle.cfb_commands.specs.Promised.{CallKeeps, IsOpenSince, IsWorkedOn};
 ghost use Rattle.cfb_compound_file.specs.Streams.{file_of, file_rests, open_of};
 ghost use Rattle.cfb_format.specs.Tree.{Tree};
-ghost use Rattle.cfb_rules.specs.Calls.{refused};
-ghost use Rattle.cfb_rules.specs.Lists.{on_stream, opening_call};
-ghost use Rattle.cfb_rules.specs.StreamCalls.{got, read, read_to_end};
+ghost use Rattle.cfb_commands.specs.cfb_rules.Calls.{refused};
+ghost use Rattle.cfb_commands.specs.cfb_rules.Lists.{on_stream, opening_call};
+ghost use Rattle.cfb_commands.specs.cfb_rules.StreamCalls.{got, read, read_to_end};
 ghost use Rattle.cfb_commands.specs.Commands.{opening_of, refusal_of, stream_answer, stream_call_of, stream_reply_of, streamed_reply};
 ghost use Rattle.cfb_commands.specs.Faults.{CanBeGiven, IsAnswerGiven, IsWorkGiven};
 ghost use Rattle.cfb_commands.specs.Kinds.{kind_of_answer, kind_of_op};
-ghost use Rattle.cfb_commands.specs.Working.{Answers, IsOpenedBy, LendsNothing, Works};
+ghost use Rattle.cfb_commands.specs.Working.{AnswersCommand, IsOpenedBy, LendsNothing, Works};
 
 use crate::command::{Opening, StreamOp, StreamReply};
 use cfb_compound_file::compound_file::CompoundFile;
@@ -155,7 +155,7 @@ pub(crate) fn run_on_stream<F: Medium, A: Heap + Clone>(
         map kind_of_answer works.0.items ≡ map kind_of_op ops.now) }
     ensures given { IsTrue F.tells
         → IsWorkGiven (λ f. F.read_faults f || F.write_faults f) result }
-    ensures answers { IsTrue F.tells → Answers (λ f. F.read_faults f || F.write_faults f) file.old
+    ensures answers { IsTrue F.tells → AnswersCommand (λ f. F.read_faults f || F.write_faults f) file.old
         (on_stream (opening_of how) (chars path.now) (map stream_call_of ops.now))
         (streamed_reply result) file.new }
 {

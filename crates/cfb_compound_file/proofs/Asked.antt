@@ -12,18 +12,18 @@ use Rattle.cfb_format.specs.Refused.{number_of}
 use Rattle.cfb_format.specs.Siblings.{entry_at}
 use Rattle.cfb_format.specs.Tree.{Tree}
 use Rattle.cfb_format.proofs.Unique.{Means-unique}
-use Rattle.cfb_rules.specs.Calls.{Call, Reply, entry, exists, is_storage, is_stream, read_root_storage, read_storage, refused, root_entry, walk, walk_storage}
-use Rattle.cfb_rules.specs.CallChanges.{tree_after}
-use Rattle.cfb_rules.specs.CallRefusals.{always, is_a_storage, object_refusal, refusal_of}
-use Rattle.cfb_rules.specs.CallReplies.{reply_of}
-use Rattle.cfb_rules.specs.Finding.{object_at}
-use Rattle.cfb_rules.specs.Refusal.{Refusal, invalid_input, not_found, out_of_memory}
-use Rattle.cfb_rules.specs.Runs.{CallBreaksOff, FollowsRules, HasCause, IsBroken, MayBreak, OnFailed}
-use Rattle.cfb_rules.specs.Steps.{CallKind, Step, asking, asking_freely, kind_of, unsound_refusal}
-use Rattle.cfb_objects.specs.Objects.{object_of, tree_from}
-use Rattle.cfb_objects.proofs.Facts.{root-has-its-name}
-use Rattle.cfb_objects.proofs.Found.{object-is-at-its-entry}
-use Rattle.cfb_mini_sectors.specs.State.{bytes_of, cases_of, content_of, entries_of, reading_of, root_len_of}
+use Rattle.cfb_compound_file.specs.cfb_rules.Calls.{Call, Reply, entry, exists, is_storage, is_stream, read_root_storage, read_storage, refused, root_entry, walk, walk_storage}
+use Rattle.cfb_compound_file.specs.cfb_rules.CallChanges.{tree_after}
+use Rattle.cfb_compound_file.specs.cfb_rules.CallRefusals.{always, is_a_storage, object_refusal, refusal_of}
+use Rattle.cfb_compound_file.specs.cfb_rules.CallReplies.{reply_of}
+use Rattle.cfb_compound_file.specs.cfb_rules.Finding.{object_at}
+use Rattle.cfb_compound_file.specs.cfb_rules.Refusal.{Refusal, invalid_input, not_found, out_of_memory}
+use Rattle.cfb_compound_file.specs.cfb_rules.Runs.{CallBreaksOff, FollowsRules, HasCause, IsBroken, MayBreak, OnFailed}
+use Rattle.cfb_compound_file.specs.cfb_rules.Steps.{CallKind, Step, asking, asking_freely, kind_of, unsound_refusal}
+use Rattle.cfb_compound_file.specs.cfb_objects.Objects.{object_of, tree_from}
+use Rattle.cfb_compound_file.proofs.cfb_objects.Facts.{root-has-its-name}
+use Rattle.cfb_compound_file.proofs.cfb_objects.Found.{object-is-at-its-entry}
+use Rattle.cfb_compound_file.specs.cfb_mini_sectors.State.{bytes_of, cases_of, content_of, entries_of, reading_of, root_len_of}
 use Rattle.cfb_agreement.specs.Files.{Agrees, FileState, is_failed}
 use Rattle.cfb_agreement.proofs.HeldBytes.{held-means-its-tree}
 use Rattle.cfb_path_changes.proofs.CallKinds.{kind_same}

@@ -6,15 +6,15 @@ use Rattle.cfb_format.specs.Path.{names_of_path}
 use Rattle.cfb_format.specs.Siblings.{entry_at}
 use Rattle.cfb_format.specs.Tree.{Object, Tree, a_stream}
 use Rattle.cfb_format.proofs.Unique.{Means-unique}
-use Rattle.cfb_rules.specs.CallChanges.{new_stream}
-use Rattle.cfb_rules.specs.Finding.{object_at}
-use Rattle.cfb_rules.specs.Runs.{opened_by_path, stream_fields}
-use Rattle.cfb_rules.specs.StreamCalls.{opened}
-use Rattle.cfb_trees.proofs.Members.{streams-are-by-kind}
-use Rattle.cfb_objects.specs.Objects.{object_of, tree_from}
-use Rattle.cfb_objects.proofs.Found.{object-is-at-its-path, stream-by-kind}
-use Rattle.cfb_mini_sectors.specs.State.{bytes_of, cases_of, content_of, entries_of}
-use Rattle.cfb_content.specs.Contents.{IsStreamOf, len_of}
+use Rattle.cfb_compound_file.specs.cfb_rules.CallChanges.{new_stream}
+use Rattle.cfb_compound_file.specs.cfb_rules.Finding.{object_at}
+use Rattle.cfb_compound_file.specs.cfb_rules.Runs.{opened_by_path, stream_fields}
+use Rattle.cfb_compound_file.specs.cfb_rules.StreamCalls.{opened}
+use Rattle.cfb_compound_file.proofs.cfb_trees.Members.{streams-are-by-kind}
+use Rattle.cfb_compound_file.specs.cfb_objects.Objects.{object_of, tree_from}
+use Rattle.cfb_compound_file.proofs.cfb_objects.Found.{object-is-at-its-path, stream-by-kind}
+use Rattle.cfb_compound_file.specs.cfb_mini_sectors.State.{bytes_of, cases_of, content_of, entries_of}
+use Rattle.cfb_compound_file.specs.cfb_content.Contents.{IsStreamOf, len_of}
 use Rattle.cfb_agreement.specs.Files.{Agrees, FileState, is_failed}
 use Rattle.cfb_agreement.proofs.HeldBytes.{held-means-its-tree}
 use Rattle.cfb_stream_buffer.proofs.Lists.{laid-nothing}

@@ -9,18 +9,18 @@ use Rattle.cfb_format.specs.Reading.{Outline, numbers, stream_numbers}
 use Rattle.cfb_format.specs.Siblings.{entry_at}
 use Rattle.cfb_format.specs.Tree.{Object, Tree, a_stream}
 use Rattle.cfb_format.proofs.Unique.{Means-unique}
-use Rattle.cfb_rules.specs.CallRefusals.{is_a_stream, object_refusal, unless}
-use Rattle.cfb_rules.specs.Finding.{object_at}
-use Rattle.cfb_rules.specs.Refusal.{invalid_input, not_found}
-use Rattle.cfb_siblings.specs.Paths.{number_at_path}
-use Rattle.cfb_siblings.proofs.Tallies.{counted, present}
-use Rattle.cfb_trees.specs.Reached.{IsReached}
-use Rattle.cfb_trees.proofs.Members.{of-stream-kind}
-use Rattle.cfb_entries.specs.EntryList.{AreInOrder}
-use Rattle.cfb_objects.specs.Objects.{object_of, tree_from}
-use Rattle.cfb_objects.proofs.Found.{object-is-at-its-path, storage-by-kind, stream-by-kind}
-use Rattle.cfb_mini_sectors.specs.State.{MiniState, bytes_of, cases_of, content_of, entries_of}
-use Rattle.cfb_content.specs.Contents.{IsStreamOf}
+use Rattle.cfb_compound_file.specs.cfb_rules.CallRefusals.{is_a_stream, object_refusal, unless}
+use Rattle.cfb_compound_file.specs.cfb_rules.Finding.{object_at}
+use Rattle.cfb_compound_file.specs.cfb_rules.Refusal.{invalid_input, not_found}
+use Rattle.cfb_compound_file.specs.cfb_siblings.Paths.{number_at_path}
+use Rattle.cfb_compound_file.proofs.cfb_siblings.Tallies.{counted, present}
+use Rattle.cfb_compound_file.specs.cfb_trees.Reached.{IsReached}
+use Rattle.cfb_compound_file.proofs.cfb_trees.Members.{of-stream-kind}
+use Rattle.cfb_compound_file.specs.cfb_entries.EntryList.{AreInOrder}
+use Rattle.cfb_compound_file.specs.cfb_objects.Objects.{object_of, tree_from}
+use Rattle.cfb_compound_file.proofs.cfb_objects.Found.{object-is-at-its-path, storage-by-kind, stream-by-kind}
+use Rattle.cfb_compound_file.specs.cfb_mini_sectors.State.{MiniState, bytes_of, cases_of, content_of, entries_of}
+use Rattle.cfb_compound_file.specs.cfb_content.Contents.{IsStreamOf}
 use Rattle.cfb_agreement.specs.Files.{FileState, Holds}
 use Rattle.cfb_agreement.proofs.HeldBytes.{held-means-its-tree}
 use Rattle.cfb_compound_file.specs.OpenedStreams.{IsNoStreamAt, StandsNowhere}

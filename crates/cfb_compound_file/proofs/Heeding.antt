@@ -7,7 +7,7 @@ use Rattle.std.proofs.lemmas.Result.{on_ok_weaker}
 use Rattle.cfb_format.specs.declared.error.Error.{Error}
 use Rattle.cfb_format.specs.declared.version.Version.{Version}
 use Rattle.cfb_format.specs.Names.{Cases}
-use Rattle.cfb_mini_sectors.specs.State.{cases_of, tables_in, version_of}
+use Rattle.cfb_compound_file.specs.cfb_mini_sectors.State.{cases_of, tables_in, version_of}
 use Rattle.cfb_agreement.specs.Files.{FileState, SameSetting, is_failed}
 use Rattle.cfb_stream_buffer.specs.Contents.{KeepsFlags}
 use Rattle.cfb_stream_window.specs.Windows.{Window}

@@ -13,17 +13,17 @@ use Rattle.cfb_format.specs.Names.{Cases}
 use Rattle.cfb_format.specs.Path.{names_of_path}
 use Rattle.cfb_format.specs.Reading.{IsOutline, Outline}
 use Rattle.cfb_format.specs.Siblings.{entry_at}
-use Rattle.cfb_outline.specs.Outlines.{IsReachedStorage}
-use Rattle.cfb_trees.specs.Reached.{IsReached}
-use Rattle.cfb_trees.proofs.Members.{reached-is-within}
-use Rattle.cfb_trees.proofs.PathReached.{found-is-reached}
-use Rattle.cfb_rules.specs.Calls.{Call, EntryInfo}
-use Rattle.cfb_listing.specs.Listings.{ListsChildren}
-use Rattle.cfb_outline.specs.Families.{is_stream_kind}
+use Rattle.cfb_compound_file.specs.cfb_outline.Outlines.{IsReachedStorage}
+use Rattle.cfb_compound_file.specs.cfb_trees.Reached.{IsReached}
+use Rattle.cfb_compound_file.proofs.cfb_trees.Members.{reached-is-within}
+use Rattle.cfb_compound_file.proofs.cfb_trees.PathReached.{found-is-reached}
+use Rattle.cfb_compound_file.specs.cfb_rules.Calls.{Call, EntryInfo}
+use Rattle.cfb_listing.specs.Listings.{ListsStorage}
+use Rattle.cfb_compound_file.specs.cfb_outline.Families.{is_stream_kind}
 use Rattle.cfb_listing.specs.Told.{entry_info}
-use Rattle.cfb_rules.specs.Steps.{asking, kind_of}
-use Rattle.cfb_entries.specs.EntryList.{AreInOrder}
-use Rattle.cfb_mini_sectors.specs.State.{cases_of, entries_of}
+use Rattle.cfb_compound_file.specs.cfb_rules.Steps.{asking, kind_of}
+use Rattle.cfb_compound_file.specs.cfb_entries.EntryList.{AreInOrder}
+use Rattle.cfb_compound_file.specs.cfb_mini_sectors.State.{cases_of, entries_of}
 use Rattle.cfb_agreement.specs.Files.{FileState}
 use Rattle.cfb_path_changes.specs.Answers.{AnswersNot}
 use Rattle.cfb_path_changes.specs.Finding.{IsObjectOf, IsStorageOf, kind_found}
@@ -73,10 +73,10 @@ told-by es es' path wanted k (Err e) same says is = tt
 
 -- the list has what was listed, of the same entries and under the same path
 pub lists-by : (es es' : List Entry) (path asked wanted : List ℕ) (k : ℕ) (list left : List EntryInfo) → es ≡ es' → path ≡ asked → asked ≡ wanted → left ≡ list
-    → ListsChildren es path k list → ListsChildren es' wanted k left
+    → ListsStorage es path k list → ListsStorage es' wanted k left
 lists-by es es' path asked wanted k list left same is says kept lists =
-    subst (λ (x : List EntryInfo). ListsChildren es' wanted k x) (sym kept)
-    (subst (λ (p : List ℕ). ListsChildren es' p k list) (is ∙ says) (subst (λ (x : List Entry). ListsChildren x path k list) same lists))
+    subst (λ (x : List EntryInfo). ListsStorage es' wanted k x) (sym kept)
+    (subst (λ (p : List ℕ). ListsStorage es' p k list) (is ∙ says) (subst (λ (x : List Entry). ListsStorage x path k list) same lists))
 
 -- ---- the test for a stream
 

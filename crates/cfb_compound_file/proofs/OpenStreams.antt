@@ -5,19 +5,19 @@ use Rattle.cfb_format.specs.Meaning.{Means}
 use Rattle.cfb_format.specs.Names.{Cases}
 use Rattle.cfb_format.specs.Path.{names_of_path}
 use Rattle.cfb_format.specs.Tree.{Tree}
-use Rattle.cfb_rules.specs.CallChanges.{content_changed_at}
-use Rattle.cfb_rules.specs.Runs.{Causes, StreamRun, StreamCallRuns, is_never_refused, is_served}
-use Rattle.cfb_rules.specs.StreamCalls.{StreamCall, StreamReply, StreamSetting, StreamStep}
-use Rattle.cfb_siblings.specs.Paths.{number_from}
-use Rattle.cfb_mini_sectors.specs.State.{bytes_of, cases_of, entries_of}
-use Rattle.cfb_content.specs.Contents.{IsStreamOf}
-use Rattle.cfb_content.proofs.FixedHeader.{header-then}
-use Rattle.cfb_content.proofs.Kept.{others-kept-then}
-use Rattle.cfb_content.proofs.Outlines.{content-moves-then}
-use Rattle.cfb_agreement.specs.Files.{Agrees, FileState, Holds, SameSetting, is_failed}
+use Rattle.cfb_compound_file.specs.cfb_rules.CallChanges.{content_changed_at}
+use Rattle.cfb_compound_file.specs.cfb_rules.Runs.{Causes, StreamRun, StreamCallRuns, is_never_refused, is_served}
+use Rattle.cfb_compound_file.specs.cfb_rules.StreamCalls.{StreamCall, StreamReply, StreamSetting, StreamStep}
+use Rattle.cfb_compound_file.specs.cfb_siblings.Paths.{number_from}
+use Rattle.cfb_compound_file.specs.cfb_mini_sectors.State.{bytes_of, cases_of, entries_of}
+use Rattle.cfb_compound_file.specs.cfb_content.Contents.{IsStreamOf}
+use Rattle.cfb_compound_file.proofs.cfb_content.FixedHeader.{header-then}
+use Rattle.cfb_compound_file.proofs.cfb_content.Kept.{others-kept-then}
+use Rattle.cfb_compound_file.proofs.cfb_content.Outlines.{content-moves-then}
+use Rattle.cfb_agreement.specs.Files.{Agrees, FileState, Holds, is_failed}
 use Rattle.cfb_agreement.proofs.ContentChanges.{content-becomes-tree}
-use Rattle.cfb_agreement.proofs.InTurn.{same-content-is-none}
-use Rattle.cfb_volume.specs.Answers.{content_at}
+use Rattle.cfb_agreement.proofs.InTurn.{same-content-is-none, calm-before, setting-then}
+use Rattle.cfb_compound_file.specs.cfb_volume.Answers.{content_at}
 use Rattle.cfb_path_changes.specs.Answers.{MeansTree}
 use Rattle.cfb_compound_file.specs.Stored.{KeepsAllButStream, KeepsRest}
 use Rattle.cfb_path_changes.specs.Finding.{StandsAt}
@@ -25,32 +25,15 @@ use Rattle.cfb_compound_file.specs.StreamAnswers.{ClosesTree, closed_tree}
 
 -- ---- what was changed in turn
 
-setting_then : (a b c : FileState) → SameSetting a b → SameSetting b c → SameSetting a c
-setting_then a b c p q = record {
-  limits = record {
-    version = q.limits.version ∙ p.limits.version;
-    cases = q.limits.cases ∙ p.limits.cases;
-    max_sectors = q.limits.max_sectors ∙ p.limits.max_sectors;
-    max_mini_sectors = q.limits.max_mini_sectors ∙ p.limits.max_mini_sectors;
-  };
-  is_sound = q.is_sound ∙ p.is_sound;
-  buffer_limit = q.buffer_limit ∙ p.buffer_limit;
-}
-
--- what failed stays failed, so what has not failed had not
-calm_before : (a b : Bool) → (a ≡ true → b ≡ true) → b ≡ false → a ≡ false
-calm_before false b stays calm = refl
-calm_before true b stays calm = absurd (let w : true ≡ false = sym (stays refl) ∙ calm in cc)
-
 pub rest_then : (i : ℕ) (old new first : FileState) → KeepsAllButStream i old new → KeepsRest i first old → KeepsRest i first new
 rest_then i old new first c k = record {
   stream = k.stream;
-  setting = setting_then first old new k.setting c.content.setting;
+  setting = setting-then first old new k.setting c.content.setting;
   entries = content-moves-then first.base old.base new.base i k.entries c.content.entries;
   others = others-kept-then i first.base old.base new.base k.setting.limits k.entries k.others c.content.others;
   header = header-then first.base old.base new.base k.setting.limits.version k.header c.content.header;
   unsound = λ unsound calm.
-      c.unsound (k.setting.is_sound ∙ unsound) calm ∙ k.unsound unsound (calm_before (is_failed old) (is_failed new) c.failed calm);
+      c.unsound (k.setting.is_sound ∙ unsound) calm ∙ k.unsound unsound (calm-before (is_failed old) (is_failed new) c.failed calm);
   failed = λ failed. c.failed (k.failed failed);
 }
 
@@ -93,6 +76,6 @@ module _ (first new : FileState) (i : ℕ) (path : List ℕ) (rest : KeepsRest i
 
 pub closes_tree : (first new : FileState) (i : ℕ) (content : List ℕ) → Agrees new → (is_failed new ≡ false → content_at new i ≡ content) → ClosesTree first i content new
 closes_tree first new i content now bytes = λ (path : List ℕ) (agrees : Agrees first) (rest : KeepsRest i first new) (stands : StandsAt first i path) (tree : Tree) (means : MeansTree first tree) (calm : is_failed new ≡ false).
-    let was = calm_before (is_failed first) (is_failed new) rest.failed calm in
+    let was = calm-before (is_failed first) (is_failed new) rest.failed calm in
     subst (λ (cs : Cases). Means cs (bytes_of new.base) (closed_tree first tree path content)) (sym rest.setting.limits.cases)
     (closed first new i path rest (agrees was) (now calm) stands tree (means was) calm content (bytes calm) first.is_sound refl)

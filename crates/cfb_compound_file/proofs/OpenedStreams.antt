@@ -7,11 +7,11 @@ use Rattle.cfb_format.specs.declared.error.Error.TheVariants.{NotFound, AlreadyE
 use Rattle.cfb_format.specs.Meaning.{Means}
 use Rattle.cfb_format.specs.Names.{Cases}
 use Rattle.cfb_format.specs.Tree.{Tree}
-use Rattle.cfb_rules.specs.Calls.{Call, Reply, done, open_stream, refused}
-use Rattle.cfb_rules.specs.Refusal.{Refusal, failed_earlier, invalid_input, not_found, out_of_memory}
-use Rattle.cfb_rules.specs.Runs.{Causes, MayBreak, OnFailed, TreeState, may_stay}
-use Rattle.cfb_rules.specs.Steps.{Step, kind_of, kind_on}
-use Rattle.cfb_mini_sectors.specs.State.{bytes_of, cases_of, root_len_of}
+use Rattle.cfb_compound_file.specs.cfb_rules.Calls.{Call, Reply, done, open_stream, refused}
+use Rattle.cfb_compound_file.specs.cfb_rules.Refusal.{Refusal, failed_earlier, invalid_input, not_found, out_of_memory}
+use Rattle.cfb_compound_file.specs.cfb_rules.Runs.{Causes, MayBreak, OnFailed, TreeState, may_stay}
+use Rattle.cfb_compound_file.specs.cfb_rules.Steps.{Step, kind_of, kind_on}
+use Rattle.cfb_compound_file.specs.cfb_mini_sectors.State.{bytes_of, cases_of, root_len_of}
 use Rattle.cfb_agreement.specs.Files.{Agrees, FileState, is_failed}
 use Rattle.cfb_path_changes.specs.Answers.{Answers, AnswersNot, MeansTree, RunsOn, causes_of_call, setting_of, state_with}
 use Rattle.cfb_compound_file.specs.OpenedStreams.{IsNotFound, IsStreamAt}

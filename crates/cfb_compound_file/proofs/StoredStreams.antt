@@ -14,23 +14,23 @@ use Rattle.cfb_format.specs.Medium.{written}
 use Rattle.cfb_format.specs.DirectoryEntry.{Entry}
 use Rattle.cfb_format.specs.Names.{Cases}
 use Rattle.cfb_format.specs.Reading.{IsOutline, stream_numbers}
-use Rattle.cfb_tables.specs.Changes.{NoneFree}
-use Rattle.cfb_tables.specs.Tables.{TableState}
-use Rattle.cfb_tables.specs.Owners.{tally}
-use Rattle.cfb_tables.proofs.Counts.{in-tally, tally-in}
-use Rattle.cfb_rules.specs.StreamCalls.{resized}
-use Rattle.cfb_entries.specs.EntryList.{AreInOrder}
-use Rattle.cfb_mini_sectors.specs.State.{MiniState, bytes_of, cases_of, entries_of, table_of, tables_in}
-use Rattle.cfb_content.specs.Contents.{IsStreamOf, len_of}
-use Rattle.cfb_content.proofs.Apart.{same-reached}
-use Rattle.cfb_content.proofs.Readable.{whole-of}
-use Rattle.cfb_content.proofs.StreamEntry.{stream-inside as entry-inside}
+use Rattle.cfb_compound_file.specs.cfb_tables.Changes.{NoneFree}
+use Rattle.cfb_compound_file.specs.cfb_tables.Tables.{TableState}
+use Rattle.cfb_compound_file.specs.cfb_tables.Owners.{tally}
+use Rattle.cfb_compound_file.proofs.cfb_tables.Counts.{in-tally, tally-in}
+use Rattle.cfb_compound_file.specs.cfb_rules.StreamCalls.{resized}
+use Rattle.cfb_compound_file.specs.cfb_entries.EntryList.{AreInOrder}
+use Rattle.cfb_compound_file.specs.cfb_mini_sectors.State.{MiniState, bytes_of, cases_of, entries_of, table_of, tables_in}
+use Rattle.cfb_compound_file.specs.cfb_content.Contents.{IsStreamOf, len_of}
+use Rattle.cfb_compound_file.proofs.cfb_content.Apart.{same-reached}
+use Rattle.cfb_compound_file.proofs.cfb_content.Readable.{whole-of}
+use Rattle.cfb_compound_file.proofs.cfb_content.StreamEntry.{stream-inside as entry-inside}
 use Rattle.cfb_agreement.specs.Changes.{ChangesOneContent, StaysOrFails}
 use Rattle.cfb_agreement.specs.Files.{Agrees, FileState, Holds, IsAsBefore, SameSetting, failures_of, is_failed}
 use Rattle.cfb_agreement.specs.Laws.{with_flags}
 use Rattle.cfb_agreement.proofs.Flags.{as-before-same, flags-not-read}
 use Rattle.cfb_agreement.proofs.InTurn.{one-change-keeps-rest, rest-then, same-content-is-none}
-use Rattle.cfb_volume.specs.Answers.{content_at}
+use Rattle.cfb_compound_file.specs.cfb_volume.Answers.{content_at}
 use Rattle.cfb_format.specs.Refused.{IsBreak}
 use Rattle.cfb_stream_buffer.specs.Contents.{CanHave, Fails, KeptOrFailed, Stored, TakesLen, WritesPart, laid, stored_after_resize, stored_after_write}
 use Rattle.cfb_compound_file.specs.Flags.{flags_are_tight, flags_change_nothing, reads_are_tight, reads_keep, still_is_tight}

@@ -5,12 +5,12 @@ use Rattle.cfb_format.specs.declared.error.Error.{Error}
 use Rattle.cfb_format.specs.declared.error.Error.TheVariants.{NotFound, AlreadyExists, InvalidInput, InvalidData, Medium, Memory, Full, Unsound, Failed}
 use Rattle.cfb_format.specs.declared.medium.MediumFault.{MediumFault}
 use Rattle.cfb_format.specs.Refused.{CountsError, CountsFailure, HasReason, no_error}
-use Rattle.cfb_rules.specs.Refusal.{Refusal, failed_earlier}
-use Rattle.cfb_rules.specs.Runs.{BlamesOneOf, Causes, Closes, IsStreamBroken, StaysUnfailed, StreamOnFailed, StreamRun, is_never_refused, is_served, writing_out}
-use Rattle.cfb_rules.specs.StreamCalls.{StreamCall, StreamReply, StreamStep, flush, not_done}
+use Rattle.cfb_compound_file.specs.cfb_rules.Refusal.{Refusal, failed_earlier}
+use Rattle.cfb_compound_file.specs.cfb_rules.Runs.{BlamesOneOf, Causes, Closes, IsStreamBroken, StaysUnfailed, StreamOnFailed, StreamRun, is_never_refused, is_served, writing_out}
+use Rattle.cfb_compound_file.specs.cfb_rules.StreamCalls.{StreamCall, StreamReply, StreamStep, flush, not_done}
 use Rattle.cfb_agreement.specs.Changes.{StaysOrFails}
 use Rattle.cfb_agreement.specs.Files.{FileState, failures_of, is_failed}
-use Rattle.cfb_volume.specs.Answers.{content_at}
+use Rattle.cfb_compound_file.specs.cfb_volume.Answers.{content_at}
 use Rattle.cfb_stream_buffer.specs.Contents.{Stored, stream_setting_of}
 use Rattle.cfb_stream_window.specs.Windows.{IsSettled, Runs, Suits, Window, run_of, settled, state_of}
 use Rattle.cfb_stream_window.proofs.Carrying.{settled_agrees}

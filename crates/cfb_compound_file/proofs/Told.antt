@@ -12,25 +12,25 @@ use Rattle.cfb_format.specs.Reading.{IsOutline, Outline}
 use Rattle.cfb_format.specs.Refused.{number_of}
 use Rattle.cfb_format.specs.Siblings.{entry_at}
 use Rattle.cfb_format.specs.Tree.{Found, Object}
-use Rattle.cfb_outline.specs.Outlines.{HasInside}
-use Rattle.cfb_siblings.specs.Paths.{LeadsOn, number_at_path, number_from}
-use Rattle.cfb_trees.specs.Reached.{IsObject}
-use Rattle.cfb_trees.proofs.Members.{reached-is-used}
-use Rattle.cfb_trees.proofs.PathReached.{found-is-reached}
-use Rattle.cfb_trees.proofs.Standing.{reached-is-parent}
-use Rattle.cfb_rules.specs.Calls.{EntryInfo, Reply, entries, entry, exists, flag, is_storage, is_stream, one_entry, read_root_storage, read_storage, refused, root_entry, walk, walk_storage}
-use Rattle.cfb_rules.specs.CallRefusals.{always, is_a_storage, is_a_stream, object_refusal, unless}
-use Rattle.cfb_rules.specs.CallReplies.{entry_reply, has_object, listed_object, object_entry, read_reply, walk_reply, walked_object}
-use Rattle.cfb_rules.specs.Finding.{found_at, last_name, object_at, parent_names}
-use Rattle.cfb_rules.specs.Refusal.{invalid_input, not_found}
-use Rattle.cfb_listing.specs.Listings.{ListsChildren, Walks}
-use Rattle.cfb_outline.specs.Families.{is_stream_kind}
+use Rattle.cfb_compound_file.specs.cfb_outline.Outlines.{HasInside}
+use Rattle.cfb_compound_file.specs.cfb_siblings.Paths.{LeadsOn, number_at_path, number_from}
+use Rattle.cfb_compound_file.specs.cfb_trees.Reached.{IsObject}
+use Rattle.cfb_compound_file.proofs.cfb_trees.Members.{reached-is-used}
+use Rattle.cfb_compound_file.proofs.cfb_trees.PathReached.{found-is-reached}
+use Rattle.cfb_compound_file.proofs.cfb_trees.Standing.{reached-is-parent}
+use Rattle.cfb_compound_file.specs.cfb_rules.Calls.{EntryInfo, Reply, entries, entry, exists, flag, is_storage, is_stream, one_entry, read_root_storage, read_storage, refused, root_entry, walk, walk_storage}
+use Rattle.cfb_compound_file.specs.cfb_rules.CallRefusals.{always, is_a_storage, is_a_stream, object_refusal, unless}
+use Rattle.cfb_compound_file.specs.cfb_rules.CallReplies.{entry_reply, has_object, listed_object, object_entry, read_reply, walk_reply, walked_object}
+use Rattle.cfb_compound_file.specs.cfb_rules.Finding.{found_at, last_name, object_at, parent_names}
+use Rattle.cfb_compound_file.specs.cfb_rules.Refusal.{invalid_input, not_found}
+use Rattle.cfb_listing.specs.Listings.{ListsStorage, Walks}
+use Rattle.cfb_compound_file.specs.cfb_outline.Families.{is_stream_kind}
 use Rattle.cfb_listing.specs.Told.{entry_info}
 use Rattle.cfb_listing.proofs.Telling.{root-told, storage-told, stream-told}
-use Rattle.cfb_objects.specs.Objects.{found_of, inside_of, object_of}
-use Rattle.cfb_objects.proofs.Found.{found-is-at-its-entry, inside-is-below, object-is-at-its-entry, object-is-at-its-path, storage-by-kind, stream-by-kind}
-use Rattle.cfb_objects.proofs.Leading.{found-has-parent, last-name-leads-on}
-use Rattle.cfb_mini_sectors.specs.State.{cases_of, content_of, entries_of, root_len_of}
+use Rattle.cfb_compound_file.specs.cfb_objects.Objects.{found_of, inside_of, object_of}
+use Rattle.cfb_compound_file.proofs.cfb_objects.Found.{found-is-at-its-entry, inside-is-below, object-is-at-its-entry, object-is-at-its-path, storage-by-kind, stream-by-kind}
+use Rattle.cfb_compound_file.proofs.cfb_objects.Leading.{found-has-parent, last-name-leads-on}
+use Rattle.cfb_compound_file.specs.cfb_mini_sectors.State.{cases_of, content_of, entries_of, root_len_of}
 use Rattle.cfb_agreement.specs.Files.{Agrees, FileState}
 use Rattle.cfb_path_changes.specs.Answers.{Answers, AnswersNot}
 use Rattle.cfb_path_changes.specs.Finding.{LeadTo, is_storage_or_root, kind_found}
@@ -59,7 +59,7 @@ module _ (es : List Entry) (c : Entry → List ℕ) (o : Outline) (k : ℕ) (pat
   object-told (inr e) = stream-told path (entry_at es k) c e ∙ ap (object_entry path (entry_at es k).name) (sym (stream-by-kind es c o k e))
 
   -- what is in it on the first level
-  pub children-told : (cases : Cases) (list : List EntryInfo) → HasInside cases es k (inside_of o k) → (entry_at es k).obj_type ≢ Stream → ListsChildren es path k list
+  pub children-told : (cases : Cases) (list : List EntryInfo) → HasInside cases es k (inside_of o k) → (entry_at es k).obj_type ≢ Stream → ListsStorage es path k list
       → list ≡ listed_object path (object_of es c o k)
   children-told cases list inside ne lists = lists cases (inside_of o k) c inside ∙ ap (listed_object path) (sym (storage-by-kind es c o k ne))
 
@@ -139,7 +139,7 @@ module _ (file : FileState) (agrees : Agrees file) where
       (λ o is named. served (cases_of file.base) file.is_sound (root_len_of file.base) (tree_in file o) root_entry (one_entry info) asks-root-entry refl
       (ap one_entry (e ∙ root-told (path_of_names []) (entry_at (entries_of file.base) 0) is.root)))
 
-  pub read-root-answered : (list : List EntryInfo) → ListsChildren (entries_of file.base) (path_of_names []) 0 list → Answers file read_root_storage (entries list)
+  pub read-root-answered : (list : List EntryInfo) → ListsStorage (entries_of file.base) (path_of_names []) 0 list → Answers file read_root_storage (entries list)
   read-root-answered list lists = is-answered file read_root_storage (entries list) asks-read-root agrees tt
       (λ o is named. served (cases_of file.base) file.is_sound (root_len_of file.base) (tree_in file o) read_root_storage (entries list) asks-read-root refl
       (ap entries (lists (cases_of file.base) o (content_of file.base) (record { children = is.children; contents = is.contents }))))
@@ -198,7 +198,7 @@ module _ (file : FileState) (agrees : Agrees file) (path : List ℕ) (names : Li
           ap one_entry (told ∙ object-told (entries_of file.base) (content_of file.base) o n (path_of_names (first ∷ rest)) (object-below (cases_of file.base) (entries_of file.base) o first rest n is at))
           ∙ ap (λ (x : Option Found). option_map_or (λ (f : Found). one_entry (object_entry (path_of_names (first ∷ rest)) f.name f.object)) x (refused not_found)) (sym found)
 
-  pub read-answered : (list : List EntryInfo) → (entry_at (entries_of file.base) n).obj_type ≢ Stream → ListsChildren (entries_of file.base) (path_of_names names) n list
+  pub read-answered : (list : List EntryInfo) → (entry_at (entries_of file.base) n).obj_type ≢ Stream → ListsStorage (entries_of file.base) (path_of_names names) n list
       → Answers file (read_storage path) (entries list)
   read-answered list ne lists = is-answered file (read_storage path) (entries list) (asks-read path) agrees tt
       (λ o is named. served (cases_of file.base) file.is_sound (root_len_of file.base) (tree_in file o) (read_storage path) (entries list) (asks-read path)

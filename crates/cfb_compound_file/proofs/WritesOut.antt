@@ -6,11 +6,11 @@ use Rattle.cfb_format.specs.declared.error.Error.TheVariants.{NotFound, AlreadyE
 use Rattle.cfb_format.specs.declared.medium.MediumFault.{MediumFault}
 use Rattle.cfb_format.specs.Medium.{Rises}
 use Rattle.cfb_format.specs.Refused.{CountsFailure, IsMediumAnd}
-use Rattle.cfb_rules.specs.Calls.{done, flush, refused}
-use Rattle.cfb_rules.specs.Refusal.{failed_earlier, medium_failed}
-use Rattle.cfb_rules.specs.Steps.{creating, flushing}
-use Rattle.cfb_mini_sectors.specs.State.{bytes_of}
-use Rattle.cfb_content.proofs.FixedHeader.{bytes-keep-header, header-stays}
+use Rattle.cfb_compound_file.specs.cfb_rules.Calls.{done, flush, refused}
+use Rattle.cfb_compound_file.specs.cfb_rules.Refusal.{failed_earlier, medium_failed}
+use Rattle.cfb_compound_file.specs.cfb_rules.Steps.{creating, flushing}
+use Rattle.cfb_compound_file.specs.cfb_mini_sectors.State.{bytes_of}
+use Rattle.cfb_compound_file.proofs.cfb_content.FixedHeader.{bytes-keep-header, header-stays}
 use Rattle.cfb_agreement.specs.Files.{FileState, SameSetting, failures_of, is_failed}
 use Rattle.cfb_agreement.specs.Laws.{with_flags}
 use Rattle.cfb_path_changes.proofs.Runs.{runs_failed, runs_unfailed}

@@ -1,7 +1,7 @@
 -- New streams, open at their start.
 use Rattle.std.specs.Prelude.{ℕ, ◌≡◌, List, Bool, true, false, IsTrue}
 use Rattle.cfb_format.specs.declared.objtype.ObjType.TheVariants.{Stream}
-use Rattle.cfb_rules.specs.Calls.{Call, done}
+use Rattle.cfb_compound_file.specs.cfb_rules.Calls.{Call, done}
 use Rattle.cfb_agreement.specs.Files.{Agrees, FileState, SameSetting, is_failed}
 use Rattle.cfb_stream_window.specs.Windows.{Suits, window_opened}
 use Rattle.cfb_path_changes.specs.declared.placing.Creation.{Creation}

@@ -1,14 +1,13 @@
 -- The count of failures, and that a change was begun, are none of what the calls of a stream keep.
 use Rattle.std.specs.Prelude.{ℕ, ◌≡◌, ◌≢◌, Bool, true, false, Contains}
-use Rattle.std.proofs.Common.{sym, subst}
+use Rattle.std.proofs.Common.{arith, sym, subst}
 use Rattle.cfb_format.specs.Reading.{IsOutline, Outline, stream_numbers}
-use Rattle.cfb_mini_sectors.specs.State.{cases_of, entries_of}
-use Rattle.cfb_content.specs.Contents.{KeepsFixedHeader, KeepsOthers, MovesContent}
+use Rattle.cfb_compound_file.specs.cfb_mini_sectors.State.{cases_of, entries_of}
+use Rattle.cfb_compound_file.specs.cfb_content.Contents.{KeepsFixedHeader, KeepsOthers, MovesContent}
 use Rattle.cfb_agreement.specs.Changes.{KeepsAllButContent}
 use Rattle.cfb_agreement.specs.Files.{FileState, SameSetting, failures_of, is_failed}
 use Rattle.cfb_agreement.specs.Laws.{with_flags}
 use Rattle.cfb_agreement.proofs.Flags.{made-flagged}
-use Rattle.cfb_agreement.proofs.InTurn.{same-content-is-none}
 use Rattle.cfb_compound_file.specs.Stored.{IsTight, KeepsAllButStream, kept_of}
 
 -- what was kept in a file was kept in it whatever its flags, but a file that failed stays failed
@@ -66,4 +65,4 @@ reads_are_tight first old new same k =
     (subst (λ (z : FileState). IsTight first z) (sym same) (flags_are_tight first old 0 (is_failed old) (λ calm. calm) k))
 
 pub still_is_tight : (file : FileState) → IsTight file file
-still_is_tight file = (same-content-is-none 0 file).grows
+still_is_tight file = λ calm longer. absurd (omega (arith, longer))

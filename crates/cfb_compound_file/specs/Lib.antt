@@ -1,3 +1,19 @@
+pub use Rattle.cfb_copies.specs.cfb_outline
+pub use Rattle.cfb_copies.specs.cfb_siblings
+pub use Rattle.cfb_listing.specs.cfb_trees
+pub use Rattle.cfb_opening.specs.cfb_entries
+pub use Rattle.cfb_copies.specs.cfb_tables
+pub use Rattle.cfb_copies.specs.cfb_directory
+pub use Rattle.cfb_copies.specs.cfb_mini_sectors
+pub use Rattle.cfb_listing.specs.cfb_rules
+pub use Rattle.cfb_stream_buffer.specs as cfb_stream_buffer
+pub use Rattle.cfb_stream_window.specs as cfb_stream_window
+pub use Rattle.cfb_agreement.specs.cfb_objects
+pub use Rattle.cfb_agreement.specs.cfb_content
+pub use Rattle.cfb_agreement.specs as cfb_agreement
+pub use Rattle.cfb_path_changes.specs.cfb_volume
+pub use Rattle.cfb_opening.specs as cfb_opening
+pub use Rattle.cfb_path_changes.specs as cfb_path_changes
 pub mod Opening
 pub mod Stored
 pub mod Flags

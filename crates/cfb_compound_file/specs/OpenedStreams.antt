@@ -6,14 +6,14 @@ use Rattle.cfb_format.specs.Path.{names_of_path}
 use Rattle.cfb_format.specs.Reading.{IsOutline, Outline}
 use Rattle.cfb_format.specs.Refused.{HasReason, Reasons, no_error}
 use Rattle.cfb_format.specs.Siblings.{entry_at}
-use Rattle.cfb_siblings.specs.Paths.{number_at_path}
-use Rattle.cfb_mini_sectors.specs.State.{cases_of, entries_of}
-use Rattle.cfb_content.specs.Contents.{IsStreamOf, len_of}
+use Rattle.cfb_compound_file.specs.cfb_siblings.Paths.{number_at_path}
+use Rattle.cfb_compound_file.specs.cfb_mini_sectors.State.{cases_of, entries_of}
+use Rattle.cfb_compound_file.specs.cfb_content.Contents.{IsStreamOf, len_of}
 use Rattle.cfb_agreement.specs.Files.{FileState, is_failed}
 use Rattle.cfb_stream_window.specs.Windows.{window_opened}
 use Rattle.cfb_compound_file.specs.Stored.{KeepsRest}
 use Rattle.cfb_format.specs.Tree.{Tree}
-use Rattle.cfb_rules.specs.Runs.{opened_by_path}
+use Rattle.cfb_compound_file.specs.cfb_rules.Runs.{opened_by_path}
 use Rattle.cfb_path_changes.specs.Answers.{MeansTree}
 use Rattle.cfb_path_changes.specs.Finding.{StandsAt}
 use Rattle.cfb_compound_file.specs.StreamAnswers.{OpenStream, stream_in}

@@ -14,7 +14,7 @@ use Rattle.cfb_compound_file.specs.declared.read_stream.ReadStream.{ReadStream}
 use Rattle.cfb_compound_file.specs.contracts.compound_file.CompoundFile.{the_row}
 use Rattle.cfb_compound_file.specs.contracts.read_stream.ReadStream as stream
 use Rattle.cfb_stream_window.specs.contracts.read_window.ReadWindow as window
-use Rattle.cfb_rules.specs.StreamCalls.{fill_buf, got}
+use Rattle.cfb_compound_file.specs.cfb_rules.StreamCalls.{fill_buf, got}
 use Rattle.cfb_compound_file.specs.Buffering.{BuffersRead}
 use Rattle.cfb_compound_file.specs.Stored.{kept_of}
 use Rattle.cfb_compound_file.specs.StreamAnswers.{GoesOn, IsFailed, IsStreamRefused, OpenStream, StreamHeedsReading, StreamRunsBy, causes_of_reading, open_stream_of}

@@ -10,7 +10,7 @@ use Rattle.cfb_format.specs.declared.error.Error.{Error}
 use Rattle.cfb_format.specs.declared.medium.Medium as writing
 use Rattle.cfb_format.specs.declared.medium.MediumFault.{MediumFault}
 use Rattle.cfb_format.specs.declared.medium.ReadMedium as reading
-use Rattle.cfb_rules.specs.StreamCalls.{fill_buf, got}
+use Rattle.cfb_compound_file.specs.cfb_rules.StreamCalls.{fill_buf, got}
 use Rattle.cfb_stream_window.specs.Windows.{Window}
 use Rattle.cfb_stream_window.specs.contracts.read_window.ReadWindow as read_window
 use Rattle.cfb_stream_window.specs.contracts.window.Window as window

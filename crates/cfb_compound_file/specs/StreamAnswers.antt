@@ -5,11 +5,11 @@ use Rattle.cfb_format.specs.declared.error.Error.TheVariants.{Failed}
 use Rattle.cfb_format.specs.declared.medium.MediumFault.{MediumFault}
 use Rattle.cfb_format.specs.Refused.{CountsError}
 use Rattle.cfb_format.specs.Tree.{Tree}
-use Rattle.cfb_rules.specs.Refusal.{IsRefusal, Refusal, failed_earlier}
-use Rattle.cfb_rules.specs.Runs.{Causes, Closes, StreamRun, tree_with_stream}
-use Rattle.cfb_rules.specs.StreamCalls.{StreamCall, StreamReply, StreamState}
-use Rattle.cfb_mini_sectors.specs.State.{cases_of}
-use Rattle.cfb_content.specs.Contents.{IsTooLongFor}
+use Rattle.cfb_compound_file.specs.cfb_rules.Refusal.{IsRefusal, Refusal, failed_earlier}
+use Rattle.cfb_compound_file.specs.cfb_rules.Runs.{Causes, Closes, StreamRun, tree_with_stream}
+use Rattle.cfb_compound_file.specs.cfb_rules.StreamCalls.{StreamCall, StreamReply, StreamState}
+use Rattle.cfb_compound_file.specs.cfb_mini_sectors.State.{cases_of}
+use Rattle.cfb_compound_file.specs.cfb_content.Contents.{IsTooLongFor}
 use Rattle.cfb_agreement.specs.Changes.{StaysOrFails}
 use Rattle.cfb_agreement.specs.Files.{Agrees, FileState, SameSetting, failures_of, is_failed}
 use Rattle.cfb_stream_buffer.specs.Contents.{CanHave, KeptOrFailed, Stored}

@@ -16,7 +16,7 @@ use Rattle.cfb_compound_file.specs.declared.stream.Stream.{Stream}
 use Rattle.cfb_compound_file.specs.contracts.compound_file.CompoundFile.{the_row}
 use Rattle.cfb_compound_file.specs.contracts.stream.Stream as stream
 use Rattle.cfb_stream_window.specs.contracts.window.Window as window
-use Rattle.cfb_rules.specs.StreamCalls.{fill_buf, got}
+use Rattle.cfb_compound_file.specs.cfb_rules.StreamCalls.{fill_buf, got}
 use Rattle.cfb_path_changes.specs.Answers.{causes_of}
 use Rattle.cfb_compound_file.specs.Buffering.{BuffersRead}
 use Rattle.cfb_compound_file.specs.Stored.{kept_of}

@@ -2,7 +2,7 @@
 ghost use Rattle.std.specs.Prelude.{◌≡◌, ◌||◌, [], max, Err, IsTrue, IfOk, IfErr, chars};
 ghost use Rattle.std.specs.Borrow.{sem};
 ghost use Rattle.cfb_format.specs.Refused.{IsMemory};
-ghost use Rattle.cfb_rules.specs.Calls.{create_new_stream, create_stream};
+ghost use Rattle.cfb_compound_file.specs.cfb_rules.Calls.{create_new_stream, create_stream};
 ghost use Rattle.cfb_compound_file.specs.Adding.{IsCreatedBy, MakesStream};
 ghost use Rattle.cfb_compound_file.specs.StreamAnswers.{open_stream_of};
 ghost use Rattle.cfb_path_changes.specs.Adding.{creation};

@@ -1,6 +1,6 @@
 //! Changes of a compound file by paths.
 ghost use Rattle.std.specs.Prelude.{◌≡◌, ◌||◌, IfErr, IsTrue, chars};
-ghost use Rattle.cfb_rules.specs.Calls.{create_storage, create_storage_all, remove_storage, remove_storage_all, remove_stream, set_created_time, set_modified_time, set_state_bits, set_storage_clsid, touch};
+ghost use Rattle.cfb_compound_file.specs.cfb_rules.Calls.{create_storage, create_storage_all, remove_storage, remove_storage_all, remove_stream, set_created_time, set_modified_time, set_state_bits, set_storage_clsid, touch};
 ghost use Rattle.cfb_path_changes.specs.Answers.{LacksRoomOnTheWay};
 ghost use Rattle.cfb_path_changes.specs.Calls.{CallAnswers, CallAnswersInTurn, HeedsFlags};
 

@@ -1,12 +1,12 @@
 //! Compound files.
 ghost use Rattle.std.specs.Prelude.{◌≡◌, false, true, IsTrue};
-ghost use Rattle.cfb_mini_sectors.specs.State.{bytes_of, version_of};
+ghost use Rattle.cfb_compound_file.specs.cfb_mini_sectors.State.{bytes_of, version_of};
 ghost use Rattle.cfb_agreement.specs.Files.{Agrees, failures_of, is_failed};
 ghost use Rattle.cfb_compound_file.specs.Opening.{CanBeReopened};
 
+use cfb_copies::Volume;
 use cfb_format::medium::ReadMedium;
 use cfb_format::version::Version;
-use cfb_volume::volume::Volume;
 use std::alloc::{Allocator as Heap, Global};
 use std::marker::Model;
 

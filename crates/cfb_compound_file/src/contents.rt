@@ -1,6 +1,6 @@
 //! The streams of a file, each under the number of its entry, as what buffered streams stand on (MS-CFB 2.6).
 ghost use Rattle.std.specs.Prelude.{◌≤◌, ◌+◌, ◌↔◌, IsTrue};
-ghost use Rattle.cfb_content.specs.Contents.{IsStreamOf, IsTooLongFor};
+ghost use Rattle.cfb_compound_file.specs.cfb_content.Contents.{IsStreamOf, IsTooLongFor};
 ghost use Rattle.cfb_agreement.specs.Files.{IsFullFile, failures_of};
 ghost use Rattle.cfb_compound_file.specs.Stored.{IsTight, KeepsAllButStream, kept_of, setting_of, stored_of};
 

@@ -1,7 +1,7 @@
 //! What a file's medium keeps back is handed on.
 ghost use Rattle.std.specs.Prelude.{◌≡◌, false, true, IsTrue, IfErr, OnOk};
 ghost use Rattle.cfb_format.specs.Refused.{HasReason, no_error};
-ghost use Rattle.cfb_rules.specs.Calls.{done, flush};
+ghost use Rattle.cfb_compound_file.specs.cfb_rules.Calls.{done, flush};
 ghost use Rattle.cfb_agreement.specs.Files.{SameSetting, failures_of, is_failed};
 ghost use Rattle.cfb_agreement.specs.Laws.{with_flags};
 ghost use Rattle.cfb_path_changes.specs.Answers.{IsDoneBy, IsRefusedBy};

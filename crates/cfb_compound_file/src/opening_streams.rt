@@ -2,8 +2,8 @@
 ghost use Rattle.std.specs.Prelude.{◌≡◌, false, IsTrue, IfOk, IfErr, OnOk, chars};
 ghost use Rattle.std.specs.Borrow.{sem};
 ghost use Rattle.cfb_format.specs.Refused.{IsMemory};
-ghost use Rattle.cfb_rules.specs.Calls.{done, open_read_stream, open_stream};
-ghost use Rattle.cfb_content.specs.Contents.{IsStreamOf, len_of};
+ghost use Rattle.cfb_compound_file.specs.cfb_rules.Calls.{done, open_read_stream, open_stream};
+ghost use Rattle.cfb_compound_file.specs.cfb_content.Contents.{IsStreamOf, len_of};
 ghost use Rattle.cfb_agreement.specs.Files.{Agrees, is_failed};
 ghost use Rattle.cfb_stream_window.specs.Windows.{Suits, window_opened};
 ghost use Rattle.cfb_path_changes.specs.Answers.{Answers, AnswersNot};

@@ -5,7 +5,7 @@ ghost use Rattle.cfb_format.specs.declared.validate.Validation.TheVariants.{Stri
 ghost use Rattle.cfb_format.specs.declared.version.Version.TheVariants.{V4};
 ghost use Rattle.cfb_format.specs.Names.{default_cases};
 ghost use Rattle.cfb_format.specs.Refused.{IsMemory};
-ghost use Rattle.cfb_mini_sectors.specs.State.{version_of};
+ghost use Rattle.cfb_compound_file.specs.cfb_mini_sectors.State.{version_of};
 ghost use Rattle.cfb_agreement.specs.Files.{is_failed};
 ghost use Rattle.cfb_opening.specs.Opened.{IsOfOpening};
 ghost use Rattle.cfb_compound_file.specs.Opening.{CreatingRefused, IsCreatedWith, IsOfCreating, IsOpenedWith, OpeningWithRefused, permissive_options, strict_options};
@@ -14,14 +14,13 @@ ghost use Rattle.cfb_compound_file.specs.Taken.{TakesOptions};
 use crate::compound_file::CompoundFile;
 use cfb_agreement::laws;
 use cfb_codecs::path::CaseMapper;
-use cfb_creating::creating::create_file;
+use cfb_copies::{Volume, create_file};
 use cfb_format::consts::MAX_REGULAR_SECTOR;
 use cfb_format::error::Error;
 use cfb_format::medium::{Medium, ReadMedium};
 use cfb_format::validate::Validation;
 use cfb_format::version::Version;
 use cfb_opening::opening::open_file;
-use cfb_volume::volume::Volume;
 use std::alloc::{Allocator as Heap, Global};
 use std::marker::Model;
 

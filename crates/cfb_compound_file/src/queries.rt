@@ -6,14 +6,14 @@ ghost use Rattle.cfb_format.specs.Siblings.{entry_at};
 ghost use Rattle.cfb_codecs.specs.EntryModel.{entries_of as entries_in};
 ghost use Rattle.cfb_format.specs.Reading.{IsOutline, Outline};
 ghost use Rattle.cfb_format.specs.Refused.{IsMemory};
-ghost use Rattle.cfb_rules.specs.Calls.{entries, entry, exists, flag, is_storage, is_stream, one_entry, read_root_storage, read_storage, root_entry, walk, walk_storage};
-ghost use Rattle.cfb_siblings.specs.Paths.{number_at_path};
+ghost use Rattle.cfb_compound_file.specs.cfb_rules.Calls.{entries, entry, exists, flag, is_storage, is_stream, one_entry, read_root_storage, read_storage, root_entry, walk, walk_storage};
+ghost use Rattle.cfb_compound_file.specs.cfb_siblings.Paths.{number_at_path};
 ghost use Rattle.cfb_agreement.specs.Files.{Agrees};
-ghost use Rattle.cfb_outline.specs.Families.{is_stream_kind};
+ghost use Rattle.cfb_compound_file.specs.cfb_outline.Families.{is_stream_kind};
 ghost use Rattle.cfb_listing.specs.Told.{entry_info};
 ghost use Rattle.cfb_listing.specs.Left.{entries_left};
-ghost use Rattle.cfb_listing.specs.Listings.{ListsChildren, Walks};
-ghost use Rattle.cfb_mini_sectors.specs.State.{cases_of, entries_of};
+ghost use Rattle.cfb_listing.specs.Listings.{ListsStorage, Walks};
+ghost use Rattle.cfb_compound_file.specs.cfb_mini_sectors.State.{cases_of, entries_of};
 ghost use Rattle.cfb_path_changes.specs.Answers.{Answers, AnswersNot};
 ghost use Rattle.cfb_compound_file.specs.Asking.{IsOfAsking};
 ghost use Rattle.cfb_path_changes.specs.Finding.{FindingRefused, IsObjectOf, IsStorageOf, LeadTo, is_storage_or_root, kind_found};
@@ -129,7 +129,7 @@ impl<F: ReadMedium, A: Heap + Clone> CompoundFile<F, A> {
     /// What is told of the objects on the first level of the storage of this number, which has these names in its path. `Memory`.
     fn children_at(&self, names: &[&str], number: u32) -> Result<Entries<'_, F, A>, Error>
         requires { IsStorageOf self.now number }
-        ensures ok { IfOk result (λ list. ListsChildren (entries_of self.now.base)
+        ensures ok { IfOk result (λ list. ListsStorage (entries_of self.now.base)
             (path_of_names (map (λ name. chars name.now) names.now)) number (entries_left list)) }
         ensures err { IfErr result IsMemory }
         ensures agrees { IsTrue F.tells → Agrees self.now }

@@ -1,10 +1,10 @@
 //! Streams that are only read. Lengths and places are in bytes.
 ghost use Rattle.std.specs.Prelude.{◌≡◌, ◌+◌, ◌++◌, ◌≤◌, ◌==◌, length, take, drop, false, true, IsTrue, IfOk, IfErr, OnOk, OnErr};
 ghost use Rattle.std.specs.Borrow.{sem};
-ghost use Rattle.cfb_content.specs.Contents.{IsStreamOf};
+ghost use Rattle.cfb_compound_file.specs.cfb_content.Contents.{IsStreamOf};
 ghost use Rattle.cfb_agreement.specs.Files.{failures_of, is_failed};
 ghost use Rattle.cfb_format.specs.Refused.{CountsFailure};
-ghost use Rattle.cfb_rules.specs.Runs.{Closes};
+ghost use Rattle.cfb_compound_file.specs.cfb_rules.Runs.{Closes};
 ghost use Rattle.cfb_stream_window.specs.Windows.{Suits, whence_of};
 ghost use Rattle.cfb_compound_file.specs.Buffering.{BuffersRead, BuffersRest, BuffersSeek};
 ghost use Rattle.cfb_compound_file.specs.Stored.{kept_of, stored_of};
@@ -31,7 +31,7 @@ pub struct ReadStream<'a, F: ReadMedium, A: Heap = Global, W: Held = ReadWindow<
 }
 
 impl<'a, F: ReadMedium, A: Heap + Clone> ReadStream<'a, F, A> {
-    ghost use Rattle.cfb_rules.specs.StreamCalls.{answered, ask_is_empty, ask_len, ask_position, consume, got, offset, read, read_to_end, ready, seek};
+    ghost use Rattle.cfb_compound_file.specs.cfb_rules.StreamCalls.{answered, ask_is_empty, ask_len, ask_position, consume, got, offset, read, read_to_end, ready, seek};
     ghost use Rattle.cfb_compound_file.specs.ReadStreams.{entry_of, file_of, open_of, stream_rests, window_of};
 
     /// The length of the stream.

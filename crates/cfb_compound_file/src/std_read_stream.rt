@@ -14,7 +14,7 @@ ghost use Rattle.cfb_compound_file.specs.StdLending.{IsReadLendingRefused, keeps
 ghost use Rattle.cfb_compound_file.specs.Stored.{kept_of};
 ghost use Rattle.cfb_compound_file.specs.StdStreams.{bytes_to_read, place_to_read, rest_to_read};
 ghost use Rattle.cfb_compound_file.specs.StreamAnswers.{GoesOn, IsFailed, IsStreamRefused, IsStreamRefusedBy, StreamHeedsReading, StreamRunsBy, StreamRunsOn, causes_of_reading};
-ghost use Rattle.cfb_rules.specs.StreamCalls.{consume, got, offset, read, ready, seek};
+ghost use Rattle.cfb_compound_file.specs.cfb_rules.StreamCalls.{consume, got, offset, read, ready, seek};
 
 use crate::read_stream::ReadStream;
 use cfb_format::medium::ReadMedium;

@@ -18,7 +18,7 @@ ghost use Rattle.cfb_compound_file.specs.Streams.{entry_of, file_of, open_of, wi
 ghost use Rattle.cfb_compound_file.specs.StdLending.{IsLendingRefused, IsLentFrom, keeps};
 ghost use Rattle.cfb_compound_file.specs.StdStreams.{bytes_in, place_in, rest_in};
 ghost use Rattle.cfb_compound_file.specs.StreamAnswers.{ClosesTree, GoesOn, GoesOnInTurn, IsFailed, IsStreamRefused, StreamHeedsFlags, StreamHeedsWritingOut, StreamRunsOn, stream_in};
-ghost use Rattle.cfb_rules.specs.StreamCalls.{consume, count, flush, got, offset, read, ready, seek, write};
+ghost use Rattle.cfb_compound_file.specs.cfb_rules.StreamCalls.{consume, count, flush, got, offset, read, ready, seek, write};
 
 use crate::stream::Stream;
 use cfb_format::medium::Medium;

@@ -1,10 +1,10 @@
 //! Streams, as lists of bytes with a position, through a buffer. Lengths and places are in bytes.
 ghost use Rattle.std.specs.Prelude.{◌≡◌, ◌+◌, ◌++◌, ◌<◌, ◌≤◌, ◌⊎◌, ◌==◌, ◌||◌, min, length, take, drop, false, true, IsTrue, IfOk, IfErr, OnOk, OnErr, None};
 ghost use Rattle.std.specs.Borrow.{sem};
-ghost use Rattle.cfb_content.specs.Contents.{IsStreamOf};
+ghost use Rattle.cfb_compound_file.specs.cfb_content.Contents.{IsStreamOf};
 ghost use Rattle.cfb_agreement.specs.Files.{Agrees, FileState, failures_of, is_failed};
 ghost use Rattle.cfb_format.specs.Refused.{CountsFailure};
-ghost use Rattle.cfb_rules.specs.Runs.{Closes};
+ghost use Rattle.cfb_compound_file.specs.cfb_rules.Runs.{Closes};
 ghost use Rattle.cfb_stream_window.specs.Windows.{IsLengthened, Suits, whence_of};
 ghost use Rattle.cfb_path_changes.specs.Answers.{causes_of};
 ghost use Rattle.cfb_compound_file.specs.Buffering.{BuffersRead, BuffersRest, BuffersSeek, BuffersWrite};
@@ -34,7 +34,7 @@ pub struct Stream<'a, F: Medium, A: Heap = Global, W: Held = Window<A>> {
 }
 
 impl<'a, F: Medium, A: Heap + Clone> Stream<'a, F, A> {
-    ghost use Rattle.cfb_rules.specs.StreamCalls.{answered, ask_is_empty, ask_len, ask_position, consume, count, fill_buf, flush, got, offset, read, read_to_end, ready, seek, set_len, write};
+    ghost use Rattle.cfb_compound_file.specs.cfb_rules.StreamCalls.{answered, ask_is_empty, ask_len, ask_position, consume, count, fill_buf, flush, got, offset, read, read_to_end, ready, seek, set_len, write};
     ghost use Rattle.cfb_compound_file.specs.Streams.{entry_of, file_of, open_of, stream_rests, window_of};
 
     /// Whether the file has failed.

@@ -9,17 +9,19 @@ use Rattle.cfb_format.specs.Soundness.{used_mini_sectors, used_sectors}
 use Rattle.cfb_tables.specs.Owners.{UseChanges, Uses, tally}
 use Rattle.cfb_tables.specs.Tables.{TableState}
 use Rattle.cfb_tables.proofs.UseLemmas.{use-changes-follow, uses-kept}
-use Rattle.cfb_soundness.specs.Streams.{own_mini_sectors, own_sectors}
-use Rattle.cfb_alloc.specs.ListedChain.{Lengthens, Shortens}
-use Rattle.cfb_mini_table.specs.MiniTable.{MiniGivesBack, TakesMini}
-use Rattle.cfb_mini_sectors.specs.State.{MiniState, cases_of, entries_of, mini_stream_of, parts_of, tables_in}
-use Rattle.cfb_mini_sectors.specs.Steps.{SettlesRoom, mini_stream_lacks, mini_stream_needs, minifat_lacks, minifat_needs}
+use Rattle.cfb_content.specs.cfb_soundness.Streams.{own_mini_sectors, own_sectors}
+use Rattle.cfb_content.specs.cfb_alloc.ListedChain.{Lengthens, Shortens}
+use Rattle.cfb_content.specs.cfb_mini_table.MiniTable.{MiniGivesBack, TakesMini}
+use Rattle.cfb_content.specs.cfb_mini_sectors.State.{MiniState, cases_of, entries_of, mini_stream_of, parts_of, tables_in}
+use Rattle.cfb_content.specs.cfb_mini_sectors.Steps.{SettlesRoom, mini_stream_lacks, mini_stream_needs, minifat_lacks, minifat_needs}
 use Rattle.cfb_content.specs.Contents.{mini_sectors_owned, parts_with, sectors_owned}
 use Rattle.cfb_content.specs.Uses.{ChangesContent, GrowthStays, LargeBecomesSmall, LargeGoesOn, LargeIsCut, SameUse, SmallBecomesLarge, SmallGoesOn, SmallIsCut, mini_sectors_by_owners, other_streams, sectors_by_owners}
 use Rattle.cfb_content.proofs.Apart.{owners-use, same-reached}
 use Rattle.cfb_content.proofs.InUse.{in_use, mini-goes-on, mini-is-cut, minifat-goes-on, minifat-is-cut, own-goes-on, own-is-cut, same-use, stream-goes-on, stream-is-cut, use-by-count}
 use Rattle.cfb_content.proofs.Outlines.{moved-is-outline, no-root-stream}
-use Rattle.cfb_content.proofs.Owned.{others-in, same-flat, used-by-owners}
+use Rattle.cfb_content.proofs.Owned.{others-in, used-by-owners}
+use Rattle.cfb_content.proofs.cfb_mini_sectors.MiniFrames.{same-stream}
+use Rattle.cfb_format.proofs.Members.{same_flat}
 
 -- what a chain is, told by the chain of the content
 by-content : (b : Bool) (x y x' y' : Option (List ℕ)) → (if b then x' else y') ≡ (if b then x else y)
@@ -67,7 +69,7 @@ module _ (v : Validation) (i : ℕ) (old new : MiniState) (change : ChangesConte
         let before : sectors_by_owners old o i ≡ in_use (tables_in old) old.directory.sectors old.minifat_sectors (mini_stream_of old) xs others =
         ap (λ (x : List ℕ). in_use (tables_in old) old.directory.sectors old.minifat_sectors (mini_stream_of old) x others) had in
         let rest : flat_map (sectors_owned new) (other_streams o i) ≡ others =
-        same-flat (sectors_owned old) (sectors_owned new) (other_streams o i) (λ k c. (others-own o is k c).0) in
+        same_flat (sectors_owned old) (sectors_owned new) (other_streams o i) (λ k c. (others-own o is k c).0) in
         let after : sectors_by_owners new o i ≡ in_use (tables_in new) old.directory.sectors f m ys others =
         λ j. in_use (tables_in new) (change.directory j) (same_f j) (same_m j) (has j) (rest j) in
         use-by-count (tables_in old).fat (in_use (tables_in old) old.directory.sectors old.minifat_sectors (mini_stream_of old) xs others) (used_sectors (parts_with old o))
@@ -83,21 +85,18 @@ module _ (v : Validation) (i : ℕ) (old new : MiniState) (change : ChangesConte
     mini-side ms ns had has step =
         let before : mini_sectors_by_owners old o i ≡ ms ++ mini_others = ap (λ (x : List ℕ). x ++ mini_others) had in
         let rest : flat_map (mini_sectors_owned new) (other_streams o i) ≡ mini_others =
-        same-flat (mini_sectors_owned old) (mini_sectors_owned new) (other_streams o i) (λ k c. (others-own o is k c).1) in
+        same_flat (mini_sectors_owned old) (mini_sectors_owned new) (other_streams o i) (λ k c. (others-own o is k c).1) in
         let after : mini_sectors_by_owners new o i ≡ ns ++ mini_others = λ j. has j ++ rest j in
         use-by-count old.minifat (ms ++ mini_others) (used_mini_sectors (parts_with old o)) new.minifat (ns ++ mini_others) (used_mini_sectors (parts_with new o))
         (λ n. ap (tally n) (sym before) ∙ sym (used-by-owners old i o change.changeable.held.mini_stream is reached n).1)
         (λ n. ap (tally n) (sym after) ∙ sym (used-by-owners new i o change.held.mini_stream now reached n).1)
         (step (subst (λ (u : List ℕ). Uses old.minifat u) before uses.1))
 
-stream-same : (a b : MiniState) → b.mini_stream ≡ a.mini_stream → mini_stream_of b ≡ mini_stream_of a
-stream-same a b e = ap (λ (w : Option (List ℕ)). unwrap_or w []) e
-
 -- ---- each kind of change
 
 pub same-is-used : SameUse
 same-is-used v i old new xs ms change system kept had has = record {
-  sectors = λ o is. fat-side v i old new change o is old.minifat_sectors (mini_stream_of old) xs xs kept.minifat_sectors (stream-same old new kept.mini_stream) had.sectors_are has.sectors_are
+  sectors = λ o is. fat-side v i old new change o is old.minifat_sectors (mini_stream_of old) xs xs kept.minifat_sectors (same-stream old new kept.mini_stream) had.sectors_are has.sectors_are
       (λ u. subst (λ (t : TableState). UseChanges (tables_in old).fat (in_use (tables_in old) old.directory.sectors old.minifat_sectors (mini_stream_of old) xs (others v i old new change o is))
       t.fat (in_use t old.directory.sectors old.minifat_sectors (mini_stream_of old) xs (others v i old new change o is))) (sym system.tables)
       (same-use (tables_in old).fat (in_use (tables_in old) old.directory.sectors old.minifat_sectors (mini_stream_of old) xs (others v i old new change o is)) (tables_in old).fat refl));
@@ -107,7 +106,7 @@ same-is-used v i old new xs ms change system kept had has = record {
 
 pub large-goes-on : LargeGoesOn
 large-goes-on v i old new xs ys ms count change kept longer had has = record {
-  sectors = λ o is. fat-side v i old new change o is old.minifat_sectors (mini_stream_of old) xs ys kept.minifat_sectors (stream-same old new kept.mini_stream) had.sectors_are has.sectors_are
+  sectors = λ o is. fat-side v i old new change o is old.minifat_sectors (mini_stream_of old) xs ys kept.minifat_sectors (same-stream old new kept.mini_stream) had.sectors_are has.sectors_are
       (own-goes-on (tables_in old) (tables_in new) old.directory.sectors (others v i old new change o is) count old.minifat_sectors (mini_stream_of old) xs ys longer);
   mini_sectors = λ o is. mini-side v i old new change o is ms ms had.mini_sectors_are has.mini_sectors_are
       (λ u. same-use old.minifat (ms ++ mini_others v i old new change o is) new.minifat kept.minifat);
@@ -115,7 +114,7 @@ large-goes-on v i old new xs ys ms count change kept longer had has = record {
 
 pub large-is-cut : LargeIsCut
 large-is-cut v i old new xs ys ms left change kept shorter had has = record {
-  sectors = λ o is. fat-side v i old new change o is old.minifat_sectors (mini_stream_of old) xs ys kept.minifat_sectors (stream-same old new kept.mini_stream) had.sectors_are has.sectors_are
+  sectors = λ o is. fat-side v i old new change o is old.minifat_sectors (mini_stream_of old) xs ys kept.minifat_sectors (same-stream old new kept.mini_stream) had.sectors_are has.sectors_are
       (own-is-cut (tables_in old) (tables_in new) old.directory.sectors (others v i old new change o is) left old.minifat_sectors (mini_stream_of old) xs ys shorter);
   mini_sectors = λ o is. mini-side v i old new change o is ms ms had.mini_sectors_are has.mini_sectors_are
       (λ u. same-use old.minifat (ms ++ mini_others v i old new change o is) new.minifat kept.minifat);
@@ -149,7 +148,7 @@ settled-system a b x y (inl gives) u =
 settled-system a b x y (inr keeps) u =
     let before = in_use (tables_in a) a.directory.sectors a.minifat_sectors (mini_stream_of a) x y in
     let same : in_use (tables_in b) a.directory.sectors b.minifat_sectors (mini_stream_of b) x y ≡ before =
-    λ j. in_use (keeps.tables j) a.directory.sectors (keeps.minifat j) (stream-same a b keeps.mini_stream j) x y in
+    λ j. in_use (keeps.tables j) a.directory.sectors (keeps.minifat j) (same-stream a b keeps.mini_stream j) x y in
     subst (λ (w : List ℕ). UseChanges (tables_in a).fat before (tables_in b).fat w) (sym same)
     (same-use (tables_in a).fat before (tables_in b).fat (ap (λ (t : TableState). t.fat) keeps.tables))
 
@@ -200,13 +199,13 @@ large-becomes-small v i old mid new xs ns limit count change kept shorter grows 
         (tables_in new).fat (in_use (tables_in new) old.directory.sectors new.minifat_sectors grows.stream [] y) first
         (grown-system (tables_in mid) grows.between (tables_in new) old.directory.sectors old.minifat_sectors new.minifat_sectors (mini_stream_of old) grows.stream [] y (minifat_lacks mid count) (mini_stream_lacks mid count)
         (subst (λ (l : List ℕ). Lengthens (minifat_lacks mid count) l new.minifat_sectors (tables_in mid) grows.between) kept.minifat_sectors grows.minifat)
-        (subst (λ (l : List ℕ). Lengthens (mini_stream_lacks mid count) l grows.stream grows.between (tables_in new)) (stream-same old mid kept.mini_stream) grows.mini_stream)
+        (subst (λ (l : List ℕ). Lengthens (mini_stream_lacks mid count) l grows.stream grows.between (tables_in new)) (same-stream old mid kept.mini_stream) grows.mini_stream)
         (uses-kept (tables_in old).fat (in_use (tables_in old) old.directory.sectors old.minifat_sectors (mini_stream_of old) xs y)
         (tables_in mid).fat (in_use (tables_in mid) old.directory.sectors old.minifat_sectors (mini_stream_of old) [] y) first u))
 
 pub small-becomes-large : SmallBecomesLarge
 small-becomes-large v i old mid new ms ys count change room gives kept longer had has = record {
-  sectors = λ o is. fat-side v i old new change o is mid.minifat_sectors (mini_stream_of mid) [] ys kept.minifat_sectors (stream-same mid new kept.mini_stream)
+  sectors = λ o is. fat-side v i old new change o is mid.minifat_sectors (mini_stream_of mid) [] ys kept.minifat_sectors (same-stream mid new kept.mini_stream)
       had.sectors_are has.sectors_are (λ u. settled-and-grown (others v i old new change o is) u);
   mini_sectors = λ o is. mini-side v i old new change o is ms [] had.mini_sectors_are has.mini_sectors_are
       (mini-is-cut old.minifat new.minifat ms [] (mini_others v i old new change o is) 0

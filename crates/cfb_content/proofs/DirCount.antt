@@ -1,30 +1,23 @@
 -- The header's count of the directory's sectors stays where contents change.
-use Rattle.std.proofs.Common.{◌≡◌, ◌<◌, ◌≤◌, ◌+◌, inl, inr, ℕ, List, ◌∙◌, subst, length, arith}
+use Rattle.std.proofs.Common.{◌≡◌, ◌<◌, ◌≤◌, ◌+◌, inl, inr, ℕ, List, subst, length, arith}
 use Rattle.std.specs.Prelude.{slice_index}
 use Rattle.cfb_format.specs.declared.validate.Validation.{Validation}
 use Rattle.cfb_format.specs.declared.version.Version.{Version}
 use Rattle.cfb_format.specs.declared.version.Version.TheVariants.{V3, V4}
-use Rattle.cfb_format.specs.Bytes.{sector_len, sector_start}
+use Rattle.cfb_format.specs.Bytes.{sector_start}
 use Rattle.cfb_sectors.proofs.WordLemmas.{word_same}
-use Rattle.cfb_alloc.specs.Alloc.{AllocatorState, IsOtherHeaderByte}
+use Rattle.cfb_content.specs.cfb_alloc.Alloc.{AllocatorState, IsOtherHeaderByte}
 use Rattle.cfb_chains.specs.ChainPlaces.{place_along}
-use Rattle.cfb_directory.specs.Steps.{KeepsWholeHeader}
-use Rattle.cfb_directory.proofs.Placed.{header_there}
-use Rattle.cfb_mini_sectors.specs.Growing.{KeepsOutsideMini}
-use Rattle.cfb_mini_sectors.specs.Held.{with_table}
-use Rattle.cfb_mini_sectors.specs.State.{HoldsMini, MiniState, bytes_of, table_of, version_of}
-use Rattle.cfb_mini_sectors.specs.Steps.{IsOutsideMini, KeepsHeader}
+use Rattle.cfb_content.proofs.cfb_directory.Placed.{header_there}
+use Rattle.cfb_content.specs.cfb_mini_sectors.Growing.{KeepsOutsideMini}
+use Rattle.cfb_content.specs.cfb_mini_sectors.Held.{with_table}
+use Rattle.cfb_content.specs.cfb_mini_sectors.State.{HoldsMini, MiniState, bytes_of, table_of, version_of}
+use Rattle.cfb_content.specs.cfb_mini_sectors.Steps.{KeepsHeader}
 use Rattle.cfb_content.specs.Contents.{dir_count_of, mini_place_along}
 use Rattle.cfb_content.specs.Parts.{ChangesOnlyPlaces}
+use Rattle.cfb_content.proofs.cfb_mini_sectors.MinifatGrown.{below_words}
 
 -- ---- of bytes
-
-pub outside-below : (i : ℕ) → IsOutsideMini i → i < 60
-outside-below i (inl low) = omega (arith, low)
-outside-below i (inr mid) = mid.1
-
-pub outside-then : (a b c : List ℕ) → length a ≤ length b → KeepsOutsideMini a b → KeepsOutsideMini b c → KeepsOutsideMini a c
-outside-then a b c longer first second i lt out = second i (omega (arith, lt, longer)) out ∙ first i lt out
 
 -- what speaks of the tables alone may have changed
 pub outside-other : (v : Version) (a b : List ℕ) → ((i : ℕ) → i < length a → IsOtherHeaderByte v i → slice_index b i ≡ slice_index a i) → KeepsOutsideMini a b
@@ -42,7 +35,7 @@ past-more V4 n rest more = omega arith
 -- or bytes at places in sectors
 placed-outside : (place : ℕ → ℕ) (at n : ℕ) (a b : List ℕ) → ((k : ℕ) → 512 ≤ place k) → ChangesOnlyPlaces place at n a b → KeepsOutsideMini a b
 placed-outside place at n a b past change i lt out =
-    change.others i lt (λ k from till is. let low = outside-below i out in let high = past k in omega (arith, low, high, is))
+    change.others i lt (λ k from till is. let low = below_words i out in let high = past k in omega (arith, low, high, is))
 
 pub sectors-outside : (v : Version) (ids : List ℕ) (at n : ℕ) (a b : List ℕ) → ChangesOnlyPlaces (place_along v ids) at n a b → KeepsOutsideMini a b
 sectors-outside v ids at n a b change = placed-outside (place_along v ids) at n a b (λ k. past-header v _ _) change
@@ -59,14 +52,6 @@ count-stays v old new held keeps =
 
 pub count-since : (v : Validation) (old mid new : MiniState) → mid ≡ old → HoldsMini v old → KeepsHeader mid new → dir_count_of new ≡ dir_count_of old
 count-since v old mid new same held keeps = count-stays v old new held (subst (λ (s : MiniState). KeepsHeader s new) same keeps)
-
--- a change of the directory's slots leaves the whole header
-pub slots-outside : (old new : MiniState) → KeepsWholeHeader old.directory new.directory → KeepsHeader old new
-slots-outside old new whole i lt out = whole i lt (inside (version_of old) i (outside-below i out))
-  where
-    inside : (v : Version) (i : ℕ) → i < 60 → i < sector_len v
-    inside V3 i low = omega (arith, low)
-    inside V4 i low = omega (arith, low)
 
 -- a change of sectors below leaves what does not speak of the tables
 pub table-count : (v : Validation) (s : MiniState) (a b : AllocatorState) → a ≡ table_of s → HoldsMini v s

@@ -1,15 +1,18 @@
 -- How many numbers more are free where some are given back.
-use Rattle.std.proofs.Common.{◌≡◌, ◌≢◌, inl, inr, ℕ, zero, suc, ◌+◌, Bool, List, [], ◌∷◌, ◌++◌, length, set, refl, sym, ◌∙◌, ap, subst, arith, cond, ne_eqb, length-set}
+use Rattle.std.proofs.Common.{◌≡◌, ◌≢◌, inl, inr, ℕ, suc, ◌+◌, Bool, List, [], ◌∷◌, ◌++◌, length, set, refl, sym, ◌∙◌, ap, subst, arith, cond, ne_eqb, length-set}
 use Rattle.std.specs.Prelude.{Contains, ◌==◌, nat_eq}
 use Rattle.std.specs.List.{IsDistinct}
 use Rattle.std.proofs.lemmas.Bool.{cases_eq}
 use Rattle.std.proofs.lemmas.List.Elements.{Contains-append_cases, Contains-append_left, Contains-append_right}
-use Rattle.std.proofs.lemmas.List.Sums.{sum_by-cons}
 use Rattle.cfb_format.specs.Bytes.{end_of_chain, free_sector}
 use Rattle.cfb_format.specs.Chain.{value}
 use Rattle.cfb_format.specs.Full.{free_count}
 use Rattle.cfb_tables.specs.Changes.{GivesBack}
-use Rattle.cfb_tables.proofs.Members.{Contains-cases, Contains-here, Contains-nil, Contains-or, Contains-there, distinct-apart, distinct-right, value-below, value-past, value-set, value-set_other}
+use Rattle.cfb_tables.proofs.Members.{value-set, value-set_other}
+use Rattle.cfb_format.proofs.Members.{Contains-cases, Contains-here, Contains-nil, Contains-or, Contains-there, distinct-apart, distinct-right}
+use Rattle.cfb_format.proofs.Walks.{value-below}
+use Rattle.cfb_content.proofs.cfb_mini_table.FreedLemmas.{count-free}
+use Rattle.cfb_tables.proofs.FreeLemmas.{count-cons}
 
 abbrev bit : ℕ → ℕ
 bit y = cond (y == free_sector) 1 0
@@ -19,24 +22,6 @@ bit-yes y e = rw e refl
 
 bit-no : (y : ℕ) → y ≢ free_sector → bit y ≡ 0
 bit-no y ne = ap (λ (b : Bool). cond {A = ℕ} b 1 0) (ne_eqb y free_sector ne)
-
-count-cons : (y : ℕ) (table : List ℕ) → free_count (y ∷ table) ≡ bit y + free_count table
-count-cons y table = sum_by-cons bit y table
-
--- one more is free
-one-more : (table : List ℕ) (x : ℕ) → value table x ≢ free_sector → free_count (set table x free_sector) ≡ free_count table + 1
-one-more [] x busy = absurd (busy (value-past [] x (omega arith)))
-one-more (y ∷ table) zero busy =
-    let a = bit-no y busy in
-    let b = bit-yes free_sector refl in
-    let p = count-cons y table in
-    let q = count-cons free_sector table in
-    omega (arith, a, b, p, q)
-one-more (y ∷ table) (suc x) busy =
-    let rest = one-more table x busy in
-    let p = count-cons y table in
-    let q = count-cons y (set table x free_sector) in
-    omega (arith, rest, p, q)
 
 -- tables with the same free numbers have as many
 same-free : (old new : List ℕ) → length new ≡ length old → ((i : ℕ) → value old i ≡ free_sector → value new i ≡ free_sector)
@@ -62,7 +47,7 @@ more-free [] old new size once busy free there back =
 more-free (x ∷ gone) old new size once busy free there back =
     let mid = set old x free_sector in
     let at = busy x (Contains-here x gone) in
-    let one = one-more old x at in
+    let one = count-free old x at in
     let apart : (i : ℕ) → Contains gone i → i ≢ x = λ i m e.
     distinct-apart (x ∷ []) gone once x (Contains-here x []) (subst (Contains gone) e m) in
     let out : (i : ℕ) → i ≢ x → (Contains gone i → ⊥) → Contains (x ∷ gone) i → ⊥ = λ i ne no m.

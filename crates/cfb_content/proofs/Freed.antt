@@ -14,7 +14,9 @@ use Rattle.cfb_format.specs.Chain.{value}
 use Rattle.cfb_format.specs.Fat.{without_end}
 use Rattle.cfb_format.specs.Full.{freed}
 use Rattle.cfb_tables.specs.Tables.{wiped}
-use Rattle.cfb_tables.proofs.Members.{Contains-cases, Contains-here, Contains-nil, Contains-or, Contains-there, value-at, value-past, value-set, value-set_other}
+use Rattle.cfb_tables.proofs.Members.{value-past, value-set, value-set_other}
+use Rattle.cfb_format.proofs.Members.{Contains-cases, Contains-here, Contains-nil, Contains-or, Contains-there}
+use Rattle.cfb_format.proofs.Walks.{value-at}
 
 -- it is what the tables call wiped
 pub freed-is-wiped : (list table : List ℕ) → freed table list ≡ wiped table list

@@ -4,7 +4,6 @@ use Rattle.std.specs.Prelude.{Option, ◌==◌, if◌then◌else◌, nat_le, nat
 use Rattle.std.proofs.lemmas.Bool.{cases_lt, le-leb, leb-true, ltb-false, ltb-true}
 use Rattle.cfb_format.specs.declared.validate.Validation.{Validation}
 use Rattle.cfb_format.specs.declared.version.Version.{Version}
-use Rattle.cfb_format.specs.declared.version.Version.TheVariants.{V3, V4}
 use Rattle.cfb_format.specs.Bytes.{free_sector, max_regular_sector, sector_len, words_per_sector}
 use Rattle.cfb_format.specs.Content.{is_large, mini_sector_len, mini_stream_chain}
 use Rattle.cfb_format.specs.Fat.{without_end}
@@ -13,22 +12,14 @@ use Rattle.cfb_format.specs.Siblings.{entry_at}
 use Rattle.cfb_format.specs.Soundness.{mini_sectors_of, mini_stream_sectors, sectors_of}
 use Rattle.cfb_tables.specs.Room.{IsTooFewAfter}
 use Rattle.cfb_tables.proofs.RoomLemmas.{enough-is-room-after, too-few-is-no-room-after}
-use Rattle.cfb_mini_sectors.specs.State.{HoldsMini, MiniState, entries_of, mini_stream_of, parts_of, tables_in, version_of}
-use Rattle.cfb_mini_sectors.specs.Steps.{IsTooFewAfterFor, minifat_lacks, mini_stream_lacks}
+use Rattle.cfb_content.specs.cfb_mini_sectors.State.{HoldsMini, MiniState, entries_of, mini_stream_of, parts_of, tables_in, version_of}
+use Rattle.cfb_content.specs.cfb_mini_sectors.Steps.{IsTooFewAfterFor, minifat_lacks, mini_stream_lacks}
 use Rattle.cfb_content.specs.Contents.{IsTooLongFor, mini_sectors_owned, sectors_owned}
 use Rattle.cfb_content.specs.Laws.{EnoughIsNotTooLong, LackIsTooLong}
 use Rattle.cfb_content.specs.Room.{room_given}
+use Rattle.cfb_format.proofs.FullChains.{quotient_none, room_none}
 
 -- ---- numbers
-
--- what n takes is there already
-rounded-words : (v : Version) (n k : ℕ) → n ≤ k * words_per_sector v → rounded_up n (words_per_sector v) - k ≡ 0
-rounded-words V3 n k h = omega (arith, h)
-rounded-words V4 n k h = omega (arith, h)
-
-rounded-bytes : (v : Version) (n k : ℕ) → n ≤ k * sector_len v → rounded_up n (sector_len v) - k ≡ 0
-rounded-bytes V3 n k h = omega (arith, h)
-rounded-bytes V4 n k h = omega (arith, h)
 
 -- room for many is room for fewer
 fewer-fit : (v : Version) (limit n fats difats more fewer : ℕ) → fewer ≤ more → HasRoom v limit n fats difats more → HasRoom v limit n fats difats fewer
@@ -145,8 +136,8 @@ module _ (s : MiniState) (i len : ℕ) where
       ∙ both (sectors_for (version_of s) len - length (sectors_owned s i))
       (rounded_up (length s.minifat) (words_per_sector (version_of s)) - length s.minifat_sectors)
       (rounded_up (length s.minifat * mini_sector_len) (sector_len (version_of s)) - length (mini_stream_of s))
-      (rounded-words (version_of s) (length s.minifat) (length s.minifat_sectors) covers)
-      (rounded-bytes (version_of s) (length s.minifat * mini_sector_len) (length (mini_stream_of s)) room)
+      (quotient_none (version_of s) (length s.minifat) (length s.minifat_sectors) covers)
+      (room_none (version_of s) (length s.minifat * mini_sector_len) (length (mini_stream_of s)) room)
     where
       both : (n a c : ℕ) → a ≡ 0 → c ≡ 0 → n + a + c ≡ n
       both n a c p q = omega (arith, p, q)

@@ -1,10 +1,10 @@
 -- Sectors that went on and got bytes: those that lie in fresh ones came with the growth, those before them are put where they stand.
-use Rattle.std.proofs.Common.{length-append, ◌≡◌, ◌≢◌, ◌≤◌, ◌<◌, ◌+◌, ◌-◌, ◌*◌, ◌/◌, ◌%◌, ◌⊎◌, min, max, inl, inr, ℕ, List, ◌++◌, refl, sym, ◌∙◌, ap, subst, length, take, drop, arith, length-take, get_or-take, get_or-drop}
-use Rattle.std.specs.Prelude.{Contains, slice_index, nat_eq}
+use Rattle.std.proofs.Common.{length-append, ◌≡◌, ◌≤◌, ◌<◌, ◌+◌, ◌-◌, ◌*◌, ◌/◌, ◌%◌, ◌⊎◌, min, max, inl, inr, ℕ, List, ◌++◌, refl, sym, ◌∙◌, ap, subst, length, take, drop, arith, length-take, get_or-take, get_or-drop}
+use Rattle.std.specs.Prelude.{slice_index, nat_eq}
 use Rattle.std.specs.List.{IsDistinct}
 use Rattle.std.proofs.lemmas.Bool.{cases_lt}
 use Rattle.std.proofs.lemmas.List.Elements.{Contains-get_or}
-use Rattle.std.proofs.lemmas.List.{get_or-append_right, get_or-replicate, length-drop, take_all}
+use Rattle.std.proofs.lemmas.List.{get_or-append_right, get_or-replicate, length-drop}
 use Rattle.cfb_format.specs.declared.validate.Validation.{Validation}
 use Rattle.cfb_format.specs.declared.version.Version.{Version}
 use Rattle.cfb_format.specs.declared.version.Version.TheVariants.{V3, V4}
@@ -12,22 +12,23 @@ use Rattle.cfb_format.specs.Bytes.{sector_len, sector_start}
 use Rattle.cfb_format.specs.Chain.{IsChain}
 use Rattle.cfb_sectors.specs.Sectors.{init_bytes}
 use Rattle.cfb_sectors.specs.declared.sector.SectorInit.TheVariants.{Zero}
-use Rattle.cfb_table_words.specs.Along.{AreFilledFrom}
-use Rattle.cfb_table_words.proofs.FilledSectors.{given_first, given_fresh, init_zero}
+use Rattle.cfb_content.specs.cfb_table_words.Along.{AreFilledFrom}
+use Rattle.cfb_content.proofs.cfb_table_words.FilledSectors.{given_first, given_fresh, init_zero}
 use Rattle.cfb_tables.specs.Listed.{gained}
 use Rattle.cfb_tables.specs.Tables.{first_or_end}
 use Rattle.cfb_tables.proofs.ChainLemmas.{members-busy}
-use Rattle.cfb_tables.proofs.Members.{Contains-nil}
-use Rattle.cfb_alloc.specs.Agreement.{KeepsSectors}
-use Rattle.cfb_alloc.specs.Alloc.{AllocatorState, HoldsTables, IsOtherHeaderByte, OthersStay}
-use Rattle.cfb_alloc.specs.ListedChain.{Lengthens}
-use Rattle.cfb_alloc.proofs.Spared.{start_past}
+use Rattle.cfb_content.specs.cfb_alloc.Agreement.{KeepsSectors}
+use Rattle.cfb_content.specs.cfb_alloc.Alloc.{AllocatorState, HoldsTables, IsOtherHeaderByte, OthersStay}
+use Rattle.cfb_content.specs.cfb_alloc.ListedChain.{Lengthens}
+use Rattle.cfb_content.proofs.cfb_alloc.Spared.{start_past}
 use Rattle.cfb_chains.specs.ChainPlaces.{place_along}
-use Rattle.cfb_chains.proofs.ChainContent.{index_inside, rest_short}
+use Rattle.cfb_chains.proofs.ChainContent.{rest_short}
 use Rattle.cfb_chains.proofs.PlacedBytes.{grown_len, grown_place, kept_there, no_shorter_chain}
-use Rattle.cfb_mini_sectors.proofs.HeldMini.{no-tables}
+use Rattle.cfb_content.proofs.cfb_mini_sectors.HeldMini.{no-tables}
 use Rattle.cfb_content.specs.Parts.{AreZerosAlong, ChangesOnlyPlaces, StandAlong, StaysAlong}
 use Rattle.cfb_content.proofs.PlacedOnce.{placed-once}
+use Rattle.cfb_format.proofs.Members.{Contains-nil}
+use Rattle.cfb_content.proofs.cfb_alloc.ChainView.{index_inside}
 
 -- ---- numbers
 
@@ -56,10 +57,6 @@ gained-index : (v : Version) (m j : ℕ) → ((m * sector_len v + j) / sector_le
 gained-index V3 m j = (omega arith, omega arith)
 gained-index V4 m j = (omega arith, omega arith)
 
--- what a slice behind so many has
-pub rest-all : (xs : List ℕ) (n : ℕ) → take (length xs - n) (drop n xs) ≡ drop n xs
-rest-all xs n = let size = length-drop n xs in take_all (length xs - n) (drop n xs) (omega (arith, size))
-
 -- ---- places
 
 -- a byte behind those of the sectors that were there is one of the fresh ones
@@ -73,7 +70,7 @@ gained-place v ids more j =
     (λ i. sector_start v (slice_index (ids ++ more) (index.0 i)) + index.1 i)
     ∙ ap (λ x. sector_start v x + j % sector_len v) (right ∙ ap (slice_index more) less)
 
-zero-in : (v : Version) (r : ℕ) → r < sector_len v → slice_index (init_bytes v Zero) r ≡ 0
+pub zero-in : (v : Version) (r : ℕ) → r < sector_len v → slice_index (init_bytes v Zero) r ≡ 0
 zero-in v r lt = ap (λ (xs : List ℕ). slice_index xs r) (init_zero v Zero refl) ∙ get_or-replicate (sector_len v) r 0 0 lt
 
 -- ---- what stands along them

@@ -8,12 +8,12 @@ use Rattle.cfb_tables.specs.Listed.{ends_of, gained, last_or_end}
 use Rattle.cfb_tables.specs.Owners.{UseChanges, Uses, tally}
 use Rattle.cfb_tables.specs.Tables.{HasTaken, TableState}
 use Rattle.cfb_tables.proofs.Counts.{distinct-tally, freeing-by-count, in-tally, taking-by-count, tally-append, tally-distinct, tally-in}
-use Rattle.cfb_tables.proofs.Members.{Contains-nil, Contains-one}
 use Rattle.cfb_tables.proofs.UseLemmas.{given-back-frees, taken-takes}
-use Rattle.cfb_alloc.specs.Frame.{table_sectors}
-use Rattle.cfb_alloc.specs.ListedChain.{Lengthens, Shortens}
-use Rattle.cfb_mini_table.specs.MiniTable.{MiniGivesBack, TakesMini}
-use Rattle.cfb_mini_table.proofs.LawLemmas.{mini-freeing, mini-taking}
+use Rattle.cfb_content.specs.cfb_alloc.Frame.{table_sectors}
+use Rattle.cfb_content.specs.cfb_alloc.ListedChain.{Lengthens, Shortens}
+use Rattle.cfb_content.specs.cfb_mini_table.MiniTable.{MiniGivesBack, TakesMini}
+use Rattle.cfb_content.proofs.cfb_mini_table.LawLemmas.{mini-freeing, mini-taking}
+use Rattle.cfb_format.proofs.Members.{Contains-nil, Contains-one}
 
 -- ---- by counts
 

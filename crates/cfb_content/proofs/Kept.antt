@@ -1,10 +1,9 @@
 -- What a change leaves of the other streams' content.
-use Rattle.std.proofs.Common.{◌≡◌, ◌≢◌, ◌<◌, ◌≤◌, ◌+◌, ◌*◌, ◌/◌, ◌%◌, inl, inr, ℕ, List, [], ◌++◌, Bool, true, false, refl, sym, ◌∙◌, ap, subst, length, arith}
+use Rattle.std.proofs.Common.{◌≡◌, ◌≢◌, ◌<◌, ◌+◌, ◌*◌, ◌/◌, ◌%◌, inl, inr, ℕ, List, [], ◌++◌, Bool, true, false, refl, sym, ◌∙◌, ap, subst, length, arith}
 use Rattle.std.specs.Prelude.{Contains, IsSome, Option, Some, if◌then◌else◌, slice_index, unwrap_or, ◌==◌}
 use Rattle.std.proofs.lemmas.List.Elements.{Contains-append_cases, Contains-append_left, Contains-append_right, Contains-get_or}
 use Rattle.cfb_format.specs.declared.validate.Validation.{Validation}
 use Rattle.cfb_format.specs.declared.version.Version.{Version}
-use Rattle.cfb_format.specs.declared.version.Version.TheVariants.{V3, V4}
 use Rattle.cfb_format.specs.Bytes.{free_sector, sector_len, sector_start}
 use Rattle.cfb_format.specs.Chain.{chain_from, value}
 use Rattle.cfb_format.specs.Content.{content_chain, is_large, mini_chain, mini_sector_len, sector_chain}
@@ -14,35 +13,31 @@ use Rattle.cfb_format.proofs.Chains.{chain_from-IsChain}
 use Rattle.cfb_sectors.specs.Sectors.{SectorStays}
 use Rattle.cfb_sectors.specs.Words.{RangeStays}
 use Rattle.cfb_tables.proofs.ChainLemmas.{chain-stays}
-use Rattle.cfb_alloc.specs.Frame.{IsForeign, Spares}
-use Rattle.cfb_tables.proofs.Members.{Contains-nil, distinct-apart, value-below}
-use Rattle.cfb_soundness.specs.Places.{mini_start}
-use Rattle.cfb_mini_sectors.specs.State.{HoldsMini, IsChangeable, MiniState, bytes_of, entries_of, mini_place, mini_stream_of, parts_of, table_of, tables_in, version_of}
-use Rattle.cfb_mini_sectors.specs.Steps.{system_sectors}
+use Rattle.cfb_content.specs.cfb_alloc.Frame.{IsForeign, Spares}
+use Rattle.cfb_content.specs.cfb_soundness.Places.{mini_start}
+use Rattle.cfb_content.specs.cfb_mini_sectors.State.{HoldsMini, IsChangeable, MiniState, bytes_of, entries_of, mini_place, mini_stream_of, parts_of, table_of, tables_in, version_of}
+use Rattle.cfb_content.specs.cfb_mini_sectors.Steps.{system_sectors}
 use Rattle.cfb_content.specs.Contents.{IsStreamOf, KeepsContent, mini_sectors_owned, sectors_owned}
 use Rattle.cfb_content.specs.Laws.{IsApart, KeptMiniIsSpared, NothingIsMoved, OthersAreKeptInTurn, SparedIsKept, SparedSectorsAreKept}
 use Rattle.cfb_content.proofs.Apart.{minis-busy, own-is-apart, sectors-busy, sound-at, stream-busy, system-no-table}
 use Rattle.cfb_content.proofs.Outlines.{moved-is-outline, no-root-stream}
-use Rattle.cfb_content.proofs.Owned.{large-content, large-owned, small-content, small-owned, some-of}
+use Rattle.cfb_content.proofs.Owned.{large-content, large-owned, small-content, small-owned}
+use Rattle.cfb_format.proofs.Members.{Contains-nil, distinct-apart}
+use Rattle.cfb_format.proofs.Walks.{value-below}
+use Rattle.cfb_format.proofs.MiniPlaces.{mini_inside, mini_below}
+use Rattle.cfb_format.proofs.Along.{next_start}
+use Rattle.cfb_content.proofs.cfb_soundness.Others.{some_of}
+use Rattle.cfb_sectors.proofs.SectorLemmas.{Stays_trans, Stays_refl}
 
 -- ---- nothing changes, and one change after the other
-
-stays-same : (from to : ℕ) (a : List ℕ) → RangeStays from to a a
-stays-same from to a = record { no_shorter = omega arith; each = λ i lt low high. refl }
-
-stays-then : (from to : ℕ) (a b c : List ℕ) → RangeStays from to a b → RangeStays from to b c → RangeStays from to a c
-stays-then from to a b c p q = record {
-  no_shorter = omega (arith, p.no_shorter, q.no_shorter);
-  each = λ i lt low high. q.each i (omega (arith, lt, p.no_shorter)) low high ∙ p.each i lt low high;
-}
 
 pub nothing-is-moved : NothingIsMoved
 unfolding SectorStays
 nothing-is-moved i s o is k m ne = record {
   chain = refl;
-  sectors = λ b n c. stays-same (sector_start (version_of s) n) (sector_start (version_of s) (n + 1)) (bytes_of s);
+  sectors = λ b n c. Stays_refl (sector_start (version_of s) n) (sector_start (version_of s) (n + 1)) (bytes_of s);
   places = λ b n c. refl;
-  mini_sectors = λ b n c. stays-same (mini_place s n) (mini_place s n + mini_sector_len) (bytes_of s);
+  mini_sectors = λ b n c. Stays_refl (mini_place s n) (mini_place s n + mini_sector_len) (bytes_of s);
 }
 
 module _ (old mid new : MiniState) (e : Entry) (version : version_of mid ≡ version_of old) (a : KeepsContent old mid e) (b : KeepsContent mid new e) where
@@ -59,11 +54,11 @@ module _ (old mid new : MiniState) (e : Entry) (version : version_of mid ≡ ver
   keeps-then = record {
     chain = b.chain ∙ a.chain;
     sectors = λ l n c.
-        stays-then (sector_start (version_of old) n) (sector_start (version_of old) (n + 1)) (bytes_of old) (bytes_of mid) (bytes_of new) (a.sectors l n c)
+        Stays_trans (sector_start (version_of old) n) (sector_start (version_of old) (n + 1)) (bytes_of old) (bytes_of mid) (bytes_of new) (a.sectors l n c)
         (subst (λ w. RangeStays (sector_start w n) (sector_start w (n + 1)) (bytes_of mid) (bytes_of new)) version (b.sectors l n (there-large l n c)));
     places = λ l n c. b.places l n (there-small l n c) ∙ a.places l n c;
     mini_sectors = λ l n c.
-        stays-then (mini_place old n) (mini_place old n + mini_sector_len) (bytes_of old) (bytes_of mid) (bytes_of new) (a.mini_sectors l n c)
+        Stays_trans (mini_place old n) (mini_place old n + mini_sector_len) (bytes_of old) (bytes_of mid) (bytes_of new) (a.mini_sectors l n c)
         (subst (λ (at : ℕ). RangeStays at (at + mini_sector_len) (bytes_of mid) (bytes_of new)) (a.places l n c) (b.mini_sectors l n (there-small l n c)));
   }
 
@@ -75,23 +70,11 @@ others-kept-then i old mid new limits moves a b o is k m ne =
 
 -- ---- mini sectors in sectors that stay
 
-mini-inside : (v : Version) (m : ℕ) → 64 * m % sector_len v + 64 ≤ sector_len v
-mini-inside V3 m = omega arith
-mini-inside V4 m = omega arith
-
-pub mini-below : (v : Version) (m n : ℕ) → 64 * m < n * sector_len v → 64 * m / sector_len v < n
-mini-below V3 m n h = omega (arith, h)
-mini-below V4 m n h = omega (arith, h)
-
-pub next-start : (v : Version) (i : ℕ) → sector_start v (i + 1) ≡ sector_start v i + sector_len v
-next-start V3 i = omega arith
-next-start V4 i = omega arith
-
 pub stays-inside : (v : Version) (i n at : ℕ) (a b : List ℕ) → at ≡ sector_start v i + 64 * n % sector_len v → SectorStays v i a b → RangeStays at (at + 64) a b
 unfolding SectorStays
 stays-inside v i n at a b e s = record {
   no_shorter = s.no_shorter;
-  each = λ j lt from to. s.each j lt (omega (arith, e, from)) (omega (arith, e, mini-inside v n, next-start v i, to));
+  each = λ j lt from to. s.each j lt (omega (arith, e, from)) (omega (arith, e, mini_inside v n, next_start v i, to));
 }
 
 -- the mini stream has a place for each value of the MiniFAT
@@ -121,7 +104,7 @@ kept-mini-spared v own old new i change at spares within kept = record {
   bytes = λ m busy out.
       let lt = below m busy in
       let index = 64 * m / sector_len (version_of old) in
-      let inside : index < length (mini_stream_of old) = mini-below (version_of old) m (length (mini_stream_of old)) (stream-room v old m change.held lt) in
+      let inside : index < length (mini_stream_of old) = mini_below (version_of old) m (length (mini_stream_of old)) (stream-room v old m change.held lt) in
       let sector = slice_index (mini_stream_of old) index in
       stays-inside (version_of old) sector m (mini_place old m) (bytes_of old) (bytes_of new) refl
       (spares.sectors sector (stream-foreign v own old new i change at spares within sector (Contains-get_or (mini_stream_of old) index 0 inside)));
@@ -143,7 +126,7 @@ if-same false x y x' y' p q = q refl
 same-chain : (old new : List ℕ) (start : ℕ) → IsSome (chain_from old start)
     → ((n : ℕ) → Contains (unwrap_or (chain_from old start) []) n → value new n ≡ value old n) → chain_from new start ≡ chain_from old start
 same-chain old new start some stays =
-    let l = some-of (chain_from old start) some in
+    let l = some_of (chain_from old start) some in
     (chain_from-IsChain new start l.0).1
     (chain-stays old new start l.0 (λ n c. stays n (subst (λ (w : Option (List ℕ)). Contains (unwrap_or w []) n) (sym l.1) c))
     ((chain_from-IsChain old start l.0).0 l.1))

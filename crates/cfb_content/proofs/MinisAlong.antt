@@ -4,12 +4,12 @@ use Rattle.std.specs.Prelude.{Contains, slice_index}
 use Rattle.std.proofs.lemmas.List.Elements.{Contains-get_or}
 use Rattle.cfb_format.specs.Medium.{ChangesOnlyBytes, part, written}
 use Rattle.cfb_format.proofs.ByteLemmas.{length-written, part_at, written_at}
-use Rattle.cfb_mini_sectors.specs.State.{MiniState, bytes_of, mini_place, table_of}
+use Rattle.cfb_content.specs.cfb_mini_sectors.State.{MiniState, bytes_of, mini_place, table_of}
 use Rattle.cfb_mini.specs.MiniRuns.{HasTheMinis, IsMiniRun, IsMiniStretch}
 use Rattle.cfb_mini.specs.MiniSectors.{HasMiniSector}
 use Rattle.cfb_content.specs.Contents.{mini_place_along}
 use Rattle.cfb_content.specs.Parts.{ChangesOnlyPlaces, IsThereInMinis}
-use Rattle.cfb_content.proofs.PutAlong.{StandsTo, only-range}
+use Rattle.cfb_content.proofs.cfb_table_words.Along.{StandsTo, only_range}
 
 module _ (s : MiniState) (ids : List ℕ) (p index offset n : ℕ) (is : index * 64 + offset ≡ p) (run : IsMiniRun ids index offset n)
     (stretch : IsMiniStretch s (slice_index ids index) offset n) where
@@ -20,7 +20,7 @@ module _ (s : MiniState) (ids : List ℕ) (p index offset n : ℕ) (is : index *
       (λ i. mini_place s (slice_index ids (q i)) + r i) ∙ ap (λ m. mini_place s m + (offset + j) % 64) (run.follow j low) ∙ stretch.follow j low
 
   pub stretch-places : (b c : List ℕ) → ChangesOnlyBytes (mini_place s (slice_index ids index) + offset) n b c → ChangesOnlyPlaces (mini_place_along s ids) p n b c
-  stretch-places b c change = only-range (mini_place_along s ids) p n (mini_place s (slice_index ids index) + offset) b c stretch-place change
+  stretch-places b c change = only_range (mini_place_along s ids) p n (mini_place s (slice_index ids index) + offset) b c stretch-place change
 
   pub stretch-stands : (f b c : List ℕ) → n ≤ length f → c ≡ written b (mini_place s (slice_index ids index) + offset) (take n f)
       → StandsTo (mini_place_along s ids) p (slice_index f) n c

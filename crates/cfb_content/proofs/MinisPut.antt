@@ -6,20 +6,20 @@ use Rattle.cfb_format.specs.declared.validate.Validation.{Validation}
 use Rattle.cfb_format.specs.Content.{mini_sector_len}
 use Rattle.cfb_format.specs.Medium.{written}
 use Rattle.cfb_format.proofs.ByteLemmas.{ChangesOnly_after}
-use Rattle.cfb_tables.proofs.Members.{distinct-right}
-use Rattle.cfb_alloc.specs.Frame.{Spares}
-use Rattle.cfb_alloc.proofs.Frames as frames
-use Rattle.cfb_soundness.specs.Places.{mini_start}
-use Rattle.cfb_mini_sectors.specs.State.{HoldsMini, MiniState, bytes_of, mini_place, mini_stream_of, table_of, version_of}
-use Rattle.cfb_mini_sectors.specs.Steps.{SparesMini}
-use Rattle.cfb_mini_sectors.proofs.MiniFrames.{held-places, spares-then}
+use Rattle.cfb_content.specs.cfb_alloc.Frame.{Spares}
+use Rattle.cfb_content.proofs.cfb_alloc.Frames as frames
+use Rattle.cfb_content.specs.cfb_soundness.Places.{mini_start}
+use Rattle.cfb_content.specs.cfb_mini_sectors.State.{HoldsMini, MiniState, bytes_of, mini_place, mini_stream_of, table_of, version_of}
+use Rattle.cfb_content.specs.cfb_mini_sectors.Steps.{SparesMini}
+use Rattle.cfb_content.proofs.cfb_mini_sectors.MiniFrames.{held-places, spares-then}
 use Rattle.cfb_mini.specs.MiniRuns.{ChangesMiniStretch, IsMiniRun, IsMiniStretch}
 use Rattle.cfb_mini.specs.MiniSectors.{ChangesFileOnly, HasMiniSector}
 use Rattle.cfb_content.specs.Contents.{mini_place_along}
 use Rattle.cfb_content.specs.Parts.{ChangesOnlyPlaces}
 use Rattle.cfb_content.proofs.PlacedOnce.{minis-placed-once}
 use Rattle.cfb_content.proofs.MinisAlong.{shorter-run, stretch-places, stretch-stands}
-use Rattle.cfb_content.proofs.PutAlong.{StandsTo}
+use Rattle.cfb_format.proofs.Members.{distinct-right}
+use Rattle.cfb_content.proofs.cfb_table_words.Along.{StandsTo}
 
 -- the list has a mini sector for that byte, which the mini stream has
 abbrev pub IsPlacedInMinis : MiniState → List ℕ → ℕ → Type 0

@@ -6,27 +6,17 @@ use Rattle.std.proofs.lemmas.Bool.{cases_eq}
 use Rattle.cfb_format.specs.DirectoryEntry.{Entry, ButContent}
 use Rattle.cfb_format.specs.Siblings.{entry_at}
 use Rattle.cfb_format.specs.Reading.{IsOutline, Outline, stream_numbers}
-use Rattle.cfb_siblings.proofs.Tallies.{counted, once-distinct}
-use Rattle.cfb_trees.specs.Changes.{ButFields}
-use Rattle.cfb_trees.proofs.Members.{below-once, no-root, stream-reached}
-use Rattle.cfb_trees.proofs.Same.{outline-kept}
-use Rattle.cfb_mini_sectors.specs.State.{MiniState, cases_of, entries_of, root_len_of}
+use Rattle.cfb_content.proofs.cfb_siblings.Tallies.{counted, once-distinct}
+use Rattle.cfb_content.proofs.cfb_trees.Members.{below-once, no-root, stream-reached}
+use Rattle.cfb_content.proofs.cfb_trees.Same.{outline-kept}
+use Rattle.cfb_content.specs.cfb_mini_sectors.State.{MiniState, cases_of, entries_of, root_len_of}
 use Rattle.cfb_content.specs.Contents.{MovesContent}
 use Rattle.cfb_content.specs.Laws.{ContentMovesInTurn, MovedIsOutline, MovedRootIsMoved, SameEntriesAreMoved, StreamIsNoRoot, StreamStays}
+use Rattle.cfb_content.proofs.cfb_trees.Kept.{but-fields}
 
 -- ---- entries but for start and length
 
-but-fields : (a b : Entry) → ButContent a b → ButFields a b
-but-fields a b e = record {
-  name = ap (λ (x : Entry). x.name) e;
-  obj_type = ap (λ (x : Entry). x.obj_type) e;
-  color = ap (λ (x : Entry). x.color) e;
-  left_sibling = ap (λ (x : Entry). x.left_sibling) e;
-  right_sibling = ap (λ (x : Entry). x.right_sibling) e;
-  child = ap (λ (x : Entry). x.child) e;
-}
-
-but-then : (a b c : Entry) → ButContent a b → ButContent b c → ButContent a c
+pub but-then : (a b c : Entry) → ButContent a b → ButContent b c → ButContent a c
 but-then a b c p q = q ∙ ap (λ (x : Entry). record x { start_sector = c.start_sector; stream_len = c.stream_len }) p
 
 same-but : (a b : Entry) → b ≡ a → ButContent a b

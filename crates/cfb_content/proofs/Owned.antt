@@ -1,9 +1,8 @@
 -- Sectors and mini sectors in use, owner by owner.
 use Rattle.std.proofs.Common.{◌≡◌, ◌≢◌, ◌+◌, inl, inr, ℕ, List, [], ◌∷◌, ◌++◌, Bool, true, false, refl, sym, ◌∙◌, ap, subst, arith}
-use Rattle.std.specs.Prelude.{Contains, IsSome, Option, Some, None, filter, flat_map, if◌then◌else◌, nat_eq, not, unwrap_or, ◌==◌}
+use Rattle.std.specs.Prelude.{Contains, IsSome, Option, Some, filter, flat_map, if◌then◌else◌, nat_eq, not, unwrap_or, ◌==◌}
 use Rattle.std.specs.List.{IsDistinct}
 use Rattle.std.proofs.lemmas.Bool.{cases_eq, eq-eqb, ne_eqb}
-use Rattle.std.proofs.lemmas.List.Elements.{Contains-append_left, Contains-append_right}
 use Rattle.cfb_format.specs.Chain.{chain_from}
 use Rattle.cfb_format.specs.Content.{content_chain, is_large, mini_chain, sector_chain}
 use Rattle.cfb_format.specs.DirectoryEntry.{Entry}
@@ -13,13 +12,13 @@ use Rattle.cfb_format.specs.Soundness.{large_streams, mini_sectors_of, mini_stre
 use Rattle.cfb_format.proofs.Chains.{chain_from-IsChain}
 use Rattle.cfb_tables.specs.Owners.{tally}
 use Rattle.cfb_tables.proofs.Counts.{tally-append}
-use Rattle.cfb_tables.proofs.Members.{Contains-cases, Contains-here, Contains-nil, Contains-there, cons-distinct}
-use Rattle.cfb_soundness.specs.Streams.{own_mini_sectors, own_sectors}
-use Rattle.cfb_mini_sectors.specs.State.{MiniState, entries_of, mini_stream_of, parts_of, tables_in}
+use Rattle.cfb_content.specs.cfb_soundness.Streams.{own_mini_sectors, own_sectors}
+use Rattle.cfb_content.specs.cfb_mini_sectors.State.{MiniState, entries_of, mini_stream_of, parts_of, tables_in}
 use Rattle.cfb_content.specs.Contents.{mini_sectors_owned, parts_with, sectors_owned}
 use Rattle.cfb_content.specs.Uses.{UsedByOwners, other_streams}
 use Rattle.cfb_content.specs.Laws.{EmptyOwnsNothing, LargeOwnsItsChain, OwnStays, SmallOwnsItsChain}
 use Rattle.cfb_content.proofs.Outlines.{streams-once}
+use Rattle.cfb_format.proofs.Members.{Contains-cases, Contains-here, Contains-nil, Contains-there, cons-distinct}
 
 -- ---- lists of lists
 
@@ -37,17 +36,6 @@ turned : (b : Bool) (xs : List ℕ) → (if not b then xs else []) ≡ (if b the
 turned true xs = refl
 turned false xs = refl
 
-pub same-flat : (f g : ℕ → List ℕ) (xs : List ℕ) → ((k : ℕ) → Contains xs k → g k ≡ f k) → flat_map g xs ≡ flat_map f xs
-same-flat f g [] h = refl
-same-flat f g (x ∷ xs) h = λ i. h x (Contains-here x xs) i ++ same-flat f g xs (λ k m. h k (Contains-there x xs k m)) i
-
-pub into-flat : (f : ℕ → List ℕ) (xs : List ℕ) (k n : ℕ) → Contains xs k → Contains (f k) n → Contains (flat_map f xs) n
-into-flat f [] k n m c = absurd (Contains-nil k m)
-into-flat f (x ∷ xs) k n m c = elim (Contains-cases x xs k m) [
-  | inl e ↦ Contains-append_left (f x) (flat_map f xs) n (subst (λ (z : ℕ). Contains (f z) n) (sym e) c)
-  | inr r ↦ Contains-append_right (f x) (flat_map f xs) n (into-flat f xs k n r c)
-]
-
 -- ---- all but one
 
 but_one : ℕ → ℕ → Bool
@@ -64,7 +52,7 @@ not-no true e = absurd (let f : true ≡ false = e in cc)
 filter-yes : (p : ℕ → Bool) (x : ℕ) (xs : List ℕ) → p x ≡ true → filter p (x ∷ xs) ≡ x ∷ filter p xs
 filter-yes p x xs e = ap (λ (b : Bool). if b then x ∷ filter p xs else filter p xs) e
 
-filter-no : (p : ℕ → Bool) (x : ℕ) (xs : List ℕ) → p x ≡ false → filter p (x ∷ xs) ≡ filter p xs
+pub filter-no : (p : ℕ → Bool) (x : ℕ) (xs : List ℕ) → p x ≡ false → filter p (x ∷ xs) ≡ filter p xs
 filter-no p x xs e = ap (λ (b : Bool). if b then x ∷ filter p xs else filter p xs) e
 
 filter-all : (i : ℕ) (xs : List ℕ) → (Contains xs i → ⊥) → filter (λ k. not (nat_eq k i)) xs ≡ xs
@@ -183,10 +171,6 @@ module _ (s : MiniState) (e : Entry) where
 
 some-is : (o : Option (List ℕ)) (list : List ℕ) → o ≡ Some list → IsSome o
 some-is o list e = subst (λ (w : Option (List ℕ)). IsSome w) (sym e) refl
-
-pub some-of : (o : Option (List ℕ)) → IsSome o → (list : List ℕ) × (o ≡ Some list)
-some-of None h = absurd (let f : false ≡ true = h in cc)
-some-of (Some list) h = (list, refl)
 
 pub large-owns-its-chain : LargeOwnsItsChain
 large-owns-its-chain s i list b chain =

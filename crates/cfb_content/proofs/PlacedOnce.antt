@@ -5,17 +5,12 @@ use Rattle.std.specs.List.{IsDistinct}
 use Rattle.std.proofs.lemmas.Bool.{cases_eq, cases_lt}
 use Rattle.std.proofs.lemmas.List.Elements.{Contains-get_or}
 use Rattle.cfb_format.specs.declared.version.Version.{Version}
-use Rattle.cfb_format.specs.declared.version.Version.TheVariants.{V3, V4}
 use Rattle.cfb_format.specs.Bytes.{sector_len}
-use Rattle.cfb_alloc.proofs.Listed.{place_once}
+use Rattle.cfb_content.proofs.cfb_alloc.Listed.{place_once}
 use Rattle.cfb_chains.specs.ChainPlaces.{place_along}
 use Rattle.cfb_chains.proofs.ChainContent.{beside, rest_short}
-use Rattle.cfb_soundness.specs.Places.{mini_start}
-use Rattle.cfb_mini_sectors.proofs.MiniPlaces.{minis_apart}
-
-pub inside-of : (v : Version) (k n : ℕ) → k / sector_len v < n → k < n * sector_len v
-inside-of V3 k n lt = omega (arith, lt)
-inside-of V4 k n lt = omega (arith, lt)
+use Rattle.cfb_content.specs.cfb_soundness.Places.{mini_start}
+use Rattle.cfb_content.proofs.cfb_mini_sectors.MiniPlaces.{minis_apart}
 
 pub placed-once : (v : Version) (ids : List ℕ) (i k : ℕ) → IsDistinct nat_eq ids → i < length ids * sector_len v → k < length ids * sector_len v → i ≢ k
     → place_along v ids i ≢ place_along v ids k

@@ -16,17 +16,18 @@ use Rattle.cfb_format.proofs.Chains.{chain_from-IsChain}
 use Rattle.cfb_sectors.specs.Sectors.{SectorStays}
 use Rattle.cfb_sectors.specs.Words.{RangeStays}
 use Rattle.cfb_tables.proofs.ChainLemmas.{members-busy}
-use Rattle.cfb_soundness.specs.Layout.{LiesInPieces}
-use Rattle.cfb_soundness.specs.Places.{SamePiece, Stand, mini_start, place_by}
-use Rattle.cfb_soundness.proofs.Layouts.{content-stands, content-stays, large-lies, small-lies}
-use Rattle.cfb_soundness.proofs.Placed.{in_file-some, lies-place_by}
-use Rattle.cfb_mini_sectors.specs.State.{HoldsMiniStream, IsChangeable, MiniState, bytes_of, content_of, entries_of, mini_place, mini_stream_of, parts_of, tables_in, version_of}
+use Rattle.cfb_content.specs.cfb_soundness.Layout.{LiesInPieces}
+use Rattle.cfb_content.specs.cfb_soundness.Places.{SamePiece, Stand, mini_start, place_by}
+use Rattle.cfb_content.proofs.cfb_soundness.Layouts.{content-stands, content-stays, large-lies, small-lies}
+use Rattle.cfb_content.proofs.cfb_soundness.Placed.{in_file-some, lies-place_by}
+use Rattle.cfb_content.specs.cfb_mini_sectors.State.{HoldsMiniStream, IsChangeable, MiniState, bytes_of, content_of, entries_of, mini_place, mini_stream_of, parts_of, tables_in, version_of}
 use Rattle.cfb_content.specs.Contents.{IsStreamOf, KeepsContent, len_of, mini_sectors_owned, sectors_owned}
 use Rattle.cfb_content.specs.Laws.{KeptIsReadable, LargeIsReadByPlaces, LargeIsThere, OthersAreReadable, SmallIsReadByPlaces, SmallIsThere, StreamOwnsItsOwn}
 use Rattle.cfb_content.proofs.Apart.{content-is, maybe-chain, sound-at}
-use Rattle.cfb_content.proofs.Kept.{next-start}
 use Rattle.cfb_content.proofs.Outlines.{no-root-stream}
-use Rattle.cfb_content.proofs.Owned.{large-content, large-owned, small-content, small-owned, some-of}
+use Rattle.cfb_content.proofs.Owned.{large-content, large-owned, small-content, small-owned}
+use Rattle.cfb_format.proofs.Along.{next_start}
+use Rattle.cfb_content.proofs.cfb_soundness.Others.{some_of}
 
 same-piece : (len start : ℕ) (a b : List ℕ) → RangeStays start (start + len) a b → SamePiece len start a b
 same-piece len start a b s o lt inside = (omega (arith, s.no_shorter, inside), s.each (start + o) inside (omega arith) (omega (arith, lt)))
@@ -56,7 +57,7 @@ module _ (old new : MiniState) (e e' : Entry) (held : HoldsMiniStream old) (held
     (some : IsSome (content_chain (parts_of old) e)) (whole : length (content_of old e) ≡ e.stream_len) (keeps : KeepsContent old new e)
     (start : e'.start_sector ≡ e.start_sector) (len : e'.stream_len ≡ e.stream_len) where
   list : (l : List ℕ) × (content_chain (parts_of old) e ≡ Some l)
-  list = some-of (content_chain (parts_of old) e) some
+  list = some_of (content_chain (parts_of old) e) some
 
   -- the changed entry has the same chain
   now : content_chain (parts_of new) e' ≡ Some list.0
@@ -77,7 +78,7 @@ module _ (old new : MiniState) (e e' : Entry) (held : HoldsMiniStream old) (held
       (λ n m. (
         refl,
         same-piece (sector_len (version_of old)) (sector_start (version_of old) n) (bytes_of old) (bytes_of new)
-            (subst (λ (to : ℕ). RangeStays (sector_start (version_of old) n) to (bytes_of old) (bytes_of new)) (next-start (version_of old) n)
+            (subst (λ (to : ℕ). RangeStays (sector_start (version_of old) n) to (bytes_of old) (bytes_of new)) (next_start (version_of old) n)
             (keeps.sectors b n (subst (λ (w : Option (List ℕ)). Contains (unwrap_or w []) n) (sym (sym (large-content old e b) ∙ list.1)) m))),
       ))
 
@@ -158,7 +159,7 @@ module _ (s : MiniState) (i : ℕ) (some : IsSome (content_chain (parts_of s) (e
   e = entry_at (entries_of s) i
 
   chain-of : (l : List ℕ) × (content_chain (parts_of s) e ≡ Some l)
-  chain-of = some-of (content_chain (parts_of s) e) some
+  chain-of = some_of (content_chain (parts_of s) e) some
 
   -- what the stream owns is its chain
   large-is : is_large e ≡ true → sector_chain (parts_of s) e ≡ Some (sectors_owned s i)

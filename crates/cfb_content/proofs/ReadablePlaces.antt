@@ -17,18 +17,20 @@ use Rattle.cfb_format.proofs.Chains.{chain_from-IsChain}
 use Rattle.cfb_format.proofs.Unique.{IsChain-unique}
 use Rattle.cfb_tables.specs.Refused.{ChangeRefused}
 use Rattle.cfb_tables.proofs.ChainLemmas.{members-busy}
-use Rattle.cfb_soundness.specs.Places.{mini_start}
-use Rattle.cfb_soundness.proofs.Placed.{in_file-is, in_file-some, slice_get-Contains}
-use Rattle.cfb_alloc.specs.Alloc.{AllocatorState}
+use Rattle.cfb_content.specs.cfb_soundness.Places.{mini_start}
+use Rattle.cfb_content.proofs.cfb_soundness.Placed.{in_file-some, slice_get-Contains}
+use Rattle.cfb_content.specs.cfb_alloc.Alloc.{AllocatorState}
 use Rattle.cfb_chains.specs.ChainPlaces.{place_along}
-use Rattle.cfb_mini_sectors.specs.State.{MiniState, bytes_of, content_of, mini_place, parts_of, table_of, tables_in, version_of}
+use Rattle.cfb_content.specs.cfb_mini_sectors.State.{MiniState, bytes_of, content_of, mini_place, parts_of, table_of, tables_in, version_of}
 use Rattle.cfb_mini.specs.MiniSectors.{HasMiniByte, place_in_mini_sectors}
 use Rattle.cfb_content.specs.Along.{IsByteAlong, IsCutBy, IsMiniByteAlong, IsThereAlong, IsThereAlongMinis}
 use Rattle.cfb_content.specs.Contents.{TellsPlaces, mini_place_along}
 use Rattle.cfb_content.specs.Parts.{HasFirst, IsThereInMinis, IsThereInSectors}
 use Rattle.cfb_content.proofs.Apart.{maybe-chain}
 use Rattle.cfb_content.proofs.Readable.{lies}
-use Rattle.cfb_content.proofs.Refusals.{refused-as}
+use Rattle.cfb_format.proofs.Along.{in_file_at}
+use Rattle.cfb_tables.proofs.Refusals.{refused-as}
+use Rattle.cfb_format.proofs.MiniPlaces.{mini_quotient, mini_rest, mini_below}
 
 none_some : {A : Type 0} (x : A) → None ≡ Some x → ⊥
 none_some x e = let f : false ≡ true = ap is_some e in cc
@@ -48,7 +50,7 @@ next_of p k j at is = subst (λ i. p i ≡ Some at) (let e : k + suc j ≡ k + 1
 next_back : (p : ℕ → Option ℕ) (k j : ℕ) (at : ℕ) → p (k + 1 + j) ≡ Some at → p (k + suc j) ≡ Some at
 next_back p k j at is = subst (λ i. p i ≡ Some at) (let e : k + 1 + j ≡ k + suc j = omega arith in e) is
 
-placed-most : (bytes : List ℕ) (p : ℕ → Option ℕ) (k m : ℕ) → length (placed_from bytes p k m) ≤ m
+pub placed-most : (bytes : List ℕ) (p : ℕ → Option ℕ) (k m : ℕ) → length (placed_from bytes p k m) ≤ m
 unfolding placed_from
 placed-most bytes p k zero = omega arith
 placed-most bytes p k (suc m) = go (p k) (placed-most bytes p (k + 1) m)
@@ -226,7 +228,7 @@ module _ (s : MiniState) (e : Entry) (large : is_large e ≡ true) (tells : Tell
       along k
       ∙ ap (option_and_then (λ l. place_in_chain v (bytes_of s) l k)) ((chain_from-IsChain (tables_in s).fat e.start_sector list).1 chain)
       ∙ ap (option_and_then (λ i. in_file (bytes_of s) (sector_start v i + k % sector_len v))) (slice_get-get_or list (k / sector_len v) 0 there.listed)
-      ∙ in_file-is (bytes_of s) (place_along v list k) (omega (arith, reached, measured))
+      ∙ in_file_at (bytes_of s) (place_along v list k) (omega (arith, reached, measured))
 
   large-from : (k at : ℕ) → place_in_stream (bytes_of s) (parts_of s) e k ≡ Some at → IsThereAlong (table_of s) e.start_sector k
   large-from k at is = go (chain_from (tables_in s).fat e.start_sector) refl (sym (along k) ∙ is)
@@ -263,18 +265,6 @@ module _ (s : MiniState) (e : Entry) (large : is_large e ≡ true) (tells : Tell
   large-byte k x b = (place_along (version_of s) b.list k, large-place k b.list b.chain b.there, b.is)
 
 -- ---- a small stream
-
-mini-quotient : (v : Version) (m o : ℕ) → o < 64 → (64 * m + o) / sector_len v ≡ 64 * m / sector_len v
-mini-quotient V3 m o h = omega arith
-mini-quotient V4 m o h = omega arith
-
-mini-rest : (v : Version) (m o : ℕ) → o < 64 → (64 * m + o) % sector_len v ≡ 64 * m % sector_len v + o
-mini-rest V3 m o h = omega arith
-mini-rest V4 m o h = omega arith
-
-mini-low : (v : Version) (m n : ℕ) → 64 * m < n * sector_len v → 64 * m / sector_len v < n
-mini-low V3 m n h = omega arith
-mini-low V4 m n h = omega arith
 
 mini-high : (v : Version) (m n : ℕ) → 64 * m / sector_len v < n → 64 * m < n * sector_len v
 mini-high V3 m n h = omega arith
@@ -319,15 +309,15 @@ module _ (s : MiniState) (e : Entry) (small : is_large e ≡ false) (some : 0 < 
           let q = 64 * m / sector_len v in
           let room : 64 * m < length root * sector_len v =
           subst (λ (w : Option (List ℕ)). 64 * m < length (unwrap_or w []) * sector_len (version_of s)) is there.reached.mini_sector.in_stream in
-          let got = slice_get-get_or root q 0 (mini-low v m (length root) room) in
+          let got = slice_get-get_or root q 0 (mini_below v m (length root) room) in
           let here : mini_place s m ≡ mini_start v root m = ap (λ (w : Option (List ℕ)). mini_start (version_of s) (unwrap_or w []) m) is in
           let reached = there.reached.reached in
           let measured = tells.measured in
           let sum : sector_start v (slice_index root q) + (64 * m % sector_len v + o) ≡ mini_place s m + o = omega (arith, here) in
-          (λ j. option_and_then (λ i. in_file (bytes_of s) (sector_start v i + mini-rest v m o short j)) (slice_get root (mini-quotient v m o short j)))
+          (λ j. option_and_then (λ i. in_file (bytes_of s) (sector_start v i + mini_rest v m o short j)) (slice_get root (mini_quotient v m o short j)))
           ∙ ap (option_and_then (λ i. in_file (bytes_of s) (sector_start v i + (64 * m % sector_len v + o)))) got
           ∙ ap (in_file (bytes_of s)) sum
-          ∙ in_file-is (bytes_of s) (mini_place s m + o) (omega (arith, reached, measured))
+          ∙ in_file_at (bytes_of s) (mini_place s m + o) (omega (arith, reached, measured))
 
   small-from : (k at : ℕ) → place_in_stream (bytes_of s) (parts_of s) e k ≡ Some at → IsThereAlongMinis s e.start_sector k
   small-from k at is = go (chain_from s.minifat e.start_sector) refl (sym (along-minis k) ∙ is)
@@ -340,8 +330,8 @@ module _ (s : MiniState) (e : Entry) (small : is_large e ≡ false) (some : 0 < 
           let o = k % 64 in
           let p = lies (sector_len v) (sector_start v) (bytes_of s) root (64 * m + o) at f in
           let short : o < 64 = omega arith in
-          let q = mini-quotient v m o short in
-          let r = mini-rest v m o short in
+          let q = mini_quotient v m o short in
+          let r = mini_rest v m o short in
           let low : 64 * m / sector_len v < length root = subst (λ n. n < length root) q (slice_get_within root ((64 * m + o) / sector_len v) p.0 p.1) in
           let is_i : slice_index root (64 * m / sector_len v) ≡ p.0 = get_or_from_slice_get root (64 * m / sector_len v) p.0 0 (subst (λ n. slice_get root n ≡ Some p.0) q p.1) in
           let busy = maybe-chain (tables_in s).fat _ _ p.0

@@ -2,17 +2,18 @@
 use Rattle.std.proofs.Common.{◌≡◌, ◌<◌, ◌≤◌, ◌+◌, ◌-◌, inl, inr, ℕ, List, refl, sym, ◌∙◌, ap, length, take, replicate, ◌++◌, arith}
 use Rattle.std.specs.Prelude.{slice_index}
 use Rattle.std.proofs.lemmas.Bool.{cases_lt}
-use Rattle.std.proofs.lemmas.List.{append-nil, get_or-append_right, get_or_append_left, get_or-replicate, get_or-take, length-append, length-replicate, length-take}
+use Rattle.std.proofs.lemmas.List.{append-nil, get_or-append_right, get_or_append_left, get_or-replicate, get_or-take, length-take}
 use Rattle.std.proofs.Math.Seq.{take-length}
 use Rattle.cfb_format.specs.Medium.{written}
 use Rattle.cfb_format.specs.Siblings.{entry_at}
 use Rattle.cfb_format.proofs.ByteLemmas.{length-written, written_above, written_at, written_below, written_from_bytes}
 use Rattle.cfb_rules.specs.StreamCalls.{resized}
 use Rattle.cfb_chains.specs.ChainPlaces.{place_along}
-use Rattle.cfb_mini_sectors.specs.State.{MiniState, bytes_of, content_of, entries_of, version_of}
+use Rattle.cfb_content.specs.cfb_mini_sectors.State.{MiniState, bytes_of, content_of, entries_of, version_of}
 use Rattle.cfb_content.specs.Contents.{len_of, mini_place_along}
 use Rattle.cfb_content.specs.Laws.{LargeIsResized, LargeIsWritten, SmallIsResized, SmallIsWritten, StandsResized, StandsWritten}
 use Rattle.cfb_content.proofs.Readable.{large-read-by-places, small-read-by-places, whole-of}
+use Rattle.cfb_rules.proofs.StreamBounds.{length_resized}
 
 -- ---- nothing is written, or it has the length already
 
@@ -31,9 +32,6 @@ resized-same c n e = sym (
 
 -- ---- cut, or padded
 
-pub resized-len : (c : List ℕ) (n : ℕ) → length (resized c n) ≡ n
-resized-len c n = omega (arith, length-append (take n c) (replicate (n - length c) 0), length-take n c, length-replicate {A = ℕ} (n - length c) 0)
-
 resized-front : (c : List ℕ) (n k : ℕ) → k < n → k < length c → slice_index (resized c n) k ≡ slice_index c k
 resized-front c n k below less =
     get_or_append_left (take n c) (replicate (n - length c) 0) 0 k (omega (arith, less, below, length-take n c)) ∙ get_or-take n c k 0 below
@@ -50,7 +48,7 @@ module _ (old new : MiniState) (i : ℕ) (place : ℕ → ℕ) (whole : length (
   resized-stands : StandsResized old new i place → (k : ℕ) → k < length (resized was (len_of new i))
       → (place k < length (bytes_of new)) × (slice_index (bytes_of new) (place k) ≡ slice_index (resized was (len_of new i)) k)
   resized-stands st k lt =
-      let below : k < len_of new i = omega (arith, lt, resized-len was (len_of new i)) in (
+      let below : k < len_of new i = omega (arith, lt, length_resized was (len_of new i)) in (
         st.there k below,
         elim (cases_lt k (length was)) [
           | inl less ↦ st.kept k below (omega (arith, less, whole)) ∙ sym (resized-front was (len_of new i) k below less)
@@ -84,15 +82,15 @@ pub large-is-resized : LargeIsResized
 large-is-resized v old new i list change stream b owns enough st =
     let c = content_of old (entry_at (entries_of old) i) in
     let stands = resized-stands old new i (place_along (version_of new) list) (whole-of v old i change stream) st in
-    large-read-by-places new i list (resized c (len_of new i)) b owns (resized-len c (len_of new i))
-    (λ k lt. let s = stands k lt in (enough k (omega (arith, lt, resized-len c (len_of new i))), s.0, s.1))
+    large-read-by-places new i list (resized c (len_of new i)) b owns (length_resized c (len_of new i))
+    (λ k lt. let s = stands k lt in (enough k (omega (arith, lt, length_resized c (len_of new i))), s.0, s.1))
 
 pub small-is-resized : SmallIsResized
 small-is-resized v old new i list change stream held b owns enough st =
     let c = content_of old (entry_at (entries_of old) i) in
     let stands = resized-stands old new i (mini_place_along new list) (whole-of v old i change stream) st in
-    small-read-by-places new i list (resized c (len_of new i)) held b owns (resized-len c (len_of new i))
-    (λ k lt. let s = stands k lt in (enough k (omega (arith, lt, resized-len c (len_of new i))), s.0, s.1))
+    small-read-by-places new i list (resized c (len_of new i)) held b owns (length_resized c (len_of new i))
+    (λ k lt. let s = stands k lt in (enough k (omega (arith, lt, length_resized c (len_of new i))), s.0, s.1))
 
 pub large-is-written : LargeIsWritten
 large-is-written v old new i at from list change stream b owns same inside enough st =

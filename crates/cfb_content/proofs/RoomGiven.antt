@@ -3,7 +3,7 @@ use Rattle.std.proofs.Common.{◌≡◌, inl, inr, ℕ, ◌+◌, ◌-◌, ◌*�
 use Rattle.std.specs.Prelude.{Contains, if◌then◌else◌, nat_eq}
 use Rattle.std.specs.List.{IsDistinct}
 use Rattle.std.proofs.lemmas.List.{length-drop, take-append-drop}
-use Rattle.std.proofs.lemmas.List.Elements.{Contains-append_cases, Contains-append_left, Contains-append_right, Contains-get_or}
+use Rattle.std.proofs.lemmas.List.Elements.{Contains-get_or}
 use Rattle.cfb_format.specs.Bytes.{end_of_chain, sector_len, words_per_sector}
 use Rattle.cfb_format.specs.Chain.{IsChain}
 use Rattle.cfb_format.specs.Content.{mini_sector_len}
@@ -13,34 +13,25 @@ use Rattle.cfb_tables.specs.Listed.{ends_of}
 use Rattle.cfb_tables.specs.Room.{IsTooFewAfter}
 use Rattle.cfb_tables.specs.Tables.{IsTooFew, PassesLimit, TableState, first_or_end, sizes_of}
 use Rattle.cfb_tables.proofs.ChainLemmas.{other-chains-stay}
-use Rattle.cfb_tables.proofs.Members.{Contains-or, distinct-right}
 use Rattle.cfb_tables.proofs.RoomLemmas.{more-is-too-few, nothing-given-back}
-use Rattle.cfb_alloc.specs.ListedChain.{Shortens}
-use Rattle.cfb_alloc.proofs.ListedLemmas.{can_shorten}
-use Rattle.cfb_mini_table.specs.MiniTable.{MiniGivesBack, SameValues, trimmed}
-use Rattle.cfb_mini_table.proofs.EndLemmas.{busy-same, trimmed-busy, trimmed-values}
-use Rattle.cfb_mini_sectors.specs.State.{MiniState, mini_stream_of, tables_in, version_of}
-use Rattle.cfb_mini_sectors.specs.Steps.{CanGiveRoomBack, GivesRoomBack, KeepsSizes, minifat_needs, mini_stream_needs}
-use Rattle.cfb_mini_sectors.proofs.BothGrown.{of_ends, some_end}
-use Rattle.cfb_mini_sectors.proofs.ListedChains.{given-busy}
+use Rattle.cfb_content.specs.cfb_alloc.ListedChain.{Shortens}
+use Rattle.cfb_content.proofs.cfb_alloc.ListedLemmas.{can_shorten}
+use Rattle.cfb_content.specs.cfb_mini_table.MiniTable.{MiniGivesBack, SameValues, trimmed}
+use Rattle.cfb_content.proofs.cfb_mini_table.EndLemmas.{busy-same, trimmed-busy, trimmed-values}
+use Rattle.cfb_content.specs.cfb_mini_sectors.State.{MiniState, mini_stream_of, tables_in, version_of}
+use Rattle.cfb_content.specs.cfb_mini_sectors.Steps.{CanGiveRoomBack, GivesRoomBack, KeepsSizes, minifat_needs, mini_stream_needs}
+use Rattle.cfb_content.proofs.cfb_mini_sectors.BothGrown.{of_ends, some_end}
+use Rattle.cfb_content.proofs.cfb_mini_sectors.ListedChains.{given-busy, given-among}
 use Rattle.cfb_content.specs.Room.{ComesFree, minifat_len_left, room_given}
 use Rattle.cfb_content.proofs.FreeCounts.{given-count}
 use Rattle.cfb_content.proofs.Freed.{freed-free, freed-other}
+use Rattle.cfb_format.proofs.Members.{Contains-or, distinct-right}
 
 -- ---- lists that get shorter
 
 -- where a list ends is among it
 last-among : (list : List ℕ) (i : ℕ) → Contains (ends_of list) i → Contains list i
 last-among list i m = (let some = some_end list i m in subst (λ k. Contains list k) (of_ends list i m).0 (Contains-get_or list (length list - 1) end_of_chain (omega (arith, some))))
-
--- what is given back of a list, and where it ends then, are among it
-given-among : (n : ℕ) (list : List ℕ) (i : ℕ) → Contains (ends_of (take n list) ++ drop n list) i → Contains list i
-given-among n list i m =
-    let whole = take-append-drop n list in
-    subst (λ (l : List ℕ). Contains l i) whole (elim (Contains-append_cases (ends_of (take n list)) (drop n list) i m) [
-      | inl e ↦ Contains-append_left (take n list) (drop n list) i (last-among (take n list) i e)
-      | inr g ↦ Contains-append_right (take n list) (drop n list) i g
-    ])
 
 -- so many more are free as are behind those that are left
 shortened-count : (n : ℕ) (list after : List ℕ) (old new : TableState) → IsChain old.fat (first_or_end list) list → Shortens n list after old new

@@ -12,8 +12,8 @@ use Rattle.cfb_format.specs.Full.{mini_sectors_for, rounded_up, sectors_for}
 use Rattle.cfb_format.specs.Reading.{Outline, stream_numbers}
 use Rattle.cfb_format.specs.Siblings.{entry_at}
 use Rattle.cfb_format.proofs.Unique.{IsOutline-unique}
-use Rattle.cfb_soundness.specs.Streams.{own_mini_sectors, own_sectors}
-use Rattle.cfb_mini_sectors.specs.State.{MiniState, cases_of, entries_of, parts_of, tables_in, version_of}
+use Rattle.cfb_content.specs.cfb_soundness.Streams.{own_mini_sectors, own_sectors}
+use Rattle.cfb_content.specs.cfb_mini_sectors.State.{MiniState, cases_of, entries_of, parts_of, tables_in, version_of}
 use Rattle.cfb_content.specs.Contents.{IsSnug, IsStreamOf, KeepsContent, len_of, mini_sectors_owned, sectors_owned}
 use Rattle.cfb_content.specs.Laws.{EmptyIsSnug, KeptIsSnug, SameIsSized, SizedIsSnug}
 use Rattle.cfb_content.proofs.Outlines.{moved-is-outline, stream-is-no-root}
@@ -146,7 +146,7 @@ room-is-enough : (v : Version) (len n : ℕ) → 0 < len → ((k : ℕ) → k < 
 room-is-enough V3 len n some h = (let last = h (len - 1) (omega (arith, some)) in omega (arith, last, some))
 room-is-enough V4 len n some h = (let last = h (len - 1) (omega (arith, some)) in omega (arith, last, some))
 
-minis-are-enough : (len n : ℕ) → ((k : ℕ) → k < len → k / 64 < n) → rounded_up len 64 ≤ n
+pub minis-are-enough : (len n : ℕ) → ((k : ℕ) → k < len → k / 64 < n) → rounded_up len 64 ≤ n
 minis-are-enough zero n h = omega arith
 minis-are-enough (suc k) n h = (let last = h k (omega arith) in omega (arith, last))
 

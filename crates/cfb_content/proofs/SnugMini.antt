@@ -1,6 +1,6 @@
 -- A MiniFAT and a mini stream that have exactly the sectors that they need.
-use Rattle.std.proofs.Common.{◌≡◌, ◌≤◌, ◌<◌, ◌+◌, ◌-◌, ◌*◌, ℕ, List, [], ◌++◌, inl, inr, refl, sym, ◌∙◌, ap, subst, length, arith}
-use Rattle.std.specs.Prelude.{Contains, Option, slice_index, unwrap_or}
+use Rattle.std.proofs.Common.{◌≡◌, ◌≤◌, ◌-◌, ◌*◌, ℕ, List, [], inl, inr, sym, ◌∙◌, ap, length, arith}
+use Rattle.std.specs.Prelude.{Option, slice_index, unwrap_or}
 use Rattle.std.proofs.lemmas.List.{length-append}
 use Rattle.std.proofs.lemmas.List.Elements.{Contains-get_or}
 use Rattle.cfb_format.specs.declared.version.Version.{Version}
@@ -11,17 +11,14 @@ use Rattle.cfb_format.specs.Full.{rounded_up}
 use Rattle.cfb_format.specs.Siblings.{entry_at}
 use Rattle.cfb_tables.specs.Listed.{gained}
 use Rattle.cfb_tables.specs.Tables.{TableState, first_or_end}
-use Rattle.cfb_alloc.specs.ListedChain.{Lengthens}
-use Rattle.cfb_mini_sectors.specs.State.{MiniState, entries_of, mini_stream_of, root_len_of, tables_in, version_of}
-use Rattle.cfb_mini_sectors.specs.Steps.{mini_stream_lacks, mini_stream_needs, minifat_lacks, minifat_len_with, minifat_needs}
-use Rattle.cfb_mini_sectors.proofs.MiniStreams.{begins, chain-is-stream}
+use Rattle.cfb_content.specs.cfb_alloc.ListedChain.{Lengthens}
+use Rattle.cfb_content.specs.cfb_mini_sectors.State.{entries_of, mini_stream_of, tables_in, version_of}
+use Rattle.cfb_content.specs.cfb_mini_sectors.Steps.{mini_stream_needs, minifat_len_with, minifat_needs}
+use Rattle.cfb_content.proofs.cfb_mini_sectors.MiniStreams.{begins, chain-is-stream}
 use Rattle.cfb_content.specs.Laws.{GrowthIsSnugMini, KeptIsSnugMini}
+use Rattle.cfb_tables.proofs.TableCounts.{fats-rise}
 
 -- ---- numbers
-
-words-more : (v : Version) (a b : ℕ) → a ≤ b → rounded_up a (words_per_sector v) ≤ rounded_up b (words_per_sector v)
-words-more V3 a b le = omega (arith, le)
-words-more V4 a b le = omega (arith, le)
 
 bytes-more : (v : Version) (a b : ℕ) → a ≤ b → rounded_up (a * 64) (sector_len v) ≤ rounded_up (b * 64) (sector_len v)
 bytes-more V3 a b le = omega (arith, le)
@@ -42,7 +39,7 @@ growth-is-snug-mini v limit count touched more old new held version grows takes 
   measured = measured;
   minifat = as-wanted old.minifat_sectors new.minifat_sectors (tables_in old) grows.between (minifat_needs old)
       (rounded_up (minifat_len_with old count) (words_per_sector (version_of old))) grows.minifat snug.minifat
-      (words-more (version_of old) (length old.minifat) (minifat_len_with old count) (omega arith))
+      (fats-rise (version_of old) (length old.minifat) (minifat_len_with old count) (omega arith))
       ∙ sym (λ j. rounded_up (len j) (words_per_sector (version j)));
   mini_stream = ap length (ap (λ (w : Option (List ℕ)). unwrap_or w []) grows.kept)
       ∙ as-wanted (mini_stream_of old) grows.stream grows.between (tables_in new) (mini_stream_needs old)

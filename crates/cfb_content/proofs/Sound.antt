@@ -14,10 +14,10 @@ use Rattle.cfb_format.specs.Soundness.{IsSound, used_mini_sectors, used_sectors}
 use Rattle.cfb_format.proofs.Unique.{IsOutline-unique}
 use Rattle.cfb_tables.specs.Owners.{AllUsed, Uses}
 use Rattle.cfb_tables.proofs.UseLemmas.{nothing-loose, uses-kept}
-use Rattle.cfb_alloc.specs.Agreement.{WordsAgree}
-use Rattle.cfb_sound_changes.specs.Kept.{IsReady}
+use Rattle.cfb_content.specs.cfb_alloc.Agreement.{WordsAgree}
+use Rattle.cfb_sound_changes.specs.Kept.{ShowsSoundness}
 use Rattle.cfb_sound_changes.proofs.Kept.{used-sound}
-use Rattle.cfb_mini_sectors.specs.State.{MiniState, bytes_of, cases_of, content_of, entries_of, parts_of, reading_of, tables_in}
+use Rattle.cfb_content.specs.cfb_mini_sectors.State.{MiniState, bytes_of, cases_of, content_of, entries_of, parts_of, reading_of, tables_in}
 use Rattle.cfb_content.specs.Contents.{len_of, parts_with}
 use Rattle.cfb_content.specs.Uses.{ChangesContent, ChangesUse, mini_sectors_by_owners, sectors_by_owners}
 use Rattle.cfb_content.specs.Laws.{AllUsedIsKept, ChangedIsChangeable}
@@ -73,7 +73,7 @@ module _ (v : Validation) (i : ℕ) (old new : MiniState) (change : ChangesConte
     sound-now : (h : Header) → IsHeader (bytes_of new) h → IsSound (bytes_of new) (reading_of h new p)
     sound-now h is =
         let version = version-is v new h change.held is in
-        let ready : IsReady (bytes_of new) (reading_of h new p) = record {
+        let ready : ShowsSoundness (bytes_of new) (reading_of h new p) = record {
           agrees = subst (λ w. WordsAgree w (bytes_of new) (tables_in new).fat_sectors (tables_in new).difat_sectors (tables_in new).fat) (sym version) change.held.directory.tables.holds.agrees;
           mini_stream = subst (λ (w : Option (List ℕ)). IsSome w) (sym change.held.mini_stream.chain) refl;
           chains = chain-at;

@@ -1,9 +1,9 @@
 -- What can be read along a chain, or along a mini chain, by the places of its bytes (MS-CFB 2.3 and 2.4).
 use Rattle.std.specs.Prelude.{ℕ, ◌≡◌, ◌≤◌, List, slice_index}
 use Rattle.cfb_format.specs.Chain.{IsChain}
-use Rattle.cfb_alloc.specs.Alloc.{AllocatorState}
+use Rattle.cfb_content.specs.cfb_alloc.Alloc.{AllocatorState}
 use Rattle.cfb_chains.specs.ChainPlaces.{place_along}
-use Rattle.cfb_mini_sectors.specs.State.{MiniState, bytes_of}
+use Rattle.cfb_content.specs.cfb_mini_sectors.State.{MiniState, bytes_of}
 use Rattle.cfb_content.specs.Contents.{mini_place_along}
 use Rattle.cfb_content.specs.Parts.{IsThereInMinis, IsThereInSectors}
 

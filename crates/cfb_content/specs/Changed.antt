@@ -1,9 +1,9 @@
 -- What a change of one stream's content promises of all else, and of the file once it is made (MS-CFB 2.3, 2.4 and 2.6.3).
 use Rattle.std.specs.Prelude.{ℕ, ◌≡◌, false}
 use Rattle.cfb_format.specs.declared.validate.Validation.{Validation}
-use Rattle.cfb_mini_sectors.specs.State.{IsChangeable, MiniState, bytes_of, table_of}
-use Rattle.cfb_mini_sectors.specs.Steps.{IsSnugMini, KeepsLimits}
-use Rattle.cfb_mini.specs.MiniSectors.{IsWhole}
+use Rattle.cfb_content.specs.cfb_mini_sectors.State.{IsChangeable, MiniState, bytes_of, table_of}
+use Rattle.cfb_content.specs.cfb_mini_sectors.Steps.{IsSnugMini, KeepsLimits}
+use Rattle.cfb_mini.specs.MiniSectors.{IsOfWholeSectors}
 use Rattle.cfb_content.specs.Contents.{AreAllUsed, KeepsFixedHeader, KeepsOthers, MovesContent, SizesChain, dir_count_of}
 
 -- ---- of every medium, however the call ends
@@ -26,7 +26,7 @@ pub record SparesOthers (old new : MiniState) (i : ℕ) : Type 0 where
 -- the header counts as many sectors of the directory as before, and the file is a whole number of sectors if it was
 pub record StaysTidy (old new : MiniState) : Type 0 where
   pub counted : dir_count_of new ≡ dir_count_of old
-  pub whole : IsWhole (table_of old) → IsWhole (table_of new)
+  pub whole : IsOfWholeSectors (table_of old) → IsOfWholeSectors (table_of new)
 
 -- where the change is made: a file that could be changed can be changed again, and each sector and mini sector is free or in use if it was so;
 -- the stream's chain is as long as it is to be, MiniFAT and mini stream have exactly what they need if they had, and the file stays tidy

@@ -12,12 +12,12 @@ use Rattle.cfb_format.specs.Siblings.{entry_at}
 use Rattle.cfb_format.specs.Soundness.{used_sectors, used_mini_sectors}
 use Rattle.cfb_sectors.specs.Sectors.{SectorStays}
 use Rattle.cfb_sectors.specs.Words.{RangeStays}
-use Rattle.cfb_soundness.specs.Streams.{own_sectors, own_mini_sectors}
+use Rattle.cfb_content.specs.cfb_soundness.Streams.{own_sectors, own_mini_sectors}
 use Rattle.cfb_tables.specs.Owners.{AllUsed}
-use Rattle.cfb_alloc.specs.Alloc.{IsMeasured}
-use Rattle.cfb_alloc.specs.Frame.{IsFixedHeaderByte}
-use Rattle.cfb_mini_sectors.specs.State.{IsChangeable, MiniState, bytes_of, cases_of, entries_of, mini_place, parts_of, root_len_of, table_of, tables_in, version_of}
-use Rattle.cfb_mini_sectors.specs.Steps.{IsInMiniStream, IsZeroMini}
+use Rattle.cfb_content.specs.cfb_alloc.Alloc.{IsMeasured}
+use Rattle.cfb_content.specs.cfb_alloc.Frame.{IsFixedHeaderByte}
+use Rattle.cfb_content.specs.cfb_mini_sectors.State.{IsChangeable, MiniState, bytes_of, cases_of, entries_of, mini_place, parts_of, root_len_of, table_of, tables_in, version_of}
+use Rattle.cfb_content.specs.cfb_mini_sectors.Steps.{IsInMiniStream, IsZeroMini}
 use Rattle.cfb_mini.specs.MiniSectors.{IsStill}
 
 -- ---- which stream

@@ -4,7 +4,7 @@ use Rattle.std.specs.Prelude.{ℕ, ◌≡◌, ◌+◌, ◌/◌, ◌%◌, ◌<◌
 use Rattle.cfb_format.specs.declared.version.Version.{Version}
 use Rattle.cfb_format.specs.Chain.{IsChain}
 use Rattle.cfb_format.specs.Content.{mini_sector_len}
-use Rattle.cfb_mini_sectors.specs.State.{MiniState}
+use Rattle.cfb_content.specs.cfb_mini_sectors.State.{MiniState}
 use Rattle.cfb_mini.specs.MiniSectors.{HasMiniByte}
 pub use Rattle.cfb_runs.specs.Along.{ChangesOnlyPlaces, IsThereInSectors, StandAlong}
 

@@ -7,11 +7,11 @@ use Rattle.cfb_format.specs.Siblings.{entry_at}
 use Rattle.cfb_format.specs.Soundness.{used_sectors, used_mini_sectors}
 use Rattle.cfb_tables.specs.Listed.{ends_of, gained}
 use Rattle.cfb_tables.specs.Owners.{UseChanges, tally}
-use Rattle.cfb_alloc.specs.Frame.{table_sectors}
-use Rattle.cfb_alloc.specs.ListedChain.{Lengthens, Shortens}
-use Rattle.cfb_mini_table.specs.MiniTable.{MiniGivesBack, TakesMini}
-use Rattle.cfb_mini_sectors.specs.State.{HoldsMini, HoldsMiniStream, IsChangeable, MiniState, cases_of, entries_of, parts_of, tables_in}
-use Rattle.cfb_mini_sectors.specs.Steps.{GrowsFor, KeepsLimits, KeepsMini, KeepsSystem, SettlesRoom, system_sectors}
+use Rattle.cfb_content.specs.cfb_alloc.Frame.{table_sectors}
+use Rattle.cfb_content.specs.cfb_alloc.ListedChain.{Lengthens, Shortens}
+use Rattle.cfb_content.specs.cfb_mini_table.MiniTable.{MiniGivesBack, TakesMini}
+use Rattle.cfb_content.specs.cfb_mini_sectors.State.{HoldsMini, HoldsMiniStream, IsChangeable, MiniState, cases_of, entries_of, parts_of, tables_in}
+use Rattle.cfb_content.specs.cfb_mini_sectors.Steps.{GrowsFor, KeepsLimits, KeepsMini, KeepsSystem, SettlesRoom, system_sectors}
 use Rattle.cfb_content.specs.Contents.{IsStreamOf, KeepsOthers, MovesContent, mini_sectors_owned, parts_with, sectors_owned}
 
 -- ---- owners

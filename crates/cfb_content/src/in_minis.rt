@@ -6,9 +6,9 @@ ghost use Rattle.cfb_format.specs.Content.{mini_sector_len};
 ghost use Rattle.cfb_format.specs.Refused.{CountsFailure};
 ghost use Rattle.cfb_sectors.specs.Sectors.{IsMediumError};
 ghost use Rattle.cfb_tables.specs.Refused.{ChangeRefused};
-ghost use Rattle.cfb_alloc.specs.Frame.{Spares};
-ghost use Rattle.cfb_mini_sectors.specs.State.{HoldsMini, bytes_of, mini_stream_of, table_of};
-ghost use Rattle.cfb_mini_sectors.specs.Steps.{SparesMini};
+ghost use Rattle.cfb_content.specs.cfb_alloc.Frame.{Spares};
+ghost use Rattle.cfb_content.specs.cfb_mini_sectors.State.{HoldsMini, bytes_of, mini_stream_of, table_of};
+ghost use Rattle.cfb_content.specs.cfb_mini_sectors.Steps.{SparesMini};
 ghost use Rattle.cfb_mini.specs.MiniSectors.{ChangesFileOnly, HasMiniByte, HasMiniSector, IsStill};
 ghost use Rattle.cfb_content.specs.Contents.{mini_place_along};
 ghost use Rattle.cfb_content.specs.Parts.{ChangesOnlyPlaces, HasFirst, IsThereInMinis, IsWholeMiniChain, StandAlong};
@@ -47,7 +47,7 @@ fn there_in_mini<F: ReadMedium, A: Heap>(mini: &MiniAllocator<F, A>, number: u32
 }
 
 /// How many of the first `len` bytes of these mini sectors, one after the other, the file has, up to the first that it has not.
-pub(crate) fn there_in_minis<F: ReadMedium, A: Heap>(
+pub fn there_in_minis<F: ReadMedium, A: Heap>(
     mini: &MiniAllocator<F, A>,
     ids: &[u32],
     len: u64,
@@ -115,7 +115,7 @@ fn read_in_minis<F: ReadMedium, A: Heap>(
 }
 
 /// Reads the bytes of these mini sectors from byte `at` on, as many as `into` has room for, all of which the file has.
-pub(crate) fn fill_from_minis<F: ReadMedium, A: Heap>(
+pub fn fill_from_minis<F: ReadMedium, A: Heap>(
     mini: &mut MiniAllocator<F, A>,
     ids: &[u32],
     at: u64,

@@ -10,23 +10,23 @@ ghost use Rattle.cfb_sectors.specs.Sectors.{IsMediumError};
 ghost use Rattle.cfb_tables.specs.Changes.{AreDisjoint};
 ghost use Rattle.cfb_tables.specs.Refused.{ChangeRefused};
 ghost use Rattle.cfb_tables.specs.Tables.{AreSizes, IsTooFew, first_or_end, sizes_of};
-ghost use Rattle.cfb_alloc.specs.Alloc.{HoldsTables, IsOtherHeaderByte, IsUsable};
-ghost use Rattle.cfb_alloc.specs.Frame.{Spares, table_sectors};
-ghost use Rattle.cfb_alloc.specs.ListedChain.{Lengthens};
+ghost use Rattle.cfb_content.specs.cfb_alloc.Alloc.{HoldsTables, IsOtherHeaderByte, IsUsable};
+ghost use Rattle.cfb_content.specs.cfb_alloc.Frame.{Spares, table_sectors};
+ghost use Rattle.cfb_content.specs.cfb_alloc.ListedChain.{Lengthens};
 ghost use Rattle.cfb_chains.specs.ChainPlaces.{place_along};
-ghost use Rattle.cfb_mini.specs.MiniSectors.{IsWhole};
+ghost use Rattle.cfb_mini.specs.MiniSectors.{IsOfWholeSectors};
 ghost use Rattle.cfb_content.specs.Parts.{AreZerosAlong, ChangesOnlyPlaces, HasFirst, IsThereInSectors, IsWholeChain, StandAlong, StaysAlong};
 
-use cfb_alloc::alloc::Allocator;
 use cfb_format::error::{Detail, Error};
 use cfb_format::medium::{Medium, ReadMedium};
 use cfb_runs::reading::read_along;
 use cfb_runs::writing::{write_along, zero_along};
 use cfb_sectors::sector::SectorInit;
+use cfb_sound_changes::Allocator;
 use std::alloc::Allocator as Heap;
 
 /// A refusal of a stream whose chain has not all of its bytes in the file.
-pub(crate) fn cut_short(len: u64, there: u64) -> Error
+pub fn cut_short(len: u64, there: u64) -> Error
     ensures { IsInvalidData result }
 {
     Error::InvalidData(Detail::numbers(
@@ -38,7 +38,7 @@ pub(crate) fn cut_short(len: u64, there: u64) -> Error
 
 /// How many of the first `len` bytes of these sectors of the FAT, one after the other, the file has, up to the first that it has not. They
 /// are looked at one by one only where the last sector of the FAT is cut short.
-pub(crate) fn there_in_sectors<F: ReadMedium, A: Heap>(
+pub fn there_in_sectors<F: ReadMedium, A: Heap>(
     allocator: &Allocator<F, A>,
     ids: &[u32],
     len: u64,
@@ -78,7 +78,7 @@ fn counted_in_sectors<F: ReadMedium, A: Heap>(
 }
 
 /// Reads the bytes of these sectors from byte `at` on, as many as `into` has room for, all of which the file has.
-pub(crate) fn fill_from_sectors<F: ReadMedium, A: Heap>(
+pub fn fill_from_sectors<F: ReadMedium, A: Heap>(
     allocator: &mut Allocator<F, A>,
     ids: &[u32],
     at: u64,
@@ -211,7 +211,7 @@ pub fn grow_listed_with<F: Medium, A: Heap>(
         → StaysAlong (place_along allocator.old.tables.version ids.old.items) at (length bytes.now)
         (length ids.old.items * sector_len allocator.old.tables.version) allocator.old.file.bytes allocator.new.file.bytes }
     ensures holds { IsTrue F.tells → (validation : Validation) → HoldsTables validation allocator.old → OnOk result (HoldsTables validation allocator.new) }
-    ensures whole { IsTrue F.tells → (validation : Validation) → HoldsTables validation allocator.old → IsWhole allocator.old → OnOk result (IsWhole allocator.new) }
+    ensures whole { IsTrue F.tells → (validation : Validation) → HoldsTables validation allocator.old → IsOfWholeSectors allocator.old → OnOk result (IsOfWholeSectors allocator.new) }
     ensures sizes { OnOk result (AreSizes allocator.new.tables.version (sizes_of allocator.new.tables)) }
     ensures spares { IsTrue F.tells → Spares ids.old.items allocator.old allocator.new }
     ensures header { IsTrue F.tells → (i : ℕ) → i < length allocator.old.file.bytes → IsOtherHeaderByte allocator.old.tables.version i

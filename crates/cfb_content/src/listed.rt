@@ -1,17 +1,30 @@
 //! Chains that are listed to be worked on, in memory which was asked for before where a change that has written is not to be refused for
 //! want of it.
-ghost use Rattle.std.specs.Prelude.{◌≡◌, ℕ, List, length, IfOk, IfErr};
+ghost use Rattle.std.specs.Prelude.{◌≡◌, ◌<◌, ℕ, List, length, IfOk, IfErr};
+ghost use Rattle.cfb_format.specs.Siblings.{entry_at};
 ghost use Rattle.cfb_tables.specs.Refused.{ChangeRefused};
+ghost use Rattle.cfb_content.specs.cfb_mini_sectors.State.{entries_of};
+ghost use Rattle.cfb_content.specs.Contents.{len_of};
 ghost use Rattle.cfb_content.specs.Parts.{IsWholeChain, IsWholeMiniChain};
 
 use crate::in_minis::there_in_minis;
 use crate::in_sectors::{cut_short, there_in_sectors};
-use cfb_alloc::alloc::Allocator;
 use cfb_format::error::Error;
 use cfb_format::medium::ReadMedium;
 use cfb_mini::mini_allocator::MiniAllocator;
+use cfb_sound_changes::Allocator;
 use cfb_tables::walk::walk;
 use std::alloc::Allocator as Heap;
+
+/// Where the content of an entry starts, and how long it is.
+pub fn content_in<F: ReadMedium, A: Heap>(mini: &MiniAllocator<F, A>, entry: u32) -> (u32, u64)
+    requires inside { entry < length (entries_of mini.now) }
+    ensures start { result.0 ≡ (entry_at (entries_of mini.now) entry).start_sector }
+    ensures len { result.1 ≡ len_of mini.now entry }
+{
+    let entry = mini.dir_entry(entry);
+    (entry.start_sector, entry.stream_len)
+}
 
 /// The sectors of the chain from `start`, which has so many bytes. `InvalidData` where there is no such chain or the file has not all of
 /// these bytes, and `Memory`.
@@ -82,7 +95,7 @@ pub fn open_whole_chain<F: ReadMedium, A: Heap + Clone>(
 }
 
 /// The same, walked in the list that is given, whatever it held: it asks for memory only where that has too little room.
-pub(crate) fn open_whole_chain_in<F: ReadMedium, A: Heap>(
+pub fn open_whole_chain_in<F: ReadMedium, A: Heap>(
     allocator: &mut Allocator<F, A>,
     list: Vec<u32, A>,
     start: u32,
@@ -105,7 +118,7 @@ pub(crate) fn open_whole_chain_in<F: ReadMedium, A: Heap>(
 
 /// The mini sectors of a stream of so many bytes that starts there, in the list that is given; an empty one has none. `InvalidData` where
 /// there is no such mini chain or the file has not all of these bytes, and `Memory`.
-pub(crate) fn whole_mini_chain_in<F: ReadMedium, A: Heap>(
+pub fn whole_mini_chain_in<F: ReadMedium, A: Heap>(
     mut list: Vec<u32, A>,
     mini: &MiniAllocator<F, A>,
     start: u32,

@@ -1,6 +1,6 @@
 -- A new object in the target, with the fields of another.
-use Rattle.std.proofs.Common.{◌≡◌, ◌≢◌, ◌↔◌, ◌<◌, inl, inr, ℕ, zero, suc, List, true, false, refl, sym, ◌∙◌, ap, subst, length, arith}
-use Rattle.std.specs.Prelude.{Contains, IsTrue, MatchOption, Option, Some, None, is_none}
+use Rattle.std.proofs.Common.{◌≡◌, ◌≢◌, ◌↔◌, ◌<◌, inl, inr, ℕ, zero, List, true, false, refl, sym, ◌∙◌, ap, subst, length, arith}
+use Rattle.std.specs.Prelude.{IsTrue, MatchOption, Option, Some, None, is_none}
 use Rattle.std.proofs.lemmas.List.{length-map}
 use Rattle.cfb_codecs.specs.declared.direntry.DirEntry.{DirEntry}
 use Rattle.cfb_codecs.specs.EntryModel.{entries_of as entries_in, entry_of}
@@ -8,29 +8,30 @@ use Rattle.cfb_format.specs.declared.objtype.ObjType.TheVariants.{Root, Stream}
 use Rattle.cfb_format.specs.DirectoryEntry.{Entry}
 use Rattle.cfb_format.specs.Meaning.{storage_info}
 use Rattle.cfb_format.specs.Names.{Cases}
-use Rattle.cfb_format.specs.Reading.{Outline, numbers, stream_numbers}
+use Rattle.cfb_format.specs.Reading.{numbers, stream_numbers}
 use Rattle.cfb_format.specs.Siblings.{entry_at}
 use Rattle.cfb_format.specs.Tree.{StorageInfo, StreamInfo, is_same_name}
-use Rattle.cfb_rules.specs.CallChanges.{fields_changed_at, same_storage, same_stream}
+use Rattle.cfb_copies.specs.cfb_rules.CallChanges.{fields_changed_at, same_storage, same_stream}
 use Rattle.cfb_siblings.specs.Children.{HasChildren, IsAbsent, IsChildNamed}
 use Rattle.cfb_siblings.specs.Paths.{HasOutline}
 use Rattle.cfb_siblings.proofs.Tallies.{all-at, counted, present}
-use Rattle.cfb_trees.specs.Changes.{ButFields}
-use Rattle.cfb_trees.specs.Reached.{IsObject, IsReached}
-use Rattle.cfb_trees.proofs.Members.{of-stream-kind, reached-is-within}
-use Rattle.cfb_trees.proofs.Same.{set-at, set-fields}
-use Rattle.cfb_trees.proofs.Standing.{reached-is-parent}
-use Rattle.cfb_entries.specs.declared.fields.Fields.{Fields}
-use Rattle.cfb_entries.specs.Fields.{entries_with_fields, entry_with_fields, fields_in}
-use Rattle.cfb_entries.specs.EntryList.{AreInOrder}
-use Rattle.cfb_entry_changes.specs.Marking.{GivesFields}
-use Rattle.cfb_objects.specs.Laws.{BecomesTree}
-use Rattle.cfb_mini_sectors.specs.State.{bytes_of, cases_of, entries_of}
-use Rattle.cfb_content.specs.Contents.{IsStreamOf, len_of}
-use Rattle.cfb_agreement.specs.Changes.{object_added_at}
-use Rattle.cfb_agreement.specs.Files.{FileState, SameSetting}
+use Rattle.cfb_copies.specs.cfb_trees.Changes.{ButFields}
+use Rattle.cfb_copies.specs.cfb_trees.Reached.{IsObject}
+use Rattle.cfb_copies.proofs.cfb_trees.Members.{of-stream-kind, reached-is-within}
+use Rattle.cfb_copies.proofs.cfb_trees.Same.{set-at, set-fields}
+use Rattle.cfb_copies.proofs.cfb_trees.Standing.{reached-is-parent}
+use Rattle.cfb_copies.specs.cfb_entries.declared.fields.Fields.{Fields}
+use Rattle.cfb_copies.specs.cfb_entries.Fields.{entries_with_fields, entry_with_fields, fields_in}
+use Rattle.cfb_copies.specs.cfb_entries.EntryList.{AreInOrder}
+use Rattle.cfb_copies.specs.cfb_entry_changes.Marking.{GivesFields}
+use Rattle.cfb_copies.specs.cfb_objects.Laws.{BecomesTree}
+use Rattle.cfb_copies.specs.cfb_mini_sectors.State.{bytes_of, cases_of, entries_of}
+use Rattle.cfb_copies.specs.cfb_content.Contents.{IsStreamOf, len_of}
+use Rattle.cfb_copies.specs.cfb_agreement.Changes.{object_added_at}
+use Rattle.cfb_copies.specs.cfb_agreement.Files.{FileState, SameSetting}
 use Rattle.cfb_copies.specs.Steps.{IsLikeIn, IsReachedIn, TakesName, fields_like, like_added}
 use Rattle.cfb_copies.proofs.Likes.{gives_all, gives_bits, like_becomes, like_len}
+use Rattle.cfb_copies.proofs.cfb_trees.Reached.{inside}
 
 -- ---- whether the name stands there
 
@@ -96,10 +97,6 @@ module _ (old mid new : FileState) (n : ℕ) (e : Entry) (names : List (List ℕ
       (λ ne. set_then (λ old. storage_info e) same_stream (gives_all e (entry_at (entries_of mid.base) n) ne (λ s. ne (sym kind ∙ s))))
 
 -- ---- a stream
-
-inside : (o : Outline) (k : ℕ) → k ≢ 0 → IsReached o k → Contains (numbers o) k
-inside o k other (zero, less, is) = absurd (other (sym is))
-inside o k other (suc j, less, is) = (j, omega (arith, less), is)
 
 pub new_stream_of : (file : FileState) (k : ℕ) → HasOutline (cases_of file.base) (entries_of file.base) → IsReachedIn file k → (entry_at (entries_of file.base) k).obj_type ≡ Stream
     → IsStreamOf file.base k

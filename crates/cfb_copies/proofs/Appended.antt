@@ -1,17 +1,15 @@
 -- The bytes of a stream, piece by piece.
-use Rattle.std.proofs.Common.{◌≡◌, ◌+◌, ◌≤◌, ℕ, zero, suc, List, [], ◌∷◌, ◌++◌, refl, sym, ◌∙◌, ap, subst, length, take, arith, length-take, append-nil, zero-add}
-use Rattle.std.specs.Prelude.{Option, Some, None}
-use Rattle.std.specs.Option.{option_map_or}
+use Rattle.std.proofs.Common.{◌≡◌, ◌+◌, ◌≤◌, ℕ, List, [], ◌∷◌, ◌++◌, refl, sym, ◌∙◌, ap, subst, length, take, arith, length-take, append-nil, zero-add}
 use Rattle.std.proofs.lemmas.List.{drop_all, take_all}
-use Rattle.cfb_format.specs.Bytes.{byte_at}
-use Rattle.cfb_format.specs.Content.{place_in_stream, placed_from}
+use Rattle.cfb_format.specs.Content.{place_in_stream}
 use Rattle.cfb_format.specs.Medium.{part, written}
 use Rattle.cfb_format.specs.Siblings.{entry_at}
 use Rattle.cfb_format.proofs.ByteLemmas.{part_more, written_inside}
-use Rattle.cfb_mini_sectors.specs.State.{bytes_of, entries_of, parts_of}
-use Rattle.cfb_content.specs.Contents.{len_of}
-use Rattle.cfb_agreement.specs.Files.{FileState}
+use Rattle.cfb_copies.specs.cfb_mini_sectors.State.{bytes_of, entries_of, parts_of}
+use Rattle.cfb_copies.specs.cfb_content.Contents.{len_of}
+use Rattle.cfb_copies.specs.cfb_agreement.Files.{FileState}
 use Rattle.cfb_volume.specs.Answers.{content_at}
+use Rattle.cfb_copies.proofs.cfb_content.ReadablePlaces.{placed-most}
 
 -- one more piece behind those that are there
 pub piece_joins : (xs : List ℕ) (at n : ℕ) → at ≤ length xs → written (take at xs) at (part xs at n) ≡ take (at + n) xs
@@ -24,17 +22,6 @@ piece_joins xs at n within =
     ∙ ap (λ (k : ℕ). take at xs ++ part xs k n) (sym (zero-add at))
     ∙ sym (part_more xs 0 at n)
 
--- no more can be read than the length says
-placed_short : (bytes : List ℕ) (place : ℕ → Option ℕ) (k more : ℕ) → length (placed_from bytes place k more) ≤ more
-unfolding placed_from
-placed_short bytes place k zero = omega arith
-placed_short bytes place k (suc more) = go (place k) (placed_short bytes place (k + 1) more)
-  where
-    go : (o : Option ℕ) → length (placed_from bytes place (k + 1) more) ≤ more
-        → length (option_map_or (λ at. byte_at bytes at ∷ placed_from bytes place (k + 1) more) o []) ≤ suc more
-    go None rest = omega arith
-    go (Some at) rest = omega (arith, rest)
-
 none : (xs : List ℕ) → length xs ≤ 0 → xs ≡ []
 none [] h = refl
 none (x ∷ xs) h = absurd (omega (arith, h))
@@ -43,7 +30,7 @@ none (x ∷ xs) h = absurd (omega (arith, h))
 pub nothing_yet : (file : FileState) (k : ℕ) → len_of file.base k ≡ 0 → content_at file k ≡ []
 nothing_yet file k empty = none (content_at file k)
     (subst (λ (n : ℕ). length (content_at file k) ≤ n) empty
-    (placed_short (bytes_of file.base) (place_in_stream (bytes_of file.base) (parts_of file.base) (entry_at (entries_of file.base) k)) 0 (len_of file.base k)))
+    (placed-most (bytes_of file.base) (place_in_stream (bytes_of file.base) (parts_of file.base) (entry_at (entries_of file.base) k)) 0 (len_of file.base k)))
 
 -- the bytes that were read join them
 pub next_joins : (content before now into : List ℕ) (at n : ℕ) → at ≤ length content → before ≡ take at content → now ≡ written before at (take n into)

@@ -10,9 +10,9 @@ use Rattle.cfb_format.specs.Reading.{Reading, Reads}
 use Rattle.cfb_format.specs.Tree.{Tree}
 use Rattle.cfb_format.proofs.CreatedFacts.{reads}
 use Rattle.cfb_format.proofs.Unique.{Means-unique, Reads-unique}
-use Rattle.cfb_tables.specs.Changes.{NoneFree}
-use Rattle.cfb_mini_sectors.specs.State.{bytes_of, cases_of, reading_of, tables_in}
-use Rattle.cfb_agreement.specs.Files.{FileState, Holds}
+use Rattle.cfb_copies.specs.cfb_tables.Changes.{NoneFree}
+use Rattle.cfb_copies.specs.cfb_mini_sectors.State.{bytes_of, cases_of, reading_of, tables_in}
+use Rattle.cfb_copies.specs.cfb_agreement.Files.{FileState, Holds}
 use Rattle.cfb_creating.specs.State.{created_fat}
 use Rattle.cfb_copies.specs.Copies.{HasNoObjects}
 

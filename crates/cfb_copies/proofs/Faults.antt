@@ -5,8 +5,8 @@ use Rattle.cfb_format.specs.declared.error.Error.{Error}
 use Rattle.cfb_format.specs.declared.error.Error.TheVariants.{AlreadyExists, Failed, Full, InvalidData, InvalidInput, Medium, Memory, NotFound, Unsound}
 use Rattle.cfb_format.specs.declared.medium.MediumFault.{MediumFault}
 use Rattle.cfb_format.specs.Refused.{CountsError, IsBreak, IsMediumAnd}
-use Rattle.cfb_tables.specs.Refused.{ChangeRefused}
-use Rattle.cfb_agreement.specs.Files.{FileState, is_failed}
+use Rattle.cfb_copies.specs.cfb_tables.Refused.{ChangeRefused}
+use Rattle.cfb_copies.specs.cfb_agreement.Files.{FileState, is_failed}
 use Rattle.cfb_copies.specs.Copies.{CopyRefused, IsNotPrepared, error_counted}
 use Rattle.cfb_copies.specs.Steps.{GivesFault, IsFaultOfEither, IsNoFault}
 

@@ -6,14 +6,14 @@ use Rattle.cfb_format.specs.Names.{Cases}
 use Rattle.cfb_format.specs.Reading.{IsOutline, Outline}
 use Rattle.cfb_format.specs.Siblings.{entry_at}
 use Rattle.cfb_format.specs.Tree.{AreWhole, IsOrdered, Objects, Tree, nothing}
-use Rattle.cfb_rules.specs.CallChanges.{fields_changed_at, same_stream}
+use Rattle.cfb_copies.specs.cfb_rules.CallChanges.{fields_changed_at, same_stream}
 use Rattle.cfb_built.specs.Copied.{CanAllBeCopied, CopyIsTheTree, WalkCanBeCopied, parts_copied}
-use Rattle.cfb_objects.specs.Laws.{BecomesTree}
-use Rattle.cfb_objects.specs.Objects.{tree_from}
+use Rattle.cfb_copies.specs.cfb_objects.Laws.{BecomesTree}
+use Rattle.cfb_copies.specs.cfb_objects.Objects.{tree_from}
 use Rattle.cfb_places.specs.declared.walk.Place.{Place}
 use Rattle.cfb_places.specs.Laws.{IsWholeAt, StreamsAreWhole, TreeIsOrdered}
-use Rattle.cfb_mini_sectors.specs.State.{bytes_of, cases_of, content_of, entries_of}
-use Rattle.cfb_agreement.specs.Files.{FileState, Holds}
+use Rattle.cfb_copies.specs.cfb_mini_sectors.State.{bytes_of, cases_of, content_of, entries_of}
+use Rattle.cfb_copies.specs.cfb_agreement.Files.{FileState, Holds}
 use Rattle.cfb_copies.specs.Copies.{AreReadable, HasNoObjects, ListsObjects, MeansTheSame, parts_in_file}
 use Rattle.cfb_copies.proofs.Prepared.{means_in, tree_in, tree_is}
 

@@ -6,21 +6,22 @@ use Rattle.cfb_format.specs.Names.{Cases}
 use Rattle.cfb_format.specs.Reading.{IsOutline, Outline}
 use Rattle.cfb_format.proofs.Unique.{IsOutline-unique}
 use Rattle.cfb_siblings.specs.Paths.{number_from}
-use Rattle.cfb_trees.proofs.PathNames.{same-from}
-use Rattle.cfb_mini_sectors.specs.State.{cases_of, entries_of}
-use Rattle.cfb_content.specs.Contents.{IsStreamOf, MovesContent}
-use Rattle.cfb_content.proofs.FixedHeader.{header-stays, header-then}
-use Rattle.cfb_content.proofs.Kept.{nothing-is-moved, others-kept-then}
-use Rattle.cfb_content.proofs.Outlines.{content-moves-then, moved-at, moved-is-outline, same-entries-moved}
-use Rattle.cfb_entry_changes.specs.Kept.{KeepsFound}
-use Rattle.cfb_agreement.specs.Changes.{ChangesOneContent}
-use Rattle.cfb_agreement.specs.Files.{Agrees, FileState, Holds, SameSetting, failures_of, is_failed}
-use Rattle.cfb_copies.proofs.Settings.{setting_same, setting_then}
+use Rattle.cfb_copies.proofs.cfb_trees.PathNames.{same-from}
+use Rattle.cfb_copies.specs.cfb_mini_sectors.State.{cases_of, entries_of}
+use Rattle.cfb_copies.specs.cfb_content.Contents.{IsStreamOf, MovesContent}
+use Rattle.cfb_copies.proofs.cfb_content.FixedHeader.{header-stays, header-then}
+use Rattle.cfb_copies.proofs.cfb_content.Kept.{nothing-is-moved, others-kept-then}
+use Rattle.cfb_copies.proofs.cfb_content.Outlines.{content-moves-then, moved-at, moved-is-outline, same-entries-moved}
+use Rattle.cfb_copies.specs.cfb_entry_changes.Kept.{KeepsFound}
+use Rattle.cfb_copies.specs.cfb_agreement.Changes.{ChangesOneContent}
+use Rattle.cfb_copies.specs.cfb_agreement.Files.{Agrees, FileState, Holds, SameSetting, failures_of, is_failed}
 use Rattle.cfb_copies.specs.Steps.{FillsStream, GrowsTree, StaysWithoutFree}
+use Rattle.cfb_volume.proofs.Settings.{setting-same}
+use Rattle.cfb_copies.proofs.cfb_agreement.InTurn.{setting-then}
 
 pub fills_none : (tells : Bool) (i : ℕ) (file : FileState) → is_failed file ≡ false → IsStreamOf file.base i → FillsStream tells i file file
 fills_none tells i file calm stream = record {
-  setting = setting_same file;
+  setting = setting-same file;
   unfailed = calm;
   stream = stream;
   moves = same-entries-moved file.base file.base i refl;
@@ -53,7 +54,7 @@ fills_written tells i old new setting calm stream moves agrees changes full coun
 -- one after the other
 pub fills_then : (tells : Bool) (i : ℕ) (a b c : FileState) → FillsStream tells i a b → FillsStream tells i b c → FillsStream tells i a c
 fills_then tells i a b c p q = record {
-  setting = setting_then a b c p.setting q.setting;
+  setting = setting-then a b c p.setting q.setting;
   unfailed = q.unfailed;
   stream = q.stream;
   moves = content-moves-then a.base b.base c.base i p.moves q.moves;

@@ -4,17 +4,18 @@ use Rattle.std.specs.Prelude.{IsTrue, Some}
 use Rattle.cfb_format.specs.Reading.{IsOutline, Outline}
 use Rattle.cfb_format.proofs.Unique.{IsOutline-unique}
 use Rattle.cfb_siblings.specs.Paths.{HasOutline, number_from}
-use Rattle.cfb_trees.proofs.PathReached.{found-is-reached, reached-is-found}
-use Rattle.cfb_entries.specs.EntryList.{AreInOrder}
-use Rattle.cfb_tables.specs.Changes.{NoneFree}
-use Rattle.cfb_tables.specs.Tables.{TableState}
-use Rattle.cfb_mini_sectors.specs.State.{cases_of, entries_of, tables_in}
-use Rattle.cfb_content.specs.Contents.{KeepsFixedHeader}
-use Rattle.cfb_content.proofs.FixedHeader.{header-stays, header-then}
-use Rattle.cfb_entry_changes.specs.Kept.{KeepsFound}
-use Rattle.cfb_agreement.specs.Files.{Agrees, FileState, Holds, IsAsMade, SameSetting, failures_of, is_failed}
-use Rattle.cfb_copies.proofs.Settings.{setting_same, setting_then}
-use Rattle.cfb_copies.specs.Steps.{GrowsTree, IsReachedIn, LeadTo, StaysWithoutFree}
+use Rattle.cfb_copies.proofs.cfb_trees.PathReached.{found-is-reached, reached-is-found}
+use Rattle.cfb_copies.specs.cfb_entries.EntryList.{AreInOrder}
+use Rattle.cfb_copies.specs.cfb_tables.Changes.{NoneFree}
+use Rattle.cfb_copies.specs.cfb_tables.Tables.{TableState}
+use Rattle.cfb_copies.specs.cfb_mini_sectors.State.{cases_of, entries_of, tables_in}
+use Rattle.cfb_copies.specs.cfb_content.Contents.{KeepsFixedHeader}
+use Rattle.cfb_copies.proofs.cfb_content.FixedHeader.{header-stays, header-then}
+use Rattle.cfb_copies.specs.cfb_entry_changes.Kept.{KeepsFound}
+use Rattle.cfb_copies.specs.cfb_agreement.Files.{Agrees, FileState, Holds, IsAsMade, SameSetting, failures_of, is_failed}
+use Rattle.cfb_copies.specs.Steps.{GrowsTree, IsReachedIn, LeadToEntry, StaysWithoutFree}
+use Rattle.cfb_volume.proofs.Settings.{setting-same}
+use Rattle.cfb_copies.proofs.cfb_agreement.InTurn.{setting-then}
 
 -- the entries in order have an outline
 pub ordered : (file : FileState) → AreInOrder (cases_of file.base) (entries_of file.base) → HasOutline (cases_of file.base) (entries_of file.base)
@@ -22,7 +23,7 @@ ordered file order = (order.outline, order.is)
 
 pub grows_none : (tells : Bool) (file : FileState) → is_failed file ≡ false → HasOutline (cases_of file.base) (entries_of file.base) → GrowsTree tells file file
 grows_none tells file calm outline = record {
-  setting = setting_same file;
+  setting = setting-same file;
   unfailed = calm;
   outline = outline;
   stays = λ before after was is names k found.
@@ -59,7 +60,7 @@ same_tables old new same none = subst (λ (t : TableState). NoneFree t.fat) (sym
 -- one after the other
 pub grows_then : (tells : Bool) (a b c : FileState) → GrowsTree tells a b → GrowsTree tells b c → GrowsTree tells a c
 grows_then tells a b c p q = record {
-  setting = setting_then a b c p.setting q.setting;
+  setting = setting-then a b c p.setting q.setting;
   unfailed = q.unfailed;
   outline = q.outline;
   stays = λ before after was is names k found. q.stays p.outline.0 after p.outline.1 is names k (p.stays before p.outline.0 was p.outline.1 names k found);
@@ -73,10 +74,10 @@ grows_then tells a b c p q = record {
 -- ---- what is found
 
 pub leads_still : (old new : FileState) (names : List (List ℕ)) (k : ℕ) → HasOutline (cases_of old.base) (entries_of old.base) → KeepsFound old.base new.base
-    → LeadTo old names k → LeadTo new names k
+    → LeadToEntry old names k → LeadToEntry new names k
 leads_still old new names k was stays to = λ (o : Outline) (is : IsOutline (cases_of new.base) (entries_of new.base) o). stays was.0 o was.1 is names k (to was.0 was.1)
 
-pub lead_reached : (file : FileState) (names : List (List ℕ)) (k : ℕ) → LeadTo file names k → IsReachedIn file k
+pub lead_reached : (file : FileState) (names : List (List ℕ)) (k : ℕ) → LeadToEntry file names k → IsReachedIn file k
 lead_reached file names k to = λ (o : Outline) (is : IsOutline (cases_of file.base) (entries_of file.base) o).
     found-is-reached (cases_of file.base) (entries_of file.base) o names k is (to o is)
 

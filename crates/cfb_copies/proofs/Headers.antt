@@ -5,10 +5,10 @@ use Rattle.cfb_format.specs.declared.version.Version.{Version}
 use Rattle.cfb_format.specs.declared.version.Version.TheVariants.{V3, V4}
 use Rattle.cfb_format.specs.Bytes.{sector_len}
 use Rattle.cfb_format.specs.Created.{created_bytes}
-use Rattle.cfb_alloc.specs.Frame.{IsFixedHeaderByte}
-use Rattle.cfb_mini_sectors.specs.State.{bytes_of, version_of}
-use Rattle.cfb_content.specs.Contents.{KeepsFixedHeader}
-use Rattle.cfb_agreement.specs.Files.{FileState, Holds}
+use Rattle.cfb_copies.specs.cfb_alloc.Frame.{IsFixedHeaderByte}
+use Rattle.cfb_copies.specs.cfb_mini_sectors.State.{bytes_of, version_of}
+use Rattle.cfb_copies.specs.cfb_content.Contents.{KeepsFixedHeader}
+use Rattle.cfb_copies.specs.cfb_agreement.Files.{FileState, Holds}
 use Rattle.cfb_copies.specs.Copies.{HasCreatedHeader}
 
 -- these bytes lie before the first sector

@@ -6,17 +6,17 @@ use Rattle.cfb_format.specs.DirectoryEntry.{Entry}
 use Rattle.cfb_format.specs.Meaning.{Means}
 use Rattle.cfb_format.specs.Names.{Cases}
 use Rattle.cfb_format.specs.Tree.{Tree}
-use Rattle.cfb_rules.specs.CallChanges.{content_changed_at}
-use Rattle.cfb_rules.specs.Finding.{last_name, parent_names}
+use Rattle.cfb_copies.specs.cfb_rules.CallChanges.{content_changed_at}
+use Rattle.cfb_copies.specs.cfb_rules.Finding.{last_name, parent_names}
 use Rattle.cfb_built.specs.Copied.{Part, names_of, part_copied}
-use Rattle.cfb_trees.specs.Reached.{IsObject}
-use Rattle.cfb_objects.specs.Laws.{BecomesTree}
-use Rattle.cfb_mini_sectors.specs.State.{bytes_of, cases_of}
-use Rattle.cfb_content.specs.Contents.{IsStreamOf}
-use Rattle.cfb_agreement.specs.Files.{FileState, Holds}
-use Rattle.cfb_agreement.proofs.ContentChanges.{content-becomes-tree}
+use Rattle.cfb_copies.specs.cfb_trees.Reached.{IsObject}
+use Rattle.cfb_copies.specs.cfb_objects.Laws.{BecomesTree}
+use Rattle.cfb_copies.specs.cfb_mini_sectors.State.{bytes_of, cases_of}
+use Rattle.cfb_copies.specs.cfb_content.Contents.{IsStreamOf}
+use Rattle.cfb_copies.specs.cfb_agreement.Files.{FileState, Holds}
+use Rattle.cfb_copies.proofs.cfb_agreement.ContentChanges.{content-becomes-tree}
 use Rattle.cfb_volume.specs.Answers.{content_at}
-use Rattle.cfb_copies.specs.Steps.{FillsStream, IsNewIn, IsPart, LeadTo, like_added}
+use Rattle.cfb_copies.specs.Steps.{FillsStream, IsNewIn, IsPart, LeadToEntry, like_added}
 use Rattle.cfb_copies.proofs.Likes.{part_is_storage, part_is_stream}
 
 pub other_is_storage : (e : Entry) → IsObject e → e.obj_type ≢ Stream → e.obj_type ≡ Storage
@@ -32,14 +32,14 @@ pub named_as : (content : Entry → List ℕ) (e : Entry) (part : Part) (is : Is
 named_as content e part is = ap last_name (sym is.some) ∙ is.named
 
 pub above_as : (old : FileState) (parent : ℕ) (content : Entry → List ℕ) (e : Entry) (part : Part) (is : IsPart content e part)
-    → LeadTo old (parent_names (names_of part)) parent → LeadTo old (parent_names (is.first ∷ is.rest)) parent
-above_as old parent content e part is to = subst (λ (names : List (List ℕ)). LeadTo old (parent_names names) parent) is.some to
+    → LeadToEntry old (parent_names (names_of part)) parent → LeadToEntry old (parent_names (is.first ∷ is.rest)) parent
+above_as old parent content e part is to = subst (λ (names : List (List ℕ)). LeadToEntry old (parent_names names) parent) is.some to
 
 -- it stands at the names of the part
 pub new_leads : (old new : FileState) (parent n : ℕ) (content : Entry → List ℕ) (e : Entry) (part : Part) → IsPart content e part → IsNewIn old new parent n e.name
-    → LeadTo old (parent_names (names_of part)) parent → LeadTo new (names_of part) n
+    → LeadToEntry old (parent_names (names_of part)) parent → LeadToEntry new (names_of part) n
 new_leads old new parent n content e part is new_in to =
-    subst (λ (names : List (List ℕ)). LeadTo new names n) (sym is.some) (new_in.found is.first is.rest (above_as old parent content e part is to) (named_as content e part is))
+    subst (λ (names : List (List ℕ)). LeadToEntry new names n) (sym is.some) (new_in.found is.first is.rest (above_as old parent content e part is to) (named_as content e part is))
 
 pub storage_tree : (cases : Cases) (b new : List ℕ) (content : Entry → List ℕ) (e : Entry) (part : Part) → IsPart content e part → e.obj_type ≡ Storage
     → BecomesTree cases b new (like_added cases e (names_of part)) → BecomesTree cases b new (part_copied cases part)
@@ -49,7 +49,7 @@ storage_tree cases b new content e part is kind joins tree means =
 -- a stream gets its bytes then
 module _ (tells : Bool) (told : IsTrue tells) (old mid new : FileState) (n : ℕ) (content : Entry → List ℕ) (e : Entry) (part : Part) (is : IsPart content e part) (kind : e.obj_type ≡ Stream)
     (same : cases_of mid.base ≡ cases_of old.base) (held : Holds mid) (sound : mid.is_sound ≡ true) (stream : IsStreamOf mid.base n) (f : FillsStream tells n mid new)
-    (bytes : content_at new n ≡ content e) (to : LeadTo mid (names_of part) n) where
+    (bytes : content_at new n ≡ content e) (to : LeadToEntry mid (names_of part) n) where
   pub stream_tree : BecomesTree (cases_of old.base) (bytes_of old.base) (bytes_of mid.base) (like_added (cases_of old.base) e (names_of part))
       → BecomesTree (cases_of old.base) (bytes_of old.base) (bytes_of new.base) (part_copied (cases_of old.base) part)
   stream_tree joins tree means =

@@ -13,22 +13,22 @@ use Rattle.cfb_format.specs.Reading.{IsOutline, Outline}
 use Rattle.cfb_format.specs.Siblings.{entry_at}
 use Rattle.cfb_format.specs.Tree.{Tree, a_storage, a_stream}
 use Rattle.cfb_format.proofs.Unique.{Means-unique}
-use Rattle.cfb_rules.specs.Finding.{last_name, object_at, parent_names}
-use Rattle.cfb_built.specs.Copied.{CanAllBeCopied, CanBeCopied, Part, names_of, part_copied, parts_copied}
+use Rattle.cfb_copies.specs.cfb_rules.Finding.{last_name, object_at, parent_names}
+use Rattle.cfb_built.specs.Copied.{CanAllBeCopied, HasFreePlace, Part, names_of, part_copied, parts_copied}
 use Rattle.cfb_siblings.specs.Children.{HasChildren, IsAbsent}
 use Rattle.cfb_siblings.specs.Paths.{HasOutline, LeadsOn, number_from}
-use Rattle.cfb_trees.specs.Reached.{IsObject}
-use Rattle.cfb_objects.specs.Laws.{BecomesTree}
-use Rattle.cfb_objects.specs.Objects.{object_of, tree_from}
-use Rattle.cfb_objects.proofs.Found.{object-is-at-its-entry, stream-by-kind}
-use Rattle.cfb_objects.proofs.Leading.{last-name-leads-on}
+use Rattle.cfb_copies.specs.cfb_trees.Reached.{IsObject}
+use Rattle.cfb_copies.specs.cfb_objects.Laws.{BecomesTree}
+use Rattle.cfb_copies.specs.cfb_objects.Objects.{object_of, tree_from}
+use Rattle.cfb_copies.proofs.cfb_objects.Found.{object-is-at-its-entry, stream-by-kind}
+use Rattle.cfb_copies.proofs.cfb_objects.Leading.{last-name-leads-on}
 use Rattle.cfb_places.specs.Parts.{IsPartOf, no_part, part_at}
-use Rattle.cfb_mini_sectors.specs.State.{bytes_of, cases_of, content_of, entries_of}
-use Rattle.cfb_entry_changes.specs.Kept.{KeepsFound}
-use Rattle.cfb_agreement.specs.Files.{FileState, Holds}
-use Rattle.cfb_agreement.proofs.HeldBytes.{held-means-its-tree}
+use Rattle.cfb_copies.specs.cfb_mini_sectors.State.{bytes_of, cases_of, content_of, entries_of}
+use Rattle.cfb_copies.specs.cfb_entry_changes.Kept.{KeepsFound}
+use Rattle.cfb_copies.specs.cfb_agreement.Files.{FileState, Holds}
+use Rattle.cfb_copies.proofs.cfb_agreement.HeldBytes.{held-means-its-tree}
 use Rattle.cfb_copies.specs.Copies.{AreNumbered, IsOnTheWay}
-use Rattle.cfb_copies.specs.Steps.{IsPart, LeadTo, TakesName}
+use Rattle.cfb_copies.specs.Steps.{IsPart, LeadToEntry, TakesName}
 use Rattle.cfb_copies.proofs.Growing.{leads_still}
 
 -- ---- the part of an entry
@@ -67,7 +67,7 @@ module _ (file : FileState) (held : Holds file) (tree : Tree) (means : Means (ca
   none_of None e = refl
   none_of (Some k) e = absurd (let w : Some (object_of es (content_of file.base) held.outline k) ≡ None = e in cc)
 
-  pub takes_next : (part : Part) (parent : ℕ) → CanBeCopied cases tree part → LeadTo file (parent_names (names_of part)) parent → TakesName file parent (last_name (names_of part))
+  pub takes_next : (part : Part) (parent : ℕ) → HasFreePlace cases tree part → LeadToEntry file (parent_names (names_of part)) parent → TakesName file parent (last_name (names_of part))
   takes_next part parent can to =
       let at : number_from cases es 0 held.outline (parent_names (names_of part)) ≡ Some parent = to held.outline held.reads.outline in
       let there : Some (object_of es (content_of file.base) held.outline parent) ≡ Some (a_storage can.info can.inside) =
@@ -103,32 +103,32 @@ step_becomes cases parts at tree last inside becomes = sym (ap (λ (ps : List Pa
 
 -- the storage of the next part
 pub parent_leads : (target : FileState) (parts : List Part) (numbers : List ℕ) (names : List (List ℕ)) (above : ℕ) → AreNumbered target parts numbers
-    → above < length numbers → names ≡ names_of (part_at parts above) → LeadTo target names (get_or numbers above 0)
-parent_leads target parts numbers names above are inside is = subst (λ (ns : List (List ℕ)). LeadTo target ns (get_or numbers above 0)) (sym is) (are above inside)
+    → above < length numbers → names ≡ names_of (part_at parts above) → LeadToEntry target names (get_or numbers above 0)
+parent_leads target parts numbers names above are inside is = subst (λ (ns : List (List ℕ)). LeadToEntry target ns (get_or numbers above 0)) (sym is) (are above inside)
 
-pub root_leads : (target : FileState) (names : List (List ℕ)) → names ≡ [] → LeadTo target names 0
+pub root_leads : (target : FileState) (names : List (List ℕ)) → names ≡ [] → LeadToEntry target names 0
 root_leads target names is = λ (o : Outline) (outline : IsOutline (cases_of target.base) (entries_of target.base) o).
     ap (number_from (cases_of target.base) (entries_of target.base) 0 o) is
 
 pub step_numbered : (old new : FileState) (parts : List Part) (numbers : List ℕ) (n at : ℕ) → length numbers ≡ at → HasOutline (cases_of old.base) (entries_of old.base)
-    → KeepsFound old.base new.base → AreNumbered old parts numbers → LeadTo new (names_of (part_at parts at)) n → AreNumbered new parts (numbers ++ n ∷ [])
+    → KeepsFound old.base new.base → AreNumbered old parts numbers → LeadToEntry new (names_of (part_at parts at)) n → AreNumbered new parts (numbers ++ n ∷ [])
 step_numbered old new parts numbers n at so_far was stays are is = λ j below. go j (ltb j (length numbers)) refl (omega (arith, below, length-append numbers (n ∷ [])))
   where
-    go : (j : ℕ) (b : Bool) → ltb j (length numbers) ≡ b → j ≤ length numbers → LeadTo new (names_of (part_at parts j)) (get_or (numbers ++ n ∷ []) j 0)
+    go : (j : ℕ) (b : Bool) → ltb j (length numbers) ≡ b → j ≤ length numbers → LeadToEntry new (names_of (part_at parts j)) (get_or (numbers ++ n ∷ []) j 0)
     go j true e most =
         let inside : j < length numbers = ltb-true j (length numbers) e in
-        subst (λ (k : ℕ). LeadTo new (names_of (part_at parts j)) k) (sym (get_or-append numbers (n ∷ []) 0 j inside))
+        subst (λ (k : ℕ). LeadToEntry new (names_of (part_at parts j)) k) (sym (get_or-append numbers (n ∷ []) 0 j inside))
         (leads_still old new (names_of (part_at parts j)) (get_or numbers j 0) was stays (are j inside))
     go j false e most =
         let last : j ≡ length numbers = omega (arith, ltb-false j (length numbers) e) in
-        subst (λ (k : ℕ). LeadTo new (names_of (part_at parts j)) k) (sym (ap (λ (k : ℕ). get_or (numbers ++ n ∷ []) k 0) last ∙ get_or-append_seam numbers n [] 0))
-        (subst (λ (k : ℕ). LeadTo new (names_of (part_at parts k)) n) (sym (last ∙ so_far)) is)
+        subst (λ (k : ℕ). LeadToEntry new (names_of (part_at parts j)) k) (sym (ap (λ (k : ℕ). get_or (numbers ++ n ∷ []) k 0) last ∙ get_or-append_seam numbers n [] 0))
+        (subst (λ (k : ℕ). LeadToEntry new (names_of (part_at parts k)) n) (sym (last ∙ so_far)) is)
 
 -- ---- the way
 
 -- so the next part can be copied now
 pub way_allows : (target : FileState) (parts : List Part) (at : ℕ) (goal : Tree) → at < length parts → (way : IsOnTheWay target (drop at parts) goal)
-    → CanBeCopied (cases_of target.base) way.tree (part_at parts at)
+    → HasFreePlace (cases_of target.base) way.tree (part_at parts at)
 way_allows target parts at goal inside way = (next_allowed (cases_of target.base) parts at way.tree inside way.allowed).0
 
 -- and the goal stays

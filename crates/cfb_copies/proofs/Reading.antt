@@ -1,12 +1,13 @@
 -- A file that is only read.
 use Rattle.std.proofs.Common.{◌≡◌, ℕ, List, Bool, refl, sym, ◌∙◌, ap, subst}
 use Rattle.std.specs.Prelude.{IsTrue}
-use Rattle.cfb_mini_sectors.specs.State.{MiniState, bytes_of, table_of}
-use Rattle.cfb_agreement.specs.Files.{FileState, Holds, IsAsBefore, failures_of, is_failed}
-use Rattle.cfb_agreement.proofs.Flags.{as-before-same, flags-not-read}
+use Rattle.cfb_copies.specs.cfb_mini_sectors.State.{MiniState, bytes_of, table_of}
+use Rattle.cfb_copies.specs.cfb_agreement.Files.{FileState, Holds, IsAsBefore, failures_of, is_failed}
+use Rattle.cfb_copies.proofs.cfb_agreement.Flags.{as-before-same, flags-not-read}
 use Rattle.cfb_volume.specs.Answers.{content_at}
-use Rattle.cfb_copies.proofs.Settings.{setting_same, setting_then}
 use Rattle.cfb_copies.specs.Steps.{IsReadOnly}
+use Rattle.cfb_volume.proofs.Settings.{setting-same}
+use Rattle.cfb_copies.proofs.cfb_agreement.InTurn.{setting-then}
 
 -- the same with other bytes and another count of failures
 abbrev with_medium : MiniState → List ℕ → ℕ → MiniState
@@ -24,7 +25,7 @@ as_before_then a b c p q = record {
 
 pub read_none : (tells : Bool) (file : FileState) → IsReadOnly tells file file
 read_none tells file = record {
-  setting = setting_same file;
+  setting = setting-same file;
   flag = refl;
   entries = refl;
   same = λ told. record { base = refl; bytes = refl; is_sound = refl; buffer_limit = refl };
@@ -32,7 +33,7 @@ read_none tells file = record {
 
 pub read_then : (tells : Bool) (a b c : FileState) → IsReadOnly tells a b → IsReadOnly tells b c → IsReadOnly tells a c
 read_then tells a b c p q = record {
-  setting = setting_then a b c p.setting q.setting;
+  setting = setting-then a b c p.setting q.setting;
   flag = q.flag ∙ p.flag;
   entries = q.entries ∙ p.entries;
   same = λ told. as_before_then a b c (p.same told) (q.same told);

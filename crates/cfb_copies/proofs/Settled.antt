@@ -2,9 +2,9 @@
 use Rattle.std.proofs.Common.{◌≡◌, ◌+◌, ◌-◌, ◌<◌, ◌≤◌, ◌⊎◌, inl, inr, ℕ, ◌∙◌, min, arith}
 use Rattle.std.proofs.lemmas.Bool.{cases_lt}
 use Rattle.cfb_format.specs.Content.{mini_stream_cutoff}
-use Rattle.cfb_content.specs.Contents.{len_of}
-use Rattle.cfb_resizing.specs.Turning.{LeavesNoMinis}
-use Rattle.cfb_agreement.specs.Files.{FileState}
+use Rattle.cfb_copies.specs.cfb_content.Contents.{len_of}
+use Rattle.cfb_copies.specs.cfb_resizing.Turning.{LeavesNoMinis}
+use Rattle.cfb_copies.specs.cfb_agreement.Files.{FileState}
 
 -- so many bytes are there: none, so many that they lie in sectors, or all
 abbrev pub IsSettled : ℕ → ℕ → Type 0

@@ -1,20 +1,19 @@
 -- What the entries of a file hold that are what its bytes say: names and lengths as they may be.
-use Rattle.std.proofs.Common.{◌≡◌, ◌<◌, ◌≤◌, ◌%◌, inl, inr, ℕ, zero, suc, List, [], ◌∷◌, Bool, true, false, refl, sym, ◌∙◌, ap, subst, length, arith, mod-lt}
+use Rattle.std.proofs.Common.{◌≡◌, ◌<◌, ◌≤◌, inl, inr, ℕ, zero, suc, List, [], ◌∷◌, Bool, true, false, refl, sym, ◌∙◌, ap, subst, length, arith}
 use Rattle.std.specs.Prelude.{not, ◌&&◌, nat_le}
 use Rattle.std.specs.List.{AllZip, list_any}
 use Rattle.std.proofs.lemmas.Bool.{leb-false}
-use Rattle.cfb_format.specs.declared.objtype.ObjType.{ObjType}
-use Rattle.cfb_format.specs.declared.objtype.ObjType.TheVariants.{Unallocated, Storage, Stream, Root}
+use Rattle.cfb_format.specs.declared.objtype.ObjType.TheVariants.{Storage, Stream}
 use Rattle.cfb_format.specs.declared.version.Version.{Version}
-use Rattle.cfb_format.specs.declared.version.Version.TheVariants.{V3, V4}
-use Rattle.cfb_format.specs.Bytes.{long_at, max_stream_len}
-use Rattle.cfb_format.specs.DirectoryEntry.{Entry, IsAllowedName, IsEntry, name_for, stored_len, stored_name, unless_storage}
+use Rattle.cfb_format.specs.Bytes.{max_stream_len}
+use Rattle.cfb_format.specs.DirectoryEntry.{Entry, IsEntry, stored_len, stored_name}
 use Rattle.cfb_format.specs.Names.{is_forbidden_character, is_valid_name, max_name_len, utf16_units}
 use Rattle.cfb_format.specs.Siblings.{entry_at}
-use Rattle.cfb_trees.specs.Reached.{IsObject}
-use Rattle.cfb_mini_sectors.specs.State.{entries_of, version_of}
-use Rattle.cfb_content.specs.Contents.{len_of}
-use Rattle.cfb_agreement.specs.Files.{FileState, Holds}
+use Rattle.cfb_copies.specs.cfb_trees.Reached.{IsObject}
+use Rattle.cfb_copies.specs.cfb_mini_sectors.State.{entries_of, version_of}
+use Rattle.cfb_copies.specs.cfb_content.Contents.{len_of}
+use Rattle.cfb_copies.specs.cfb_agreement.Files.{FileState, Holds}
+use Rattle.cfb_format.proofs.Slots.{stored_short, read_short, stored_free}
 
 -- a short name with no forbidden character is valid
 pub valid_name : (name : List ℕ) → length (utf16_units name) ≤ max_name_len → list_any is_forbidden_character name ≡ false → is_valid_name name ≡ true
@@ -25,19 +24,6 @@ valid_name name short free = go (nat_le (length (utf16_units name)) max_name_len
     go false e = absurd (omega (arith, short, leb-false (length (utf16_units name)) max_name_len e))
 
 -- ---- one slot
-
-stored_short : (v : Version) (slot : List ℕ) → stored_len v slot ≤ max_stream_len v
-stored_short V3 slot = let low : long_at slot 120 % 0x1_0000_0000 < 0x1_0000_0000 = mod-lt (long_at slot 120) (omega arith) in omega (arith, low)
-stored_short V4 slot = let low : long_at slot 120 % 0x1_0000_0000_0000_0000 < 0x1_0000_0000_0000_0000 = mod-lt (long_at slot 120) (omega arith) in omega (arith, low)
-
-read_short : (kind : ObjType) (n most : ℕ) → n ≤ most → unless_storage kind n ≤ most
-read_short Unallocated n most h = h
-read_short Storage n most h = omega arith
-read_short Stream n most h = h
-read_short Root n most h = h
-
-stored_free : (kind t : ObjType) (name stored : List ℕ) → t ≡ kind → name ≡ name_for t stored → IsAllowedName t stored → (name ≡ name_for kind stored) × IsAllowedName kind stored
-stored_free kind t name stored is named allowed = (named ∙ ap (λ (k : ObjType). name_for k stored) is, subst (λ (k : ObjType). IsAllowedName k stored) is allowed)
 
 slot_free : (v : Version) (slot : List ℕ) (e : Entry) → IsEntry v slot e → IsObject e → list_any is_forbidden_character e.name ≡ false
 slot_free v slot e entry (inl is) =

@@ -9,21 +9,21 @@ use Rattle.cfb_format.specs.DirectoryEntry.{Entry}
 use Rattle.cfb_format.specs.Reading.{IsOutline, Outline}
 use Rattle.cfb_format.specs.Siblings.{entry_at}
 use Rattle.cfb_format.specs.Tree.{Tree}
-use Rattle.cfb_rules.specs.Finding.{parent_names}
+use Rattle.cfb_copies.specs.cfb_rules.Finding.{parent_names}
 use Rattle.cfb_built.specs.Copied.{Part, names_of, part_copied}
 use Rattle.cfb_siblings.specs.Paths.{HasOutline}
-use Rattle.cfb_objects.specs.Laws.{BecomesTree}
+use Rattle.cfb_copies.specs.cfb_objects.Laws.{BecomesTree}
 use Rattle.cfb_places.specs.declared.walk.Place.{Place}
 use Rattle.cfb_places.specs.Laws.{IsWholeAt, PartsStandAtPlaces}
 use Rattle.cfb_places.specs.Parts.{IsPartOf, part_at}
 use Rattle.cfb_places.specs.Places.{number_at, parent_at, placed_in, places_of}
-use Rattle.cfb_mini_sectors.specs.State.{bytes_of, cases_of, content_of, entries_of, version_of}
-use Rattle.cfb_content.specs.Contents.{len_of}
-use Rattle.cfb_entry_changes.specs.Kept.{KeepsFound}
-use Rattle.cfb_agreement.specs.Files.{FileState, Holds}
-use Rattle.cfb_agreement.proofs.Flags.{as-before-same}
+use Rattle.cfb_copies.specs.cfb_mini_sectors.State.{bytes_of, cases_of, content_of, entries_of, version_of}
+use Rattle.cfb_copies.specs.cfb_content.Contents.{len_of}
+use Rattle.cfb_copies.specs.cfb_entry_changes.Kept.{KeepsFound}
+use Rattle.cfb_copies.specs.cfb_agreement.Files.{FileState, Holds}
+use Rattle.cfb_copies.proofs.cfb_agreement.Flags.{as-before-same}
 use Rattle.cfb_copies.specs.Copies.{AreNumbered, IsOnTheWay, ListsObjects, parts_in_file}
-use Rattle.cfb_copies.specs.Steps.{CanBeLike, IsCopyable, IsNewIn, IsPart, IsReadOnly, LeadTo, TakesName}
+use Rattle.cfb_copies.specs.Steps.{CanBeLike, IsCopyable, IsNewIn, IsPart, IsReadOnly, LeadToEntry, TakesName}
 use Rattle.cfb_copies.proofs.Joining.{new_leads}
 use Rattle.cfb_copies.proofs.Next.{is_part, parent_leads, root_leads, step_numbered, takes_next, way_allows, way_next}
 use Rattle.cfb_copies.proofs.Prepared.{listed_stands}
@@ -76,7 +76,7 @@ module _ (start : FileState) (list : List Place) (law : PartsStandAtPlaces) (lis
 
   -- its storage stands in the target
   pub parent_is : (target : FileState) (numbers : List ℕ) (parent : ℕ) → length numbers ≡ at → AreNumbered target parts numbers
-      → MatchOption (parent_at list at) (parent ≡ 0) (λ above. parent ≡ get_or numbers above 0) → LeadTo target (parent_names (names_of part)) parent
+      → MatchOption (parent_at list at) (parent ≡ 0) (λ above. parent ≡ get_or numbers above 0) → LeadToEntry target (parent_names (names_of part)) parent
   parent_is target numbers parent so_far are m =
       let same : list ≡ places_of o = lists o is in
       let stands = (law (cases_of start.base) (entries_of start.base) (content_of start.base) o is).1 at (subst (λ (l : List Place). at < length l) same inside) in
@@ -84,13 +84,13 @@ module _ (start : FileState) (list : List Place) (law : PartsStandAtPlaces) (lis
       (subst (λ (l : List Place). MatchOption (parent_at l at) (parent ≡ 0) (λ above. parent ≡ get_or numbers above 0)) same m)
     where
       go : (p : Option ℕ) → MatchOption p (parent_names (names_of part) ≡ []) (λ above. (above < at) × (parent_names (names_of part) ≡ names_of (part_at parts above)))
-          → MatchOption p (parent ≡ 0) (λ above. parent ≡ get_or numbers above 0) → LeadTo target (parent_names (names_of part)) parent
-      go None top zero = subst (λ (k : ℕ). LeadTo target (parent_names (names_of part)) k) (sym zero) (root_leads target (parent_names (names_of part)) top)
-      go (Some above) below at_above = subst (λ (k : ℕ). LeadTo target (parent_names (names_of part)) k) (sym at_above)
+          → MatchOption p (parent ≡ 0) (λ above. parent ≡ get_or numbers above 0) → LeadToEntry target (parent_names (names_of part)) parent
+      go None top zero = subst (λ (k : ℕ). LeadToEntry target (parent_names (names_of part)) k) (sym zero) (root_leads target (parent_names (names_of part)) top)
+      go (Some above) below at_above = subst (λ (k : ℕ). LeadToEntry target (parent_names (names_of part)) k) (sym at_above)
           (parent_leads target parts numbers (parent_names (names_of part)) above are (omega (arith, below.0, so_far)) below.1)
 
   -- it can be put into it
-  pub next_takes : (target : FileState) (goal : Tree) (parent : ℕ) → Holds target → IsOnTheWay target (drop at parts) goal → LeadTo target (parent_names (names_of part)) parent
+  pub next_takes : (target : FileState) (goal : Tree) (parent : ℕ) → Holds target → IsOnTheWay target (drop at parts) goal → LeadToEntry target (parent_names (names_of part)) parent
       → TakesName target parent entry.name
   next_takes target goal parent held way to =
       subst (λ (name : List ℕ). TakesName target parent name) part_here.named
@@ -98,7 +98,7 @@ module _ (start : FileState) (list : List Place) (law : PartsStandAtPlaces) (lis
 
   -- and then it stands there
   pub next_numbered : (old new : FileState) (numbers : List ℕ) (parent n : ℕ) → length numbers ≡ at → HasOutline (cases_of old.base) (entries_of old.base)
-      → KeepsFound old.base new.base → AreNumbered old parts numbers → LeadTo old (parent_names (names_of part)) parent → IsNewIn old new parent n entry.name
+      → KeepsFound old.base new.base → AreNumbered old parts numbers → LeadToEntry old (parent_names (names_of part)) parent → IsNewIn old new parent n entry.name
       → AreNumbered new parts (numbers ++ n ∷ [])
   next_numbered old new numbers parent n so_far was stays are to new_in =
       step_numbered old new parts numbers n at so_far was stays are (new_leads old new parent n (content_of start.base) entry part part_here new_in to)

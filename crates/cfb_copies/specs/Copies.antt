@@ -14,11 +14,11 @@ use Rattle.cfb_places.specs.declared.walk.Place.{Place}
 use Rattle.cfb_places.specs.Laws.{IsWholeAt}
 use Rattle.cfb_places.specs.Parts.{part_at, parts_of}
 use Rattle.cfb_places.specs.Places.{places_of}
-use Rattle.cfb_tables.specs.Changes.{NoneFree}
-use Rattle.cfb_alloc.specs.Frame.{IsFixedHeaderByte}
-use Rattle.cfb_mini_sectors.specs.State.{bytes_of, cases_of, content_of, entries_of, tables_in, version_of}
-use Rattle.cfb_agreement.specs.Files.{FileState, Holds, IsAsMade, failures_of, is_failed}
-use Rattle.cfb_copies.specs.Steps.{IsCopyable, LeadTo}
+use Rattle.cfb_copies.specs.cfb_tables.Changes.{NoneFree}
+use Rattle.cfb_copies.specs.cfb_alloc.Frame.{IsFixedHeaderByte}
+use Rattle.cfb_copies.specs.cfb_mini_sectors.State.{bytes_of, cases_of, content_of, entries_of, tables_in, version_of}
+use Rattle.cfb_copies.specs.cfb_agreement.Files.{FileState, Holds, IsAsMade, failures_of, is_failed}
+use Rattle.cfb_copies.specs.Steps.{IsCopyable, LeadToEntry}
 
 -- ---- what is copied
 
@@ -42,7 +42,7 @@ parts_in_file file o = parts_of (entries_of file.base) (content_of file.base) o
 
 -- the first of these parts stand in the target, each at its names, at the entries of these numbers
 abbrev pub AreNumbered : FileState → List Part → List ℕ → Type 0
-AreNumbered target parts numbers = (j : ℕ) → j < length numbers → LeadTo target (names_of (part_at parts j)) (slice_index_or numbers j 0)
+AreNumbered target parts numbers = (j : ℕ) → j < length numbers → LeadToEntry target (names_of (part_at parts j)) (slice_index_or numbers j 0)
 
 -- the target's bytes mean a tree to which these parts can be added, and then it is the goal
 pub record IsOnTheWay (target : FileState) (parts : List Part) (goal : Tree) : Type 0 where

@@ -12,18 +12,18 @@ use Rattle.cfb_format.specs.Reading.{IsOutline, Outline}
 use Rattle.cfb_format.specs.Refused.{HasReason, at_every_error}
 use Rattle.cfb_format.specs.Siblings.{entry_at}
 use Rattle.cfb_format.specs.Tree.{Tree}
-use Rattle.cfb_rules.specs.CallChanges.{fields_changed_at, same_storage, same_stream, storage_added_at, stream_added_at}
-use Rattle.cfb_rules.specs.Finding.{last_name, parent_names}
+use Rattle.cfb_copies.specs.cfb_rules.CallChanges.{fields_changed_at, same_storage, same_stream, storage_added_at, stream_added_at}
+use Rattle.cfb_copies.specs.cfb_rules.Finding.{last_name, parent_names}
 use Rattle.cfb_built.specs.Copied.{Part, names_of, storage_part, stream_part}
 use Rattle.cfb_siblings.specs.Children.{HasChildren, IsAbsent}
 use Rattle.cfb_siblings.specs.Paths.{HasOutline, number_from}
-use Rattle.cfb_tables.specs.Changes.{NoneFree}
-use Rattle.cfb_trees.specs.Reached.{IsObject, IsReached}
-use Rattle.cfb_entries.specs.declared.fields.Fields.{Fields}
-use Rattle.cfb_mini_sectors.specs.State.{cases_of, entries_of, tables_in, version_of}
-use Rattle.cfb_content.specs.Contents.{IsStreamOf, KeepsFixedHeader, KeepsOthers, MovesContent, len_of}
-use Rattle.cfb_entry_changes.specs.Kept.{KeepsFound}
-use Rattle.cfb_agreement.specs.Files.{FileState, Holds, IsAsBefore, IsAsMade, SameSetting, failures_of, is_failed}
+use Rattle.cfb_copies.specs.cfb_tables.Changes.{NoneFree}
+use Rattle.cfb_copies.specs.cfb_trees.Reached.{IsObject, IsReached}
+use Rattle.cfb_copies.specs.cfb_entries.declared.fields.Fields.{Fields}
+use Rattle.cfb_copies.specs.cfb_mini_sectors.State.{cases_of, entries_of, tables_in, version_of}
+use Rattle.cfb_copies.specs.cfb_content.Contents.{IsStreamOf, KeepsFixedHeader, KeepsOthers, MovesContent, len_of}
+use Rattle.cfb_copies.specs.cfb_entry_changes.Kept.{KeepsFound}
+use Rattle.cfb_copies.specs.cfb_agreement.Files.{FileState, Holds, IsAsBefore, IsAsMade, SameSetting, failures_of, is_failed}
 
 -- ---- the source
 
@@ -110,8 +110,8 @@ abbrev pub IsReachedIn : FileState → ℕ → Type 0
 IsReachedIn file entry = (o : Outline) → IsOutline (cases_of file.base) (entries_of file.base) o → IsReached o entry
 
 -- the names lead to the entry
-abbrev pub LeadTo : FileState → List (List ℕ) → ℕ → Type 0
-LeadTo file names entry = (o : Outline) → IsOutline (cases_of file.base) (entries_of file.base) o
+abbrev pub LeadToEntry : FileState → List (List ℕ) → ℕ → Type 0
+LeadToEntry file names entry = (o : Outline) → IsOutline (cases_of file.base) (entries_of file.base) o
     → number_from (cases_of file.base) (entries_of file.base) 0 o names ≡ Some entry
 
 -- of what a change may set, an object like this one has: a stream its bits, and any other all that tells nothing of content
@@ -142,5 +142,5 @@ pub record IsPart (content : Entry → List ℕ) (e : Entry) (part : Part) : Typ
 -- the object n of the target is new, and stands at each names whose last one is this behind those of `parent`
 pub record IsNewIn (old new : FileState) (parent n : ℕ) (name : List ℕ) : Type 0 where
   pub reached : IsReachedIn new n
-  pub found : (first : List ℕ) (names : List (List ℕ)) → LeadTo old (parent_names (first ∷ names)) parent → last_name (first ∷ names) ≡ name
-      → LeadTo new (first ∷ names) n
+  pub found : (first : List ℕ) (names : List (List ℕ)) → LeadToEntry old (parent_names (first ∷ names)) parent → last_name (first ∷ names) ≡ name
+      → LeadToEntry new (first ∷ names) n

@@ -7,8 +7,8 @@ ghost use Rattle.cfb_format.specs.Reading.{IsOutline, Outline};
 ghost use Rattle.cfb_format.specs.Refused.{IsBreak};
 ghost use Rattle.cfb_format.specs.Tree.{Tree};
 ghost use Rattle.cfb_built.specs.Copied.{parts_copied};
-ghost use Rattle.cfb_mini_sectors.specs.State.{bytes_of, cases_of, entries_of, version_of};
-ghost use Rattle.cfb_agreement.specs.Files.{Agrees, Holds, failures_of, is_failed};
+ghost use Rattle.cfb_copies.specs.cfb_mini_sectors.State.{bytes_of, cases_of, entries_of, version_of};
+ghost use Rattle.cfb_copies.specs.cfb_agreement.Files.{Agrees, Holds, failures_of, is_failed};
 ghost use Rattle.cfb_copies.specs.Copies.{AreCopyable, AreReadable, AreReady, CanBeCopied, CopyRefused, HasNoObjects, IsMadeCopy, IsNotPrepared, ListsObjects, MeansTheSame, RefusesUnless, TakesAfter, error_counted, parts_in_file};
 ghost use Rattle.cfb_copies.specs.Steps.{CountsEither, GivesFault, GrowsTree, IsNoFault, IsReadOnly};
 

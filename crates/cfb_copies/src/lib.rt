@@ -5,3 +5,7 @@ mod checking;
 pub mod copying;
 mod parts;
 mod pieces;
+
+// What crates above name of those below.
+pub use cfb_creating::creating::create_file;
+pub use cfb_volume::volume::Volume;

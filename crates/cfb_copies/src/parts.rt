@@ -5,18 +5,18 @@ ghost use Rattle.cfb_format.specs.DirectoryEntry.{Entry};
 ghost use Rattle.cfb_format.specs.Refused.{IsBreak};
 ghost use Rattle.cfb_format.specs.Siblings.{entry_at};
 ghost use Rattle.cfb_codecs.specs.EntryModel.{entries_of as entries_in, entry_of};
-ghost use Rattle.cfb_rules.specs.Finding.{last_name, parent_names};
+ghost use Rattle.cfb_copies.specs.cfb_rules.Finding.{last_name, parent_names};
 ghost use Rattle.cfb_built.specs.Copied.{Part, names_of, part_copied};
-ghost use Rattle.cfb_objects.specs.Laws.{BecomesTree};
-ghost use Rattle.cfb_mini_sectors.specs.State.{bytes_of, cases_of, content_of, entries_of, version_of};
-ghost use Rattle.cfb_agreement.specs.Files.{Holds, SameSetting, failures_of, is_failed};
+ghost use Rattle.cfb_copies.specs.cfb_objects.Laws.{BecomesTree};
+ghost use Rattle.cfb_copies.specs.cfb_mini_sectors.State.{bytes_of, cases_of, content_of, entries_of, version_of};
+ghost use Rattle.cfb_copies.specs.cfb_agreement.Files.{Holds, SameSetting, failures_of, is_failed};
 ghost use Rattle.cfb_places.specs.Laws.{IsWholeAt};
-ghost use Rattle.cfb_copies.specs.Steps.{CanBeLike, CountsEither, GivesFault, GrowsTree, IsCopyable, IsLikeIn, IsNewIn, IsPart, IsReachedIn, IsReadOnly, LeadTo, TakesName, fields_like, like_added};
+ghost use Rattle.cfb_copies.specs.Steps.{CanBeLike, CountsEither, GivesFault, GrowsTree, IsCopyable, IsLikeIn, IsNewIn, IsPart, IsReachedIn, IsReadOnly, LeadToEntry, TakesName, fields_like, like_added};
 
 use crate::checking::{kind_of, listed_entry, name_of};
 use crate::pieces::copy_bytes;
 use cfb_codecs::direntry::DirEntry;
-use cfb_entries::fields::Fields;
+use cfb_creating::Fields;
 use cfb_format::error::{Detail, Error};
 use cfb_format::medium::{Medium, ReadMedium};
 use cfb_format::objtype::ObjType;
@@ -78,7 +78,7 @@ fn insert_like<W: Medium, A: Heap + Clone>(
         (IsLikeIn (entry_at (entries_in entries.now) entry) target.new) }
     ensures tree { IsTrue W.tells → Holds target.old → OnOk result
         ((first : List ℕ) (names : List (List ℕ))
-        → LeadTo target.old (parent_names (first ∷ names)) parent
+        → LeadToEntry target.old (parent_names (first ∷ names)) parent
         → last_name (first ∷ names) ≡ (entry_at (entries_in entries.now) entry).name
         → BecomesTree (cases_of target.old.base) (bytes_of target.old.base)
         (bytes_of target.new.base) (like_added (cases_of target.old.base)
@@ -131,7 +131,7 @@ pub(crate) fn copy_object<F: ReadMedium, W: Medium, A: Heap + Clone>(
         → IsWholeAt (entries_of source.old.base) (content_of source.old.base) entry
         → OnOk result ((part : Part)
         → IsPart (content_of source.old.base) (entry_at (entries_of source.old.base) entry) part
-        → LeadTo target.old (parent_names (names_of part)) parent
+        → LeadToEntry target.old (parent_names (names_of part)) parent
         → BecomesTree (cases_of target.old.base) (bytes_of target.old.base) (bytes_of target.new.base)
         (part_copied (cases_of target.old.base) part)) }
     ensures err { IsTrue F.tells → IsTrue W.tells → Holds source.old → Holds target.old

@@ -6,8 +6,8 @@ use Rattle.cfb_format.specs.Bytes.{end_of_chain, fat_sector, free_sector}
 use Rattle.cfb_format.specs.Chain.{value}
 use Rattle.cfb_format.specs.Created.{created_reading}
 use Rattle.cfb_format.specs.Soundness.{large_streams, mini_stream_sectors, sectors_of}
-use Rattle.cfb_tables.proofs.Members.{Contains-here, Contains-there}
 use Rattle.cfb_copy_sizes.specs.Growth.{CreatedIsTight}
+use Rattle.cfb_format.proofs.Members.{Contains-here, Contains-there}
 
 both_used : (i : ℕ) → value (fat_sector ∷ end_of_chain ∷ []) i ≢ free_sector → Contains (0 ∷ 1 ∷ []) i
 both_used zero ne = Contains-here 0 (1 ∷ [])

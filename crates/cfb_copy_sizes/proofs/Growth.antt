@@ -14,9 +14,9 @@ use Rattle.cfb_format.specs.Soundness.{large_streams, mini_stream_sectors, secto
 use Rattle.cfb_tables.specs.Changes.{ListsFree}
 use Rattle.cfb_tables.specs.Owners.{AllUsed}
 use Rattle.cfb_tables.proofs.FreeLemmas.{lists-count, lists-more, lists-none, lists-skip}
-use Rattle.cfb_tables.proofs.Members.{Contains-cases, Contains-nil}
 use Rattle.cfb_copy_sizes.specs.Growth.{AllAreCounted, LessIsNotTooMuch, NeededCanBeTaken, others_in}
 use Rattle.cfb_copy_sizes.specs.Needs.{sectors_needed}
+use Rattle.cfb_format.proofs.Members.{Contains-cases, Contains-nil}
 
 -- ---- a count of all sectors
 

@@ -15,7 +15,7 @@ abbrev pub others_in : Reading → ℕ
 others_in r = length r.directory + length r.minifat_sectors + length (mini_stream_sectors r) + length (flat_map (sectors_of r) (large_streams r))
 
 -- the file has its tables, what is free, and no sector, mini sector or slot more than its tree needs
-pub record IsTight (r : Reading) : Type 0 where
+pub record HasNothingToSpare (r : Reading) : Type 0 where
   pub exact : HasExactTables r
   pub used : AllUsed r.fat (used_sectors r)
   pub short : length r.fat ≤ max_regular_sector
@@ -30,7 +30,7 @@ pub record IsTight (r : Reading) : Type 0 where
 
 -- so is a file that was just made
 abbrev pub CreatedIsTight : Type 0
-CreatedIsTight = (version : Version) → IsTight (created_reading version)
+CreatedIsTight = (version : Version) → HasNothingToSpare (created_reading version)
 
 -- what needs less than something for which there is room has room
 abbrev pub LessIsNotTooMuch : Type 0
@@ -49,14 +49,14 @@ NeededCanBeTaken = (r : Reading) (needed given_back wanted : ℕ) → HasExactTa
 
 -- in a tight file whose slots are all objects of its tree there is room for one more object that a tree that is not too large has
 abbrev pub EntryCanBeHad : Type 0
-EntryCanBeHad = (r : Reading) (sectors mini_sectors objects : ℕ) → IsTight r → (IsTooMuch r.header.version max_regular_sector sectors mini_sectors objects → ⊥)
+EntryCanBeHad = (r : Reading) (sectors mini_sectors objects : ℕ) → HasNothingToSpare r → (IsTooMuch r.header.version max_regular_sector sectors mini_sectors objects → ⊥)
     → sectors_listed r.header.version r.entries (numbers r.outline) ≤ sectors → mini_sectors_listed r.entries (numbers r.outline) ≤ mini_sectors
     → length (numbers r.outline) + 1 ≤ objects → length r.entries ≤ 1 + length (numbers r.outline)
     → (length r.entries + entries_per_sector r.header.version ≤ max_entries) × CanTake max_regular_sector r 0 1
 
 -- and for the content of a stream, once all that such a tree has is counted
 abbrev pub ContentCanBeHad : Type 0
-ContentCanBeHad = (r : Reading) (sectors mini_sectors objects i len : ℕ) → IsTight r → (IsTooMuch r.header.version max_regular_sector sectors mini_sectors objects → ⊥)
+ContentCanBeHad = (r : Reading) (sectors mini_sectors objects i len : ℕ) → HasNothingToSpare r → (IsTooMuch r.header.version max_regular_sector sectors mini_sectors objects → ⊥)
     → sectors_listed r.header.version r.entries (numbers r.outline) + sectors_for r.header.version len ≤ sectors
     → mini_sectors_listed r.entries (numbers r.outline) + mini_sectors_for len ≤ mini_sectors → length (numbers r.outline) ≤ objects
     → (minifat_len_for r i len ≤ max_mini_sectors r.header.version) × CanTake max_regular_sector r (given_back_for r i len) (wanted_for r i len)

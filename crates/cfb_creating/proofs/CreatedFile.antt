@@ -16,20 +16,21 @@ use Rattle.cfb_format.specs.Reading.{IsOutline, IsStrict, Outline, no_more, stre
 use Rattle.cfb_format.specs.Siblings.{entry_at}
 use Rattle.cfb_format.specs.Soundness.{IsSound, used_sectors}
 use Rattle.cfb_format.proofs.CreatedFacts.{exact, reads, sound, strict, three_sectors}
-use Rattle.cfb_tables.specs.Owners.{AllUsed}
-use Rattle.cfb_tables.specs.Tables.{AreExactTables}
-use Rattle.cfb_tables.proofs.Members.{Contains-nil}
-use Rattle.cfb_trees.specs.Balance.{AreBalanced}
-use Rattle.cfb_objects.proofs.Balance.{nothing-hangs}
-use Rattle.cfb_directory.specs.State.{AreWritable}
+use Rattle.cfb_creating.specs.cfb_tables.Owners.{AllUsed}
+use Rattle.cfb_creating.specs.cfb_tables.Tables.{AreExactTables}
+use Rattle.cfb_creating.specs.cfb_trees.Balance.{AreBalanced}
+use Rattle.cfb_creating.proofs.cfb_objects.Balance.{nothing-hangs}
+use Rattle.cfb_creating.specs.cfb_directory.State.{AreWritable}
 use Rattle.cfb_mini_sectors.specs.Held.{with_table}
 use Rattle.cfb_mini_sectors.specs.Laws.{SoundMiniIsHeld}
 use Rattle.cfb_mini_sectors.specs.State.{HoldsMini, IsChangeable, MiniState, reading_of, table_of, tables_in}
 use Rattle.cfb_mini_sectors.specs.Steps.{IsSnugMini}
-use Rattle.cfb_content.specs.Contents.{parts_with}
+use Rattle.cfb_creating.specs.cfb_content.Contents.{parts_with}
 use Rattle.cfb_agreement.specs.Files.{Holds, IsAsMade}
-use Rattle.cfb_creating.proofs.Parts.{created_sizes, unused_at}
+use Rattle.cfb_creating.proofs.Parts.{created_sizes}
 use Rattle.cfb_creating.specs.State.{created_state, created_tables, created_fat}
+use Rattle.cfb_format.proofs.Members.{Contains-nil}
+use Rattle.cfb_creating.proofs.cfb_siblings.Grown.{past-is-unallocated}
 
 -- ---- the entries
 
@@ -67,7 +68,7 @@ root_valid v = record {
 
 writable : (v : Version) → AreWritable v (created_reading v).entries
 writable v zero few used = (root_fits, root_valid v)
-writable v (suc k) few used = absurd (used (ap (λ (e : Entry). e.obj_type) (unused_at (entries_per_sector v - 1) k)))
+writable v (suc k) few used = absurd (used (ap (λ (e : Entry). e.obj_type) (past-is-unallocated (entries_per_sector v - 1) k)))
 
 -- the root has no child
 balanced : (v : Version) → AreBalanced (created_reading v).entries no_more

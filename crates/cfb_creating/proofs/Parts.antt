@@ -19,16 +19,17 @@ use Rattle.cfb_format.specs.Siblings.{entry_at}
 use Rattle.cfb_format.proofs.CreatedFacts.{reads}
 use Rattle.cfb_format.proofs.Unique.{IsChain-unique}
 use Rattle.cfb_sectors.specs.Sectors.{SectorFile, sectors_in_file}
-use Rattle.cfb_tables.specs.ReadFat.{AcceptsFat, AcceptsNoFat}
-use Rattle.cfb_tables.specs.Tables.{AreSizes, sizes_of}
+use Rattle.cfb_creating.specs.cfb_tables.ReadFat.{AcceptsFat, AcceptsNoFat}
+use Rattle.cfb_creating.specs.cfb_tables.Tables.{AreSizes, sizes_of}
 use Rattle.cfb_alloc.specs.Alloc.{AllocatorState, AreListed}
-use Rattle.cfb_outline.specs.Outlines.{AcceptsOutline}
-use Rattle.cfb_entries.specs.EntryList.{HaveShortNames}
-use Rattle.cfb_directory.specs.State.{DirectoryState}
-use Rattle.cfb_mini_table.specs.MiniTable.{AcceptsMini, read_entries}
-use Rattle.cfb_mini.specs.Changing.{AreMinifatSectors, root_len_in}
+use Rattle.cfb_creating.specs.cfb_outline.Outlines.{AcceptsOutline}
+use Rattle.cfb_creating.specs.cfb_entries.EntryList.{HaveShortNames}
+use Rattle.cfb_creating.specs.cfb_directory.State.{DirectoryState}
+use Rattle.cfb_creating.specs.cfb_mini_table.MiniTable.{AcceptsMini, read_entries}
+use Rattle.cfb_creating.specs.cfb_mini.Changing.{AreMinifatSectors, root_len_in}
 use Rattle.cfb_mini_sectors.specs.State.{MiniState, parts_of, tables_in}
 use Rattle.cfb_creating.specs.State.{created_directory, created_fat, created_sectors, created_state, created_tables, without_mini_sectors}
+use Rattle.cfb_creating.proofs.cfb_siblings.Grown.{past-is-unallocated}
 
 -- ---- the tables
 
@@ -86,15 +87,9 @@ sectors_are v len bytes failures file three is =
 
 -- ---- the directory
 
--- behind the root no entry is used
-pub unused_at : (n k : ℕ) → entry_at (replicate n unallocated_entry) k ≡ unallocated_entry
-unused_at zero k = refl
-unused_at (suc n) zero = refl
-unused_at (suc n) (suc k) = unused_at n k
-
 short_names : (v : Version) → HaveShortNames (created_reading v).entries
 short_names v zero few = lit≤ tt
-short_names v (suc k) few = rw (unused_at (entries_per_sector v - 1) k) (lit≤ tt)
+short_names v (suc k) few = rw (past-is-unallocated (entries_per_sector v - 1) k) (lit≤ tt)
 
 one_sector : (v : Version) → entries_per_sector v ≡ 1 * entries_per_sector v
 one_sector V3 = refl

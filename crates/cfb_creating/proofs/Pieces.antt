@@ -11,6 +11,7 @@ use Rattle.cfb_format.specs.Medium.{part, written}
 use Rattle.std.proofs.Math.Seq.{take-add}
 use Rattle.cfb_format.proofs.ByteLemmas.{written_inside}
 use Rattle.cfb_format.specs.Created.{created_bytes, created_header}
+use Rattle.cfb_format.proofs.CreatedFacts.{three_sectors}
 
 -- a list whose first m elements were put over a filled one
 pub put_over_filled : (bytes old new : List ℕ) (n end m x : ℕ) → end ≡ m → take end new ≡ bytes → drop end new ≡ drop end old → old ≡ replicate n x
@@ -55,11 +56,6 @@ module _ (version : Version) (piece n : ℕ) where
   pub is_directory_piece : piece ≡ 2 → Piece (entry_bytes empty_root_entry ++ repeat (entries_per_sector version - 1) (entry_bytes unallocated_entry))
   is_directory_piece e = directory_piece version ∙ ap (λ at. part (created_bytes version) at (sector_len version)) (sym (ap (λ p. p * sector_len version) e))
 
-pub length-created : (version : Version) → length (created_bytes version) ≡ 3 * sector_len version
-unfolding created_bytes header_bytes word_bytes unit_bytes entry_bytes
-length-created V3 = refl
-length-created V4 = refl
-
 -- one unallocated entry more
 pub repeat-more : (n : ℕ) (xs : List ℕ) → repeat (n + 1) xs ≡ repeat n xs ++ xs
 repeat-more n xs = ap (λ k. repeat k xs) (let e : n + 1 ≡ suc n = omega arith in e) ∙ turned n
@@ -83,9 +79,9 @@ written_behind whole bytes piece at n before within is =
 
 -- pieces lie within the created file
 pub piece_within : (version : Version) (piece : ℕ) → piece ≤ 3 → piece * sector_len version ≤ length (created_bytes version)
-piece_within V3 piece few = omega (arith, length-created V3)
-piece_within V4 piece few = omega (arith, length-created V4)
+piece_within V3 piece few = omega (arith, three_sectors V3)
+piece_within V4 piece few = omega (arith, three_sectors V4)
 
 pub all_pieces : (version : Version) (piece : ℕ) → 3 ≤ piece → length (created_bytes version) ≤ piece * sector_len version
-all_pieces V3 piece all = omega (arith, length-created V3)
-all_pieces V4 piece all = omega (arith, length-created V4)
+all_pieces V3 piece all = omega (arith, three_sectors V3)
+all_pieces V4 piece all = omega (arith, three_sectors V4)

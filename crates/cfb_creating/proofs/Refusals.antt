@@ -3,7 +3,7 @@ use Rattle.std.specs.Prelude.{Result, Ok, Err, IfErr, IfOk, refl}
 use Rattle.cfb_format.specs.declared.error.Error.{Error}
 use Rattle.cfb_format.specs.declared.error.Error.TheVariants.{NotFound, AlreadyExists, InvalidInput, InvalidData, Medium, Memory, Full, Unsound, Failed}
 use Rattle.cfb_format.specs.Refused.{IsMemory}
-use Rattle.cfb_tables.specs.Refused.{TableRefused}
+use Rattle.cfb_creating.specs.cfb_tables.Refused.{TableRefused}
 
 -- memory is, where the data are right
 only_memory : (P M : Type 0) → (P → ⊥) → (e : Error) → TableRefused P M ⊥ e → IsMemory e

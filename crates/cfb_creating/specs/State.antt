@@ -6,9 +6,9 @@ use Rattle.cfb_format.specs.Created.{created_reading}
 use Rattle.cfb_format.specs.Full.{max_mini_sectors}
 use Rattle.cfb_format.specs.Names.{Cases}
 use Rattle.cfb_sectors.specs.Sectors.{SectorFile}
-use Rattle.cfb_tables.specs.Tables.{TableState, tables_of}
+use Rattle.cfb_creating.specs.cfb_tables.Tables.{TableState, tables_of}
 use Rattle.cfb_alloc.specs.Alloc.{AllocatorState}
-use Rattle.cfb_directory.specs.State.{DirectoryState}
+use Rattle.cfb_creating.specs.cfb_directory.State.{DirectoryState}
 use Rattle.cfb_mini_sectors.specs.State.{MiniState}
 
 -- the words of its FAT's sector for the sectors that it has

@@ -8,12 +8,12 @@ ghost use Rattle.cfb_agreement.specs.Files.{Holds, IsAsMade};
 
 use crate::created::{EmptySlots, write_created};
 use crate::kept::keep_file;
+use cfb_agreement::MiniAllocator;
 use cfb_codecs::path::CaseMapper;
 use cfb_format::error::Error;
 use cfb_format::laws;
 use cfb_format::medium::Medium;
 use cfb_format::version::Version;
-use cfb_mini::mini_allocator::MiniAllocator;
 use cfb_mini_sectors::laws as mini_laws;
 use std::alloc::Allocator as Heap;
 

@@ -8,18 +8,17 @@ ghost use Rattle.cfb_format.specs.Siblings.{entry_at};
 ghost use Rattle.cfb_creating.specs.State.{created_directory, created_fat, created_state, created_tables, without_mini_sectors};
 
 use crate::created::PIECES;
+use cfb_agreement::MiniAllocator;
 use cfb_alloc::alloc::Allocator;
 use cfb_codecs::direntry::DirEntry;
 use cfb_codecs::path::CaseMapper;
-use cfb_directory::directory::Directory;
-use cfb_entries::fresh::fresh_entries;
 use cfb_format::consts::{END_OF_CHAIN, FAT_SECTOR, FREE_SECTOR};
 use cfb_format::error::Error;
 use cfb_format::laws;
 use cfb_format::medium::ReadMedium;
 use cfb_format::validate::Validation;
 use cfb_format::version::Version;
-use cfb_mini::mini_allocator::MiniAllocator;
+use cfb_mini_sectors::{Directory, fresh_entries};
 use cfb_sectors::sector::Sectors;
 use std::alloc::Allocator as Heap;
 

@@ -4,3 +4,6 @@
 mod created;
 pub mod creating;
 mod kept;
+
+// What crates above name of those below.
+pub use cfb_mini_sectors::Fields;

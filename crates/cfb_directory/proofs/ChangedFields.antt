@@ -5,10 +5,10 @@ use Rattle.std.proofs.lemmas.Bool.{cases_eq}
 use Rattle.cfb_format.specs.declared.version.Version.{Version}
 use Rattle.cfb_format.specs.DirectoryEntry.{Entry, EntryFits, IsValidEntry, unallocated_entry}
 use Rattle.cfb_format.specs.Siblings.{entry_at}
-use Rattle.cfb_tables.proofs.Members.{Contains-here}
 use Rattle.cfb_entries.specs.declared.fields.Fields.{Fields}
 use Rattle.cfb_entries.specs.Fields.{entry_with_fields, entries_with_fields}
 use Rattle.cfb_directory.specs.State.{AreWritable}
+use Rattle.cfb_format.proofs.Members.{Contains-here}
 
 module _ (entries : List Entry) (n : ℕ) (f : Fields) where
   pub changed_here : n < length entries → entry_at (entries_with_fields entries n f) n ≡ entry_with_fields (entry_at entries n) f

@@ -9,13 +9,13 @@ use Rattle.cfb_format.specs.DirectoryEntry.{Entry, EntryFits, IsValidEntry}
 use Rattle.cfb_format.specs.Names.{Cases}
 use Rattle.cfb_format.specs.Reading.{Outline, numbers}
 use Rattle.cfb_format.specs.Siblings.{entry_at}
-use Rattle.cfb_outline.specs.Outlines.{HasInside, IsReachedStorage}
-use Rattle.cfb_tables.proofs.Members.{Contains-cases, Contains-here, Contains-or, Contains-there}
-use Rattle.cfb_trees.proofs.Members.{reached-is-within}
+use Rattle.cfb_directory.specs.cfb_outline.Outlines.{HasInside, IsReachedStorage}
+use Rattle.cfb_directory.proofs.cfb_trees.Members.{reached-is-within}
 use Rattle.cfb_entries.specs.Clearing.{HasCleared}
 use Rattle.cfb_entries.proofs.Cleared.{inside-within, stands-inside}
 use Rattle.cfb_directory.specs.State.{AreWritable}
 use Rattle.cfb_directory.proofs.RemovedEntries.{other_child, unallocated_valid, used_inside}
+use Rattle.cfb_format.proofs.Members.{Contains-cases, Contains-here, Contains-or, Contains-there}
 
 module _ (v : Version) (old new : List Entry) (top : ℕ) (list : List ℕ) (h : HasCleared old new top list) (writable : AreWritable v old)
     (kind : (entry_at old top).obj_type ≢ Stream) where

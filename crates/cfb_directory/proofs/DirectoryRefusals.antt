@@ -5,7 +5,7 @@ use Rattle.cfb_format.specs.declared.error.Error.{Error}
 use Rattle.cfb_format.specs.declared.error.Error.TheVariants.{NotFound, AlreadyExists, InvalidInput, InvalidData, Medium, Memory, Full, Unsound, Failed}
 use Rattle.cfb_format.specs.Refused.{HasReason, IsInvalidOrMemory, AfterMedium, CountsError, no_error}
 use Rattle.cfb_sectors.specs.Sectors.{IsMediumError}
-use Rattle.cfb_tables.specs.Refused.{TableRefused, ChangeRefused}
+use Rattle.cfb_directory.specs.cfb_tables.Refused.{TableRefused, ChangeRefused}
 
 -- a chain that is refused
 pub walk_invalid : (P Q : Type 0) → (P → Q) → (e : Error) → TableRefused P Unit ⊥ e → IsInvalidOrMemory Q e

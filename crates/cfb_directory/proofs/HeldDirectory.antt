@@ -13,21 +13,21 @@ use Rattle.cfb_format.specs.DirectoryEntry.{IsStrictEntry, slots}
 use Rattle.cfb_format.specs.Header.{IfStrict, IsStrictHeader, dir_sectors_of}
 use Rattle.cfb_format.specs.Reading.{IsStrictCount}
 use Rattle.cfb_format.proofs.Unique.{IsHeader-unique}
-use Rattle.cfb_tables.specs.Changes.{AreDisjoint}
-use Rattle.cfb_tables.specs.Tables.{first_or_end}
+use Rattle.cfb_directory.specs.cfb_tables.Changes.{AreDisjoint}
+use Rattle.cfb_directory.specs.cfb_tables.Tables.{first_or_end}
 use Rattle.cfb_alloc.specs.Agreement.{HasSectors}
 use Rattle.cfb_alloc.specs.Frame.{table_sectors}
 use Rattle.cfb_alloc.proofs.AgreementLemmas.{every}
 use Rattle.cfb_alloc.proofs.Frames.{other-chains-spared}
-use Rattle.cfb_directory.specs.Slots.{HoldSlotsBut}
+use Rattle.cfb_slots.specs.Slots.{HoldSlotsBut}
 use Rattle.cfb_directory.specs.State.{AreWritable, directory_bytes, directory_tables, directory_version}
 use Rattle.cfb_directory.specs.HeldLaws.{DirectoryStaysHeld, HeldDirectoryIsRead, HeldDirectoryIsStrict}
 use Rattle.cfb_directory.proofs.Placed.{held_no_tables}
 use Rattle.cfb_directory.proofs.Rewritten.{strict_header_stays}
-use Rattle.cfb_directory.proofs.SlotLists.{by-place}
-use Rattle.cfb_directory.proofs.SlotWrites.{slots-stay}
+use Rattle.cfb_slots.proofs.SlotLists.{by-place}
+use Rattle.cfb_slots.proofs.SlotWrites.{slots-stay}
 
-all_whole : (v : Version) (bytes list : List ℕ) → HasSectors v bytes list → list_all (is_whole_sector v bytes) list ≡ true
+pub all_whole : (v : Version) (bytes list : List ℕ) → HasSectors v bytes list → list_all (is_whole_sector v bytes) list ≡ true
 all_whole v bytes list whole = every (is_whole_sector v bytes) list
     (λ i lt. le-leb (sector_start v (slice_index list i) + sector_len v) (length bytes) (whole (slice_index list i) (Contains-get_or list i 0 lt)))
 

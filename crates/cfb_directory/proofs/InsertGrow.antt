@@ -23,32 +23,31 @@ use Rattle.cfb_sectors.specs.Sectors.{IsMediumError}
 use Rattle.cfb_sectors.specs.Words.{RangeStays}
 use Rattle.cfb_sectors.proofs.SectorLemmas.{SectorStays_next, after_header}
 use Rattle.cfb_sectors.proofs.WordLemmas.{word_stays}
-use Rattle.cfb_tables.specs.Listed.{ends_of, gained, last_or_end}
-use Rattle.cfb_tables.specs.Tables.{TableState, AreSizes, ending, first_or_end, sizes_of}
-use Rattle.cfb_tables.proofs.ChainLemmas.{members-busy}
-use Rattle.cfb_tables.proofs.ListedLemmas.{ending_other, last_is}
-use Rattle.cfb_tables.proofs.Members.{Contains-one}
+use Rattle.cfb_directory.specs.cfb_tables.Listed.{ends_of, gained, last_or_end}
+use Rattle.cfb_directory.specs.cfb_tables.Tables.{TableState, AreSizes, ending, first_or_end, sizes_of}
+use Rattle.cfb_directory.proofs.cfb_tables.ChainLemmas.{members-busy}
+use Rattle.cfb_directory.proofs.cfb_tables.ListedLemmas.{ending_other, last_is}
 use Rattle.cfb_alloc.specs.Agreement.{HasSectors, KeepsSectors}
 use Rattle.cfb_format.specs.declared.error.Error.{Error}
 use Rattle.cfb_format.specs.declared.error.Error.TheVariants.{NotFound, AlreadyExists, InvalidInput, InvalidData, Medium, Memory, Full, Unsound, Failed}
-use Rattle.cfb_alloc.specs.Alloc.{AllocatorState, HoldsTables, IsFilled, IsOtherHeaderByte, IsUsable, OthersStay}
+use Rattle.cfb_alloc.specs.Alloc.{AllocatorState, HoldsTables, IsAsFilled, IsOtherHeaderByte, IsUsable, OthersStay}
 use Rattle.cfb_alloc.specs.Frame.{Spares}
 use Rattle.cfb_alloc.specs.ListedChain.{Lengthens}
 use Rattle.cfb_alloc.proofs.Frames.{spares-less, spares-then}
 use Rattle.cfb_alloc.proofs.HeldOrder.{held-usable, members-no_table}
-use Rattle.cfb_alloc.proofs.Listed.{not_in_nil}
-use Rattle.cfb_siblings.specs.Laws.{grown_by}
-use Rattle.cfb_siblings.proofs.Grown.{entry-stays}
+use Rattle.cfb_directory.specs.cfb_siblings.Laws.{grown_by}
+use Rattle.cfb_directory.proofs.cfb_siblings.Grown.{entry-stays}
 use Rattle.cfb_format.specs.Full.{max_entries}
 use Rattle.cfb_entries.specs.EntryList.{EntryList}
 use Rattle.cfb_directory.specs.Steps.{IsDirectoryNotHeld}
 use Rattle.cfb_directory.specs.Growing.{ArePlaced, AreSectorsOf, IsListedChain, KeepsBounds}
-use Rattle.cfb_directory.specs.Slots.{HavePlaces, HoldSlotsBut, slot_of}
+use Rattle.cfb_slots.specs.Slots.{HavePlaces, HoldSlotsBut, slot_of}
 use Rattle.cfb_directory.specs.State.{AreWritable, DirectoryState, HoldsDirectory, IsKeptHeaderByte, directory_bytes, directory_tables, directory_version}
-use Rattle.cfb_directory.proofs.SlotPlaces.{slot_stays}
-use Rattle.cfb_directory.proofs.SlotWrites.{fresh-held, slots-stay}
+use Rattle.cfb_slots.proofs.SlotPlaces.{slot_stays}
+use Rattle.cfb_slots.proofs.SlotWrites.{fresh-held, slots-stay}
 use Rattle.cfb_directory.proofs.Placed.{header_there}
 use Rattle.cfb_directory.proofs.InsertLinks.{used-inside}
+use Rattle.cfb_format.proofs.Members.{Contains-one, Contains-nil}
 
 -- ---- lists
 
@@ -63,7 +62,7 @@ one-gained before after old new h = let (x, e) = one-of (gained before after) h.
 
 ending-among : (y : ℕ) (list : List ℕ) → (y ≢ end_of_chain → Contains list y) → (i : ℕ) → Contains (ending y) i → Contains list i
 ending-among y list has i m = elim (cases_eq y end_of_chain) [
-  | inl e ↦ let none : Contains (ending end_of_chain) i = subst (λ k. Contains (ending k) i) e m in absurd (not_in_nil i none)
+  | inl e ↦ let none : Contains (ending end_of_chain) i = subst (λ k. Contains (ending k) i) e m in absurd (Contains-nil i none)
   | inr ne ↦ subst (λ k. Contains list k) (Contains-one y i (subst (λ l. Contains l i) (ending_other y ne) m)) (has ne)
 ]
 
@@ -87,7 +86,7 @@ module _ (validation : Validation) (old : DirectoryState) (held : HoldsDirectory
       let busy = (members-busy (directory_tables old).fat (first_or_end old.sectors) old.sectors held.chain i m) in
       let apart = members-no_table validation old.table (first_or_end old.sectors) old.sectors held.tables held.chain i m in
       SectorStays_next (directory_version old) (directory_version old) i (directory_bytes old) b.file.bytes new refl
-      (others.sectors i busy.0 (λ t. elim (Contains-append_cases (directory_tables old).fat_sectors (directory_tables old).difat_sectors i t) [ inl f ↦ apart.0 f | inr d ↦ apart.1 d ]) (not_in_nil i))
+      (others.sectors i busy.0 (λ t. elim (Contains-append_cases (directory_tables old).fat_sectors (directory_tables old).difat_sectors i t) [ inl f ↦ apart.0 f | inr d ↦ apart.1 d ]) (Contains-nil i))
       (after_header (directory_version old) i 40 4 b.file.bytes new change (omega arith))
 
   pub slots-kept : (entries : List Entry) → length entries ≡ length old.sectors * entries_per_sector (directory_version old) → (k : ℕ) → k < length entries
@@ -96,7 +95,7 @@ module _ (validation : Validation) (old : DirectoryState) (held : HoldsDirectory
 
 -- ---- the longer directory is held
 
-filled-stays : (v : Version) (a b : List ℕ) (x : ℕ) → ChangesOnlyBytes 40 4 a b → IsFilled v Dir a x → IsFilled v Dir b x
+filled-stays : (v : Version) (a b : List ℕ) (x : ℕ) → ChangesOnlyBytes 40 4 a b → IsAsFilled v Dir a x → IsAsFilled v Dir b x
 filled-stays v a b x change f = record {
   whole = let w = f.whole in let l = change.no_shorter in omega (arith, w, l);
   filled = part_apart 40 4 (sector_start v x) (sector_len v) a b change f.whole (λ low. behind v x) ∙ f.filled;
@@ -143,7 +142,7 @@ not-empty before x after is none =
 module _ (validation : Validation) (old new : DirectoryState) (b : AllocatorState) (held : HoldsDirectory validation old)
     (lengthened : Lengthens 1 old.sectors new.sectors (directory_tables old) b.tables) (chain : IsListedChain b.tables new.sectors) (bounds : KeepsBounds (directory_tables old) b.tables)
     (sizes : AreSizes b.tables.version (sizes_of b.tables))
-    (filled : (i : ℕ) → Contains (gained old.sectors new.sectors) i → IsFilled b.tables.version Dir b.file.bytes i) (others : OthersStay old.table b)
+    (filled : (i : ℕ) → Contains (gained old.sectors new.sectors) i → IsAsFilled b.tables.version Dir b.file.bytes i) (others : OthersStay old.table b)
     (tables : directory_tables new ≡ b.tables) (same3 : b.tables.version ≡ V3 → new.table ≡ b) (count4 : b.tables.version ≡ V4 → word_at (directory_bytes new) 40 ≡ length new.sectors)
     (holds : HoldsTables validation new.table) (change : ChangesOnlyBytes 40 4 b.file.bytes (directory_bytes new))
     (entries : new.entries ≡ grown_by old.entries (entries_per_sector (directory_version old))) (few : length new.entries ≤ max_entries) where
@@ -159,9 +158,9 @@ module _ (validation : Validation) (old new : DirectoryState) (b : AllocatorStat
   listed : new.sectors ≡ old.sectors ++ x ∷ []
   listed = (one-gained old.sectors new.sectors (directory_tables old) b.tables lengthened).2
 
-  fresh : IsFilled w Dir (directory_bytes new) x
+  fresh : IsAsFilled w Dir (directory_bytes new) x
   fresh = filled-stays w b.file.bytes (directory_bytes new) x change
-      (subst (λ (u : Version). IsFilled u Dir b.file.bytes x) bounds.version
+      (subst (λ (u : Version). IsAsFilled u Dir b.file.bytes x) bounds.version
       (filled x (subst (λ l. Contains l x) (sym (one-gained old.sectors new.sectors (directory_tables old) b.tables lengthened).1) (0, omega arith, refl))))
 
   grown-whole : HasSectors w (directory_bytes new) new.sectors
@@ -238,7 +237,7 @@ few-sectors V3 sectors n count h few = let s = h.slots in omega (arith, s, few)
 few-sectors V4 sectors n count h few = let s = h.slots in omega (arith, s, few)
 
 pub grown-spares : (sectors : List ℕ) (a b e : AllocatorState) → Spares (ends_of sectors) a b → Spares [] b e → Spares sectors a e
-grown-spares sectors a b e first second = spares-then sectors [] a b e (λ i m. absurd (not_in_nil i m)) (spares-less (ends_of sectors) sectors a b (ends-among sectors) first) second
+grown-spares sectors a b e first second = spares-then sectors [] a b e (λ i m. absurd (Contains-nil i m)) (spares-less (ends_of sectors) sectors a b (ends-among sectors) first) second
 
 kept-byte : (v : Version) (a b e : AllocatorState) (i : ℕ) → IsKeptHeaderByte v i → i < length a.file.bytes → length a.file.bytes ≤ length b.file.bytes
     → ((i < 44) ⊎ ((48 ≤ i) × (i < 68)) → slice_index b.file.bytes i ≡ slice_index a.file.bytes i)

@@ -10,24 +10,20 @@ use Rattle.cfb_format.specs.declared.objtype.ObjType.{ObjType}
 use Rattle.cfb_format.specs.declared.objtype.ObjType.TheVariants.{Unallocated, Storage, Stream, Root}
 use Rattle.cfb_format.specs.Bytes.{is_regular, no_stream, stream_len_modulus}
 use Rattle.cfb_format.specs.Names.{Cases, is_valid_name}
-use Rattle.cfb_format.specs.DirectoryEntry.{Entry, EntryFits, IsAllowedChild, IsValidEntry, is_entry_link}
+use Rattle.cfb_format.specs.DirectoryEntry.{Entry, EntryFits, IsValidEntry, is_entry_link}
 use Rattle.cfb_format.specs.Reading.{Outline, no_more, storage_at, stream_at, HasContents, siblings, numbers}
 use Rattle.cfb_format.specs.Siblings.{SiblingTree, leaf, node, HangsAt, in_order, entry_at}
 use Rattle.cfb_codecs.specs.EntryModel.{new_entry}
-use Rattle.cfb_outline.specs.Outlines.{IsReachedStorage}
-use Rattle.cfb_outline.proofs.Insides.{below-same, present, storage-is-inside}
-use Rattle.cfb_tables.proofs.ChainLemmas.{le-regular}
-use Rattle.cfb_tables.proofs.Members.{Contains-cases, Contains-or}
-use Rattle.cfb_siblings.specs.Children.{ButChild, HasChildren, HasInserted}
-use Rattle.cfb_siblings.specs.Way.{unlinked}
+use Rattle.cfb_directory.specs.cfb_outline.Outlines.{IsReachedStorage}
+use Rattle.cfb_directory.proofs.cfb_outline.Insides.{below-same, present, storage-is-inside, first-or-later}
+use Rattle.cfb_directory.specs.cfb_siblings.Children.{ButChild, HasChildren, HasInserted}
+use Rattle.cfb_directory.specs.cfb_siblings.Way.{unlinked}
 use Rattle.cfb_format.specs.Full.{max_entries}
 use Rattle.cfb_entries.specs.EntryList.{InsertsEntry}
 use Rattle.cfb_directory.specs.State.{AreWritable}
-
--- ---- lists
-
-pub first-or-later : (i : ℕ) (xs : List ℕ) (x : ℕ) → Contains (i ∷ xs) x → (x ≡ i) ⊎ Contains xs x
-first-or-later i xs x m = elim (Contains-cases i xs x m) [ inl e ↦ inl (sym e) | inr r ↦ inr r ]
+use Rattle.cfb_format.proofs.Walks.{le-regular}
+use Rattle.cfb_format.proofs.Members.{Contains-or}
+use Rattle.cfb_directory.proofs.RemovedEntries.{allowed_child}
 
 -- ---- which entries are used
 
@@ -49,7 +45,7 @@ listed-used cases es (stream_at i rest) k (t, r) has e = elim (first-or-later i 
   | inr later ↦ listed-used cases es rest k r later e
 ]
 
-siblings-listed : (o : Outline) (k : ℕ) → Contains (siblings o) k → Contains (numbers o) k
+pub siblings-listed : (o : Outline) (k : ℕ) → Contains (siblings o) k → Contains (numbers o) k
 siblings-listed no_more k has = has
 siblings-listed (storage_at i inside rest) k has = elim (first-or-later i (siblings rest) k has) [
   | inl same ↦ (0, omega arith, sym same)
@@ -150,12 +146,6 @@ stands-relinked v es a b few e (left, right) (f, w) = subst (CanStand v) (sym (r
   },
 )
 
-child-allowed : (kind : ObjType) (k : ℕ) → kind ≢ Stream → IsTrue (is_entry_link k) → IsAllowedChild kind k
-child-allowed Unallocated k ne h = h
-child-allowed Storage k ne h = h
-child-allowed Stream k ne h = absurd (ne refl)
-child-allowed Root k ne h = h
-
 stands-parent : (v : Version) (es : List Entry) (a b : Entry) → length es ≤ max_entries → ButChild a b → a.obj_type ≢ Stream → IsLink es b.child → CanStand v a → CanStand v b
 unfolding CanStand
 stands-parent v es a b few e kind link (f, w) = subst (CanStand v) (sym e) (
@@ -175,7 +165,7 @@ stands-parent v es a b few e kind link (f, w) = subst (CanStand v) (sym e) (
     name = w.name;
     left_sibling = w.left_sibling;
     right_sibling = w.right_sibling;
-    child = child-allowed a.obj_type b.child kind (link-allowed es b.child few link);
+    child = allowed_child a.obj_type b.child kind (link-allowed es b.child few link);
     clsid = w.clsid;
     creation_time = w.creation_time;
     modified_time = w.modified_time;

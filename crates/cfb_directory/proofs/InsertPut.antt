@@ -6,18 +6,19 @@ use Rattle.cfb_format.specs.declared.objtype.ObjType.TheVariants.{Unallocated}
 use Rattle.cfb_format.specs.DirectoryEntry.{Entry, EntryFits, IsValidEntry}
 use Rattle.cfb_format.specs.Names.{Cases}
 use Rattle.cfb_format.specs.Siblings.{entry_at}
-use Rattle.cfb_tables.proofs.Members.{Contains-nil}
-use Rattle.cfb_outline.specs.Outlines.{IsReachedStorage}
-use Rattle.cfb_siblings.specs.Children.{HasChildren}
-use Rattle.cfb_siblings.specs.Touched.{Touches, TouchesOnly}
+use Rattle.cfb_directory.specs.cfb_outline.Outlines.{IsReachedStorage}
+use Rattle.cfb_directory.specs.cfb_siblings.Children.{HasChildren}
+use Rattle.cfb_directory.specs.cfb_siblings.Touched.{Touches, TouchesOnly}
 use Rattle.cfb_alloc.specs.Alloc.{AllocatorState, HoldsTables}
 use Rattle.cfb_entries.specs.EntryList.{InsertsEntry}
-use Rattle.cfb_directory.specs.Slots.{ChangesSlots, HoldSlotsBut, slot_of}
+use Rattle.cfb_slots.specs.Slots.{ChangesSlots, HoldSlotsBut, slot_of}
 use Rattle.cfb_directory.specs.State.{DirectoryState, HoldsDirectory, directory_bytes, directory_tables, directory_version}
-use Rattle.cfb_directory.proofs.SlotWrites.{entries-stay}
-use Rattle.cfb_directory.proofs.InsertLinks.{first-or-later, touched-stands, writable-inserted}
+use Rattle.cfb_slots.proofs.SlotWrites.{entries-stay}
+use Rattle.cfb_directory.proofs.InsertLinks.{touched-stands, writable-inserted}
 use Rattle.cfb_directory.proofs.Placed.{header_left, slot_left}
 use Rattle.cfb_directory.proofs.Rewritten.{rewritten}
+use Rattle.cfb_format.proofs.Members.{Contains-nil}
+use Rattle.cfb_directory.proofs.cfb_outline.Insides.{first-or-later}
 
 -- ---- an insertion
 

@@ -12,26 +12,26 @@ use Rattle.cfb_format.specs.DirectoryEntry.{Entry}
 use Rattle.cfb_format.specs.Medium.{part}
 use Rattle.cfb_format.specs.Siblings.{Balanced, entry_at}
 use Rattle.cfb_sectors.proofs.WordLemmas.{word_stays}
-use Rattle.cfb_tables.specs.Refused.{ChangeRefused, TableRefused}
-use Rattle.cfb_tables.specs.Tables.{TableState}
-use Rattle.cfb_tables.proofs.Members.{first_of_three}
+use Rattle.cfb_directory.specs.cfb_tables.Refused.{ChangeRefused, TableRefused}
+use Rattle.cfb_directory.specs.cfb_tables.Tables.{TableState}
+use Rattle.cfb_directory.proofs.cfb_tables.Members.{first_of_three}
 use Rattle.cfb_alloc.specs.Alloc.{AllocatorState}
 use Rattle.cfb_alloc.specs.Frame.{Spares}
 use Rattle.cfb_alloc.specs.ListedChain.{Lengthens}
 use Rattle.cfb_alloc.proofs.Frames.{spares-then}
-use Rattle.cfb_outline.specs.Outlines.{IsReachedStorage}
-use Rattle.cfb_siblings.specs.Children.{HasChildren, HasRedApart, KeepsBalance}
-use Rattle.cfb_siblings.specs.Laws.{grown_by}
-use Rattle.cfb_siblings.proofs.Grown.{balanced-same, children-same, entry-stays, length-grows, red-apart-same}
+use Rattle.cfb_directory.specs.cfb_outline.Outlines.{IsReachedStorage}
+use Rattle.cfb_directory.specs.cfb_siblings.Children.{HasChildren, HasRedApart, KeepsBalance}
+use Rattle.cfb_directory.specs.cfb_siblings.Laws.{grown_by}
+use Rattle.cfb_directory.proofs.cfb_siblings.Grown.{balanced-same, children-same, entry-stays, length-grows, red-apart-same}
 use Rattle.cfb_entries.specs.declared.insertion.Insertion.{Insertion}
 use Rattle.cfb_entries.specs.EntryList.{has_free}
 use Rattle.cfb_entries.specs.Insertions.{IsInsertionOf}
 use Rattle.cfb_entries.proofs.Contents.{insertion-stays, reached-stays}
 use Rattle.cfb_directory.specs.Growing.{ArePlaced}
-use Rattle.cfb_directory.specs.Slots.{slot_of}
+use Rattle.cfb_slots.specs.Slots.{slot_of}
 use Rattle.cfb_directory.specs.State.{DirectoryState, directory_version, with_room}
 use Rattle.cfb_directory.specs.Steps.{IsDirectoryNotHeld}
-use Rattle.cfb_directory.proofs.SlotPlaces.{slot_sector}
+use Rattle.cfb_slots.proofs.SlotPlaces.{slot_sector}
 use Rattle.cfb_directory.proofs.Placed.{held_places}
 use Rattle.cfb_directory.proofs.InsertGrow.{one-gained}
 

@@ -1,11 +1,11 @@
 -- The least number above the sectors of a list.
 use Rattle.std.proofs.Common.{◌≡◌, ℕ, List, [], arith, sym, subst}
 use Rattle.std.specs.Prelude.{Contains}
-use Rattle.cfb_alloc.proofs.Listed.{not_in_nil}
-use Rattle.cfb_directory.specs.Slots.{IsLeastAbove}
+use Rattle.cfb_slots.specs.Slots.{IsLeastAbove}
+use Rattle.cfb_format.proofs.Members.{Contains-nil}
 
 pub least-of-none : IsLeastAbove [] 0
-least-of-none n = ((λ le i m. absurd (not_in_nil i m)), (λ all. omega arith))
+least-of-none n = ((λ le i m. absurd (Contains-nil i m)), (λ all. omega arith))
 
 -- what is the least above a list is the least above one that is the same
 pub least-kept : (xs ys : List ℕ) (above : ℕ) → ys ≡ xs → IsLeastAbove xs above → IsLeastAbove ys above

@@ -3,11 +3,11 @@ use Rattle.std.proofs.Common.{◌≡◌, ℕ, List, refl, sym, ap, ◌∙◌}
 use Rattle.cfb_format.specs.Bytes.{entries_per_sector}
 use Rattle.cfb_format.specs.DirectoryEntry.{Entry}
 use Rattle.cfb_format.specs.Reading.{Outline, IsOutline}
-use Rattle.cfb_siblings.specs.Paths.{number_from}
-use Rattle.cfb_trees.proofs.PathInserted.{insertion-adds-a-name}
-use Rattle.cfb_trees.proofs.PathRemoved.{removal-takes-a-name}
-use Rattle.cfb_trees.proofs.PathNames.{growth-keeps-names}
-use Rattle.cfb_trees.proofs.Same.{growth-keeps-outline}
+use Rattle.cfb_directory.specs.cfb_siblings.Paths.{number_from}
+use Rattle.cfb_directory.proofs.cfb_trees.PathInserted.{insertion-adds-a-name}
+use Rattle.cfb_directory.proofs.cfb_trees.PathRemoved.{removal-takes-a-name}
+use Rattle.cfb_directory.proofs.cfb_trees.PathNames.{growth-keeps-names}
+use Rattle.cfb_directory.proofs.cfb_trees.Same.{growth-keeps-outline}
 use Rattle.cfb_entries.specs.EntryList.{has_free}
 use Rattle.cfb_directory.specs.NameLaws.{InsertedIsFound, RemovedIsFoundNoMore}
 use Rattle.cfb_directory.specs.State.{DirectoryState, directory_version, with_room}

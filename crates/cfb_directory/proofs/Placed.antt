@@ -9,17 +9,17 @@ use Rattle.cfb_format.specs.declared.validate.Validation.{Validation}
 use Rattle.cfb_format.specs.Bytes.{sector_len, entries_per_sector}
 use Rattle.cfb_format.specs.Medium.{part}
 use Rattle.cfb_format.proofs.ByteLemmas.{part_at, length-part}
-use Rattle.cfb_tables.specs.Tables.{first_or_end}
-use Rattle.cfb_tables.proofs.ChainLemmas.{members-busy}
-use Rattle.cfb_tables.proofs.Members.{Contains-here}
+use Rattle.cfb_directory.specs.cfb_tables.Tables.{first_or_end}
+use Rattle.cfb_directory.proofs.cfb_tables.ChainLemmas.{members-busy}
 use Rattle.cfb_alloc.specs.Agreement.{HasSectors}
 use Rattle.cfb_alloc.specs.Alloc.{AllocatorState, HoldsTables}
 use Rattle.cfb_alloc.specs.Frame.{Spares}
 use Rattle.cfb_alloc.specs.InSector.{IsNoTableSector}
 use Rattle.cfb_alloc.proofs.HeldOrder.{members-no_table}
-use Rattle.cfb_directory.specs.Slots.{ChangesSlots, HavePlaces, slot_of, slot_place}
+use Rattle.cfb_slots.specs.Slots.{ChangesSlots, HavePlaces, slot_of, slot_place}
 use Rattle.cfb_directory.specs.State.{DirectoryState, HoldsDirectory, directory_version, directory_tables}
-use Rattle.cfb_directory.proofs.SlotPlaces.{header-outside, slot_inside, slots_apart}
+use Rattle.cfb_slots.proofs.SlotPlaces.{header-outside, slot_inside, slots_apart}
+use Rattle.cfb_format.proofs.Members.{Contains-here}
 
 -- its sectors have a slot for each entry
 pub held_places : (validation : Validation) (d : DirectoryState) → HoldsDirectory validation d → HavePlaces (directory_version d) d.sectors (length d.entries) (length (directory_tables d).fat)

@@ -14,14 +14,14 @@ use Rattle.cfb_format.specs.Names.{Cases}
 use Rattle.cfb_format.specs.DirectoryEntry.{Entry, EntryFits, IsValidEntry, IsAllowedChild, is_entry_link, unallocated_entry}
 use Rattle.cfb_format.specs.Siblings.{SiblingTree, leaf, node, HangsAt, in_order, entry_at}
 use Rattle.cfb_format.proofs.Unique.{Below-unique}
-use Rattle.cfb_outline.specs.Outlines.{IsReachedStorage}
-use Rattle.cfb_siblings.specs.Children.{ButLinks, HasRemoved}
-use Rattle.cfb_siblings.specs.Touched.{TouchesOnly}
-use Rattle.cfb_tables.proofs.Members.{Contains-here, Contains-there, Contains-cases, Contains-or, Contains-split, Contains-nil, cons-distinct, distinct-cons}
+use Rattle.cfb_directory.specs.cfb_outline.Outlines.{IsReachedStorage}
+use Rattle.cfb_directory.specs.cfb_siblings.Children.{ButLinks, HasRemoved}
+use Rattle.cfb_directory.specs.cfb_siblings.Touched.{TouchesOnly}
 use Rattle.cfb_format.specs.Full.{max_entries}
 use Rattle.cfb_entries.proofs.Contents.{free-beside, free-outside}
 use Rattle.cfb_directory.specs.State.{AreWritable}
-use Rattle.cfb_directory.proofs.SlotLists.{zip-at, zip-length}
+use Rattle.cfb_slots.proofs.SlotLists.{zip-at, zip-length}
+use Rattle.cfb_format.proofs.Members.{Contains-here, Contains-there, Contains-cases, Contains-or, Contains-split, Contains-nil, cons-distinct, distinct-cons}
 
 -- ---- lists
 
@@ -79,7 +79,7 @@ links_in es w (node a i b) few h k m = elim (Contains-append_cases (in_order a) 
 
 -- ---- entries with other links
 
-allowed_child : (t : ObjType) (w : ℕ) → t ≢ Stream → IsTrue (is_entry_link w) → IsAllowedChild t w
+pub allowed_child : (t : ObjType) (w : ℕ) → t ≢ Stream → IsTrue (is_entry_link w) → IsAllowedChild t w
 allowed_child Unallocated w ne h = h
 allowed_child Storage w ne h = h
 allowed_child Stream w ne h = absurd (ne refl)

@@ -11,10 +11,10 @@ use Rattle.cfb_format.specs.Header.{IfStrict, IsStrictHeader}
 use Rattle.cfb_format.specs.Names.{Cases}
 use Rattle.cfb_format.specs.Reading.{IsStrictCount}
 use Rattle.cfb_sectors.proofs.WordLemmas.{word_same}
-use Rattle.cfb_tables.specs.Tables.{TableState}
+use Rattle.cfb_directory.specs.cfb_tables.Tables.{TableState}
 use Rattle.cfb_alloc.specs.Agreement.{HasSectors}
 use Rattle.cfb_alloc.specs.Alloc.{AllocatorState, HoldsTables}
-use Rattle.cfb_directory.specs.Slots.{HoldSlotsBut}
+use Rattle.cfb_slots.specs.Slots.{HoldSlotsBut}
 use Rattle.cfb_directory.specs.State.{DirectoryState, HoldsDirectory, AreWritable, directory_version, directory_bytes, directory_tables}
 use Rattle.cfb_directory.proofs.Placed.{header_there}
 

@@ -1,6 +1,6 @@
 -- What a clearing leaves alone of the directory's slots (MS-CFB 2.6).
 use Rattle.std.specs.Prelude.{ℕ, ◌≡◌, ◌<◌, List, length, Contains}
-use Rattle.cfb_directory.specs.Slots.{slot_of}
+use Rattle.cfb_slots.specs.Slots.{slot_of}
 use Rattle.cfb_directory.specs.State.{DirectoryState, directory_version, directory_bytes}
 
 -- in the file the slots of all entries stay but those of the list

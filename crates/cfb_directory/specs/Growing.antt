@@ -1,8 +1,8 @@
 -- How a directory becomes longer, before a new entry is put into it (MS-CFB 2.6).
 use Rattle.std.specs.Prelude.{ℕ, ◌≡◌, ◌<◌, List, length, Contains}
 use Rattle.cfb_format.specs.Chain.{IsChain}
-use Rattle.cfb_tables.specs.Tables.{TableState, first_or_end}
-use Rattle.cfb_directory.specs.Slots.{HavePlaces, slot_of}
+use Rattle.cfb_directory.specs.cfb_tables.Tables.{TableState, first_or_end}
+use Rattle.cfb_slots.specs.Slots.{HavePlaces, slot_of}
 use Rattle.cfb_directory.specs.State.{DirectoryState, directory_version, directory_bytes, directory_tables}
 
 -- each entry has a slot in sectors of the file, and no slot is left over

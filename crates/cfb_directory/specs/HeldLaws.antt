@@ -8,8 +8,8 @@ use Rattle.cfb_format.specs.Bytes.{word_at}
 use Rattle.cfb_format.specs.DirectoryEntry.{IsStrictEntry, slots}
 use Rattle.cfb_format.specs.Header.{IsHeader, IsStrictHeader}
 use Rattle.cfb_format.specs.Reading.{IsDirectory, IsStrictCount}
-use Rattle.cfb_tables.specs.Changes.{AreDisjoint}
-use Rattle.cfb_tables.specs.Tables.{AreSizes, sizes_of}
+use Rattle.cfb_directory.specs.cfb_tables.Changes.{AreDisjoint}
+use Rattle.cfb_directory.specs.cfb_tables.Tables.{AreSizes, sizes_of}
 use Rattle.cfb_alloc.specs.Alloc.{AllocatorState, HoldsTables}
 use Rattle.cfb_alloc.specs.Frame.{Spares}
 use Rattle.cfb_directory.specs.State.{DirectoryState, HoldsDirectory, directory_bytes, directory_tables, directory_version}

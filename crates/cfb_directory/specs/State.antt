@@ -11,13 +11,13 @@ use Rattle.cfb_format.specs.Names.{Cases}
 use Rattle.cfb_format.specs.Reading.{IsStrictCount}
 use Rattle.cfb_format.specs.DirectoryEntry.{Entry, EntryFits, IsValidEntry}
 use Rattle.cfb_format.specs.Siblings.{entry_at}
-use Rattle.cfb_tables.specs.Tables.{TableState, AreSizes, IsTooFew, first_or_end, sizes_of}
+use Rattle.cfb_directory.specs.cfb_tables.Tables.{TableState, AreSizes, IsTooFew, first_or_end, sizes_of}
 use Rattle.cfb_alloc.specs.Agreement.{HasSectors}
 use Rattle.cfb_alloc.specs.Alloc.{AllocatorState, HoldsTables}
-use Rattle.cfb_siblings.specs.Laws.{grown_by}
+use Rattle.cfb_directory.specs.cfb_siblings.Laws.{grown_by}
 use Rattle.cfb_format.specs.Full.{max_entries}
 use Rattle.cfb_entries.specs.EntryList.{EntryList, has_free}
-use Rattle.cfb_directory.specs.Slots.{HoldSlotsBut}
+use Rattle.cfb_slots.specs.Slots.{HoldSlotsBut}
 
 -- the sectors of a file with their tables, the directory's sectors in order, the letters by which names are compared, and the entries
 pub record DirectoryState : Type 0 where

@@ -6,8 +6,8 @@ use Rattle.cfb_format.specs.declared.objtype.ObjType.TheVariants.{Unallocated}
 use Rattle.cfb_format.specs.Bytes.{sector_len}
 use Rattle.cfb_format.specs.Refused.{AfterMedium}
 use Rattle.cfb_format.specs.Siblings.{entry_at}
-use Rattle.cfb_siblings.specs.Children.{HasChildren, HasRedApart}
-use Rattle.cfb_directory.specs.Slots.{slot_of}
+use Rattle.cfb_directory.specs.cfb_siblings.Children.{HasChildren, HasRedApart}
+use Rattle.cfb_slots.specs.Slots.{slot_of}
 use Rattle.cfb_directory.specs.State.{DirectoryState, HoldsDirectory, directory_version, directory_bytes}
 
 -- after the medium's error the change was begun; after any other nothing has changed

@@ -5,25 +5,25 @@ ghost use Rattle.cfb_format.specs.Bytes.{no_stream};
 ghost use Rattle.cfb_format.specs.DirectoryEntry.{IsValidEntry};
 ghost use Rattle.cfb_format.specs.Refused.{CountsFailure};
 ghost use Rattle.cfb_format.specs.Siblings.{entry_at};
-ghost use Rattle.cfb_outline.specs.Outlines.{IsReachedStorage};
-ghost use Rattle.cfb_siblings.specs.Children.{HasChildren, IsChildNamed, KeepsBalance};
+ghost use Rattle.cfb_directory.specs.cfb_outline.Outlines.{IsReachedStorage};
+ghost use Rattle.cfb_directory.specs.cfb_siblings.Children.{HasChildren, IsChildNamed, KeepsBalance};
 ghost use Rattle.cfb_sectors.specs.Sectors.{IsMediumError};
-ghost use Rattle.cfb_tables.specs.Refused.{ChangeRefused};
+ghost use Rattle.cfb_directory.specs.cfb_tables.Refused.{ChangeRefused};
 ghost use Rattle.cfb_alloc.specs.Frame.{Spares};
 ghost use Rattle.cfb_entries.specs.declared.fields.Fields.{Fields};
 ghost use Rattle.cfb_entries.specs.EntryList.{RemovesEntry};
 ghost use Rattle.cfb_entries.specs.Fields.{fields_in, entry_with_fields, entries_with_fields};
 ghost use Rattle.cfb_directory.specs.Growing.{ArePlaced};
-ghost use Rattle.cfb_directory.specs.Slots.{IsLeastAbove};
+ghost use Rattle.cfb_slots.specs.Slots.{IsLeastAbove};
 ghost use Rattle.cfb_directory.specs.State.{HoldsDirectory, KeepsDirectoryLimits, directory_of};
 ghost use Rattle.cfb_directory.specs.Steps.{IsDirectoryNotHeld, KeepsOtherSlots, StaysRedApart, KeepsSlotsBut, KeepsWholeHeader, DirectoryStopsShort};
 
-use crate::slots::{are_placed, numbered_entry_fits, write_entries, write_entry};
 use cfb_alloc::alloc::Allocator;
 use cfb_entries::entries::Entries;
 use cfb_entries::fields::Fields;
 use cfb_format::error::{Detail, Error};
 use cfb_format::medium::Medium;
+use cfb_slots::slots::{are_placed, numbered_entry_fits, write_entries, write_entry};
 use std::alloc::Allocator as Heap;
 
 /// A refusal of sectors that have not a slot for each entry, and no more, or are none of the file's.

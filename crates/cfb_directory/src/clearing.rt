@@ -3,21 +3,21 @@ ghost use Rattle.std.specs.Prelude.{◌≡◌, ◌∷◌, ℕ, List, true, IsTru
 ghost use Rattle.cfb_format.specs.declared.validate.Validation.{Validation};
 ghost use Rattle.cfb_format.specs.Reading.{Outline, numbers};
 ghost use Rattle.cfb_format.specs.Refused.{CountsFailure};
-ghost use Rattle.cfb_outline.specs.Outlines.{HasInside, IsReachedStorage};
-ghost use Rattle.cfb_tables.specs.Refused.{ChangeRefused};
+ghost use Rattle.cfb_directory.specs.cfb_outline.Outlines.{HasInside, IsReachedStorage};
+ghost use Rattle.cfb_directory.specs.cfb_tables.Refused.{ChangeRefused};
 ghost use Rattle.cfb_alloc.specs.Frame.{Spares};
 ghost use Rattle.cfb_entries.specs.Clearing.{HasCleared};
 ghost use Rattle.cfb_directory.specs.Clearing.{KeepsSlotsOutside};
-ghost use Rattle.cfb_directory.specs.Slots.{IsLeastAbove};
+ghost use Rattle.cfb_slots.specs.Slots.{IsLeastAbove};
 ghost use Rattle.cfb_directory.specs.State.{HoldsDirectory, KeepsDirectoryLimits, directory_of};
 ghost use Rattle.cfb_directory.specs.Steps.{IsDirectoryNotHeld, KeepsWholeHeader, DirectoryStopsShort};
 
 use crate::changing::unplaced;
-use crate::slots::{are_placed, write_entries};
 use cfb_alloc::alloc::Allocator;
 use cfb_entries::entries::Entries;
 use cfb_format::error::Error;
 use cfb_format::medium::Medium;
+use cfb_slots::slots::{are_placed, write_entries};
 use std::alloc::Allocator as Heap;
 
 /// Takes all that is in the storage `top` out of it, in memory and in the slots: all of `Directory::clear`.

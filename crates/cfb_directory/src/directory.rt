@@ -13,16 +13,16 @@ ghost use Rattle.cfb_format.specs.Reading.{IsOutline, Outline, numbers};
 ghost use Rattle.cfb_format.specs.Refused.{CountsFailure, IsInvalidOrMemory};
 ghost use Rattle.cfb_format.specs.Siblings.{entry_at};
 ghost use Rattle.cfb_codecs.specs.EntryModel.{entries_of, entry_of, new_entry};
-ghost use Rattle.cfb_index.specs.Index.{CountsSteps};
-ghost use Rattle.cfb_outline.specs.Outlines.{AcceptsOutline, HasInside, IsReachedStorage};
-ghost use Rattle.cfb_siblings.specs.Children.{HasChildren, IsAbsent, IsChildNamed, KeepsBalance};
-ghost use Rattle.cfb_siblings.specs.Paths.{number_at_path, number_from};
+ghost use Rattle.cfb_directory.specs.cfb_index.Index.{CountsSteps};
+ghost use Rattle.cfb_directory.specs.cfb_outline.Outlines.{AcceptsOutline, HasInside, IsReachedStorage};
+ghost use Rattle.cfb_directory.specs.cfb_siblings.Children.{HasChildren, IsAbsent, IsChildNamed, KeepsBalance};
+ghost use Rattle.cfb_directory.specs.cfb_siblings.Paths.{number_at_path, number_from};
 ghost use Rattle.cfb_sectors.specs.Sectors.{IsMediumError, IsRaised};
-ghost use Rattle.cfb_tables.specs.Changes.{NoChain};
-ghost use Rattle.cfb_tables.specs.Clean.{IsUnnamed};
-ghost use Rattle.cfb_tables.specs.Refused.{ChangeRefused, NoLast};
-ghost use Rattle.cfb_tables.specs.Tables.{Extended, ExtendsFrom, GivesBackChain, HasTaken, IsTooFew, TakesFor};
-ghost use Rattle.cfb_alloc.specs.Alloc.{ChangesSectors, HoldsTables, IsFilled, IsUsable, OthersStay};
+ghost use Rattle.cfb_directory.specs.cfb_tables.Changes.{NoChain};
+ghost use Rattle.cfb_directory.specs.cfb_tables.Clean.{IsUnnamed};
+ghost use Rattle.cfb_directory.specs.cfb_tables.Refused.{ChangeRefused, NoLast};
+ghost use Rattle.cfb_directory.specs.cfb_tables.Tables.{Extended, ExtendsFrom, GivesBackChain, HasTaken, IsTooFew, TakesFor};
+ghost use Rattle.cfb_alloc.specs.Alloc.{ChangesSectors, HoldsTables, IsAsFilled, IsUsable, OthersStay};
 ghost use Rattle.cfb_alloc.specs.Broken.{BreaksOff};
 ghost use Rattle.cfb_alloc.specs.Frame.{Spares};
 ghost use Rattle.cfb_entries.specs.declared.fields.Fields.{Fields};
@@ -34,11 +34,9 @@ ghost use Rattle.cfb_directory.specs.Clearing.{KeepsSlotsOutside};
 ghost use Rattle.cfb_directory.specs.State.{HoldsDirectory, IsFullForEntry, KeepsDirectoryHeader, KeepsDirectoryLimits, directory_bytes, directory_tables, directory_version, with_room};
 ghost use Rattle.cfb_directory.specs.Steps.{IsDirectoryNotHeld, KeepsOtherSlots, StaysRedApart, KeepsSlotsBut, KeepsWholeHeader, DirectoryStopsShort};
 
-use crate::bounds::least_above;
 use crate::changing::{change_fields, remove_entry};
 use crate::clearing::clear_storage;
 use crate::inserting::insert_entry;
-use crate::slots::are_placed;
 use cfb_alloc::alloc::Allocator;
 use cfb_codecs::direntry::DirEntry;
 use cfb_codecs::path::CaseMapper;
@@ -51,6 +49,8 @@ use cfb_format::objtype::ObjType;
 use cfb_format::validate::Validation;
 use cfb_format::version::Version;
 use cfb_sectors::sector::SectorInit;
+use cfb_slots::bounds::least_above;
+use cfb_slots::slots::are_placed;
 use std::alloc::{Allocator as Heap, Global};
 use std::marker::Model;
 
@@ -66,7 +66,7 @@ pub struct Directory<F: ReadMedium, A: Heap = Global> {
 }
 
 impl<F: ReadMedium, A: Heap> Model for Directory<F, A> {
-    ghost use Rattle.cfb_directory.specs.Slots.{IsLeastAbove};
+    ghost use Rattle.cfb_slots.specs.Slots.{IsLeastAbove};
     ghost use Rattle.cfb_directory.specs.State.{DirectoryState};
 
     ghost Value = { DirectoryState };
@@ -585,7 +585,7 @@ impl<F: Medium, A: Heap> Directory<F, A> {
         ensures chain { IfOk result (λ x. IsChain (directory_tables self.new).fat x (x ∷ [])) }
         ensures filled { IsTrue F.tells
             → (validation : Validation) → HoldsTables validation self.old.table → IfOk result (λ x.
-            IsFilled (directory_version self.new) init (directory_bytes self.new) x) }
+            IsAsFilled (directory_version self.new) init (directory_bytes self.new) x) }
         ensures holds { IsTrue F.tells
             → (validation : Validation) → HoldsTables validation self.old.table
             → OnOk result (HoldsTables validation self.new.table) }
@@ -634,7 +634,7 @@ impl<F: Medium, A: Heap + Clone> Directory<F, A> {
             Extended (directory_tables self.old) (directory_tables self.new) start (x ∷ [])) }
         ensures filled { IsTrue F.tells
             → (validation : Validation) → HoldsTables validation self.old.table → IfOk result (λ x.
-            IsFilled (directory_version self.new) init (directory_bytes self.new) x) }
+            IsAsFilled (directory_version self.new) init (directory_bytes self.new) x) }
         ensures holds { IsTrue F.tells
             → (validation : Validation) → HoldsTables validation self.old.table
             → OnOk result (HoldsTables validation self.new.table) }

@@ -9,28 +9,27 @@ ghost use Rattle.cfb_format.specs.Medium.{ChangesOnlyBytes};
 ghost use Rattle.cfb_format.specs.Names.{is_valid_name};
 ghost use Rattle.cfb_format.specs.Refused.{AfterMedium, CountsFailure};
 ghost use Rattle.cfb_codecs.specs.EntryModel.{new_entry};
-ghost use Rattle.cfb_outline.specs.Outlines.{IsReachedStorage};
-ghost use Rattle.cfb_siblings.specs.Children.{HasChildren, IsAbsent, KeepsBalance};
-ghost use Rattle.cfb_siblings.specs.Laws.{grown_by};
+ghost use Rattle.cfb_directory.specs.cfb_outline.Outlines.{IsReachedStorage};
+ghost use Rattle.cfb_directory.specs.cfb_siblings.Children.{HasChildren, IsAbsent, KeepsBalance};
+ghost use Rattle.cfb_directory.specs.cfb_siblings.Laws.{grown_by};
 ghost use Rattle.cfb_sectors.specs.Sectors.{IsMediumError};
 ghost use Rattle.cfb_sectors.specs.declared.sector.SectorInit.TheVariants.{Dir};
-ghost use Rattle.cfb_tables.specs.Listed.{ends_of, gained, last_or_end};
-ghost use Rattle.cfb_tables.specs.Refused.{ChangeRefused, TableRefused};
-ghost use Rattle.cfb_tables.specs.Tables.{AreSizes, IsTooFew, sizes_of};
-ghost use Rattle.cfb_alloc.specs.Alloc.{HoldsTables, IsFilled, IsUsable, OthersStay};
+ghost use Rattle.cfb_directory.specs.cfb_tables.Listed.{ends_of, gained, last_or_end};
+ghost use Rattle.cfb_directory.specs.cfb_tables.Refused.{ChangeRefused, TableRefused};
+ghost use Rattle.cfb_directory.specs.cfb_tables.Tables.{AreSizes, IsTooFew, sizes_of};
+ghost use Rattle.cfb_alloc.specs.Alloc.{HoldsTables, IsAsFilled, IsUsable, OthersStay};
 ghost use Rattle.cfb_alloc.specs.Frame.{Spares};
 ghost use Rattle.cfb_alloc.specs.ListedChain.{Lengthens};
 ghost use Rattle.cfb_format.specs.Full.{max_entries};
 ghost use Rattle.cfb_entries.specs.EntryList.{InsertsEntry, has_free};
 ghost use Rattle.cfb_entries.specs.Insertions.{IsInsertionOf, name_in};
 ghost use Rattle.cfb_directory.specs.Growing.{ArePlaced, AreSectorsOf, IsListedChain, KeepsBounds, KeepsSlots};
-ghost use Rattle.cfb_directory.specs.Slots.{IsLeastAbove};
+ghost use Rattle.cfb_slots.specs.Slots.{IsLeastAbove};
 ghost use Rattle.cfb_directory.specs.State.{HoldsDirectory, IsFullForEntry, KeepsDirectoryHeader, KeepsDirectoryLimits, directory_bytes, directory_of, directory_version, with_room};
 ghost use Rattle.cfb_directory.specs.Steps.{IsDirectoryNotHeld, KeepsOtherSlots, StaysRedApart, DirectoryStopsShort};
 
-use crate::bounds::least_above;
-use crate::slots::{are_placed, write_entries};
 use cfb_alloc::alloc::{Allocator, HeaderWord};
+use cfb_alloc::last_number;
 use cfb_codecs::timestamp::Timestamp;
 use cfb_entries::entries::Entries;
 use cfb_entries::fresh::fresh_entries;
@@ -40,7 +39,8 @@ use cfb_format::medium::{Medium, ReadMedium};
 use cfb_format::objtype::ObjType;
 use cfb_format::version::Version;
 use cfb_sectors::sector::SectorInit;
-use cfb_tables::ends::last_number;
+use cfb_slots::bounds::least_above;
+use cfb_slots::slots::{are_placed, write_entries};
 use std::alloc::Allocator as Heap;
 
 /// How many entries a directory may have.
@@ -111,7 +111,7 @@ fn lengthen<F: Medium, A: Heap + Clone>(
     ensures filled { IsTrue F.tells
         → (validation : Validation) → HoldsTables validation allocator.old
         → OnOk result ((i : ℕ) → Contains (gained sectors.old.items sectors.new.items) i
-        → IsFilled allocator.new.tables.version Dir allocator.new.file.bytes i) }
+        → IsAsFilled allocator.new.tables.version Dir allocator.new.file.bytes i) }
     ensures holds { IsTrue F.tells
         → (validation : Validation) → HoldsTables validation allocator.old
         → OnOk result (HoldsTables validation allocator.new) }

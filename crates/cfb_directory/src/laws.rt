@@ -2,22 +2,6 @@
 //! as its contract.
 ghost use Rattle.cfb_directory.specs.HeldLaws.{DirectoryStaysHeld, HeldDirectoryIsRead, HeldDirectoryIsStrict};
 ghost use Rattle.cfb_directory.specs.NameLaws.{InsertedIsFound, RemovedIsFoundNoMore};
-ghost use Rattle.cfb_directory.specs.SlotLaws.{SlotsByPlace, SlotsAtPlaces, SlotsStay, FreshSlotsAreHeld, EntriesThatStayAreHeld, HeaderIsOutsideSlots};
-
-/// The slots that hold entries by their places are the slots that opening reads (MS-CFB 2.6).
-pub fn slots_are_read_by_places()
-    ensures by_place { SlotsByPlace }
-    ensures at_places { SlotsAtPlaces }
-{}
-
-/// What slots hold stays, where their bytes do and where their entries do; a fresh sector has unallocated entries, and the header no
-/// slot.
-pub fn slots_follow_changes()
-    ensures stay { SlotsStay }
-    ensures fresh { FreshSlotsAreHeld }
-    ensures entries { EntriesThatStayAreHeld }
-    ensures header { HeaderIsOutsideSlots }
-{}
 
 /// A directory that the bytes hold is the one that opening reads from them, and where they hold it as strict opening wants it, strict
 /// opening takes it (MS-CFB 2.6).

@@ -68,7 +68,7 @@ cleared-more old mid top n list h lt ne =
 -- ---- the outline
 
 -- nothing hangs where there is no child
-none-below : (cases : Cases) (es : List Entry) (top : ℕ) → top ≡ no_stream → Below cases es top []
+pub none-below : (cases : Cases) (es : List Entry) (top : ℕ) → top ≡ no_stream → Below cases es top []
 unfolding IsDistinct
 none-below cases es top e = record { tree = leaf; hangs = e; is_in_order = refl; distinct = tt; rises = tt }
 

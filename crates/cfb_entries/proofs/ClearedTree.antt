@@ -21,7 +21,7 @@ use Rattle.cfb_trees.proofs.Standing.{Stands, StandsAt, at-children, at-inner, a
 use Rattle.cfb_entries.specs.Clearing.{HasCleared}
 use Rattle.cfb_index.specs.Index.{Lists}
 use Rattle.cfb_index.proofs.Lists.{lists-same}
-use Rattle.cfb_keys.specs.declared.key.IndexKey.{IndexKey}
+use Rattle.cfb_entries.specs.cfb_keys.declared.key.IndexKey.{IndexKey}
 use Rattle.cfb_entries.specs.Covering.{names_in}
 use Rattle.cfb_entries.proofs.Cleared.{after, after-counts, apart-now}
 

@@ -8,8 +8,8 @@ use Rattle.cfb_format.specs.DirectoryEntry.{Entry, unallocated_entry}
 use Rattle.cfb_format.specs.Siblings.{entry_at}
 use Rattle.cfb_format.specs.Reading.{Outline, IsOutline, numbers}
 use Rattle.cfb_format.proofs.Unique.{Below-unique, IsOutline-unique}
-use Rattle.cfb_keys.specs.Keys.{key_in}
-use Rattle.cfb_keys.proofs.Padded.{keys-tell-names}
+use Rattle.cfb_entries.specs.cfb_keys.Keys.{key_in}
+use Rattle.cfb_entries.proofs.cfb_keys.Padded.{keys-tell-names}
 use Rattle.cfb_index.specs.Index.{HasSame, Index, Lists, Updates, number_under}
 use Rattle.cfb_index.proofs.Lists.{lists-more, lists-same}
 use Rattle.cfb_outline.specs.Outlines.{IsReachedStorage}

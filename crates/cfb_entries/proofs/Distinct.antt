@@ -5,8 +5,9 @@ use Rattle.std.specs.List.{IsDistinct}
 use Rattle.std.proofs.lemmas.Bool.{cases_eq}
 use Rattle.std.proofs.lemmas.List.Elements.{Contains-append_left, Contains-push, Contains-push_cases}
 use Rattle.cfb_siblings.specs.Painted.{times_in}
-use Rattle.cfb_siblings.proofs.Tallies.{hit-same, hit-cases, hit-small, tally-append, counted, uncounted, distinct-once, once-distinct}
+use Rattle.cfb_siblings.proofs.Tallies.{hit-same, tally-append, counted, distinct-once, once-distinct}
 use Rattle.cfb_entries.specs.Slots.{with_numbers}
+use Rattle.cfb_format.proofs.Members.{distinct-push}
 
 pub Contains-nil : (k : ℕ) → Contains [] k → ⊥
 Contains-nil k (i, lt, e) = omega (arith, lt)
@@ -14,13 +15,6 @@ Contains-nil k (i, lt, e) = omega (arith, lt)
 pub distinct-nil : IsDistinct nat_eq []
 unfolding IsDistinct
 distinct-nil = tt
-
-pub distinct-push : (xs : List ℕ) (x : ℕ) → IsDistinct nat_eq xs → (Contains xs x → ⊥) → IsDistinct nat_eq (xs ++ x ∷ [])
-unfolding times_in
-distinct-push xs x d out = once-distinct (xs ++ x ∷ []) (λ k. elim (hit-cases k x) [
-  | inl e ↦ omega (arith, tally-append k xs (x ∷ []), hit-small k x, uncounted x xs out, ap (λ j. times_in j xs) e)
-  | inr z ↦ omega (arith, tally-append k xs (x ∷ []), z, distinct-once xs d k)
-])
 
 pub distinct-rest : (xs : List ℕ) (x : ℕ) → IsDistinct nat_eq (xs ++ x ∷ []) → IsDistinct nat_eq xs
 unfolding times_in

@@ -10,8 +10,8 @@ use Rattle.cfb_format.specs.Reading.{Outline, IsOutline, numbers}
 use Rattle.cfb_format.proofs.NameOrder.{name_cmp-equal}
 use Rattle.cfb_format.proofs.TreeMap.{equal_by_test}
 use Rattle.cfb_format.proofs.Unique.{Below-unique}
-use Rattle.cfb_keys.specs.Keys.{IsShort, key_in}
-use Rattle.cfb_keys.proofs.Padded.{keys-tell-names}
+use Rattle.cfb_entries.specs.cfb_keys.Keys.{IsShort, key_in}
+use Rattle.cfb_entries.proofs.cfb_keys.Padded.{keys-tell-names}
 use Rattle.cfb_index.specs.Index.{CountsSteps, Index, number_down, number_in}
 use Rattle.cfb_index.proofs.Lists.{found-under, in-short, none-some, same-some}
 use Rattle.cfb_siblings.specs.Children.{HasChildren, IsAbsent, IsChildNamed}

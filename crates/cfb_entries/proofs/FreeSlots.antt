@@ -16,7 +16,8 @@ use Rattle.cfb_trees.proofs.Same.{grown-at}
 use Rattle.cfb_format.specs.Full.{is_unallocated}
 use Rattle.cfb_entries.specs.EntryList.{ListsFreeSlots, has_free}
 use Rattle.cfb_entries.specs.Slots.{with_numbers}
-use Rattle.cfb_entries.proofs.Distinct.{Contains-nil, distinct-nil, distinct-push, distinct-rest, distinct-last, with-distinct, with-cases, with-old, with-new}
+use Rattle.cfb_entries.proofs.Distinct.{Contains-nil, distinct-nil, distinct-rest, distinct-last, with-distinct, with-cases, with-old, with-new}
+use Rattle.cfb_format.proofs.Members.{distinct-push}
 
 -- the slot is free in the one list of entries exactly where it is in the other
 abbrev pub SameFree : List Entry → List Entry → ℕ → Type 0

@@ -5,14 +5,13 @@ use Rattle.std.specs.Map.{update, update_all}
 use Rattle.std.proofs.lemmas.List.{map_more, reverse-append, take_more}
 use Rattle.std.proofs.lemmas.List.Elements.{Contains-append_cases, Contains-append_left, Contains-append_right, Contains-push, Contains-push_cases}
 use Rattle.std.proofs.lemmas.Map.{update_all_push}
-use Rattle.cfb_format.specs.declared.objtype.ObjType.{ObjType}
-use Rattle.cfb_format.specs.declared.objtype.ObjType.TheVariants.{Unallocated, Storage, Stream, Root}
+use Rattle.cfb_format.specs.declared.objtype.ObjType.TheVariants.{Stream}
 use Rattle.cfb_format.specs.Names.{Cases}
 use Rattle.cfb_format.specs.DirectoryEntry.{Entry}
 use Rattle.cfb_format.specs.Siblings.{entry_at}
 use Rattle.cfb_format.specs.Reading.{Outline}
-use Rattle.cfb_keys.specs.declared.key.IndexKey.{IndexKey}
-use Rattle.cfb_keys.specs.Keys.{is_same_key, key_in}
+use Rattle.cfb_entries.specs.cfb_keys.declared.key.IndexKey.{IndexKey}
+use Rattle.cfb_entries.specs.cfb_keys.Keys.{is_same_key, key_in}
 use Rattle.cfb_index.specs.Index.{HasSame, Index, Updates, number_under}
 use Rattle.cfb_siblings.specs.Children.{IsParent}
 use Rattle.cfb_siblings.specs.Painted.{times_in}
@@ -21,6 +20,7 @@ use Rattle.cfb_trees.specs.Children.{IsChildIn}
 use Rattle.cfb_trees.specs.Reached.{IsReached}
 use Rattle.cfb_entries.specs.declared.indexing.Child.{Child}
 use Rattle.cfb_entries.specs.Covering.{AreMoved, ArePut, AreTaken, IsChildOf, ListsChildren, child_at, key_of, moved_all, names_in, without_all}
+use Rattle.cfb_siblings.proofs.PathWalk.{is-stream-or}
 
 -- ---- lists
 
@@ -61,12 +61,6 @@ in-reverse k xs = (
   λ m. present k xs (omega (arith, times-reverse k xs, counted k (reverse xs) m)),
 )
 
-pub stream-or : (kind : ObjType) → (kind ≡ Stream) ⊎ (kind ≢ Stream)
-stream-or Stream = inl refl
-stream-or Unallocated = inr (λ e. let q : Unallocated ≡ Stream = e in cc)
-stream-or Storage = inr (λ e. let q : Storage ≡ Stream = e in cc)
-stream-or Root = inr (λ e. let q : Root ≡ Stream = e in cc)
-
 -- ---- the children of several storages
 
 -- so far all children of these storages are listed, and nothing else
@@ -92,7 +86,7 @@ more-listed es storages s numbers old new lists is before cases parents p k = (f
       | inl o ↦ let (a, b) = (held p k).0 o in (Contains-append_left storages (s ∷ []) p a, b)
       | inr n ↦
           let (e, in-numbers) = in-map s numbers p k n in
-          elim (stream-or (entry_at es s).obj_type) [
+          elim (is-stream-or (entry_at es s).obj_type) [
             | inl t ↦ let (i, under, at) = subst (λ (l : List ℕ). Contains l k) (lists.stream t) in-numbers in absurd (omega (arith, under))
             | inr ne ↦
                 let (list, h) = parents s (Contains-push storages s) ne in

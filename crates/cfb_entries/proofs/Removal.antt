@@ -9,7 +9,7 @@ use Rattle.cfb_format.specs.DirectoryEntry.{Entry}
 use Rattle.cfb_format.specs.Siblings.{entry_at}
 use Rattle.cfb_format.specs.Reading.{Outline, IsOutline}
 use Rattle.cfb_format.proofs.Unique.{Below-unique}
-use Rattle.cfb_keys.specs.Keys.{IsShort}
+use Rattle.cfb_entries.specs.cfb_keys.Keys.{IsShort}
 use Rattle.cfb_index.specs.Index.{Index, number_in, number_under}
 use Rattle.cfb_outline.specs.Outlines.{IsReachedStorage}
 use Rattle.cfb_siblings.specs.Children.{HasChildren, IsChildNamed, IsParent, IsThin, Removes}
@@ -28,8 +28,9 @@ use Rattle.cfb_siblings.proofs.Alone.{one-named}
 use Rattle.cfb_entries.proofs.Changed.{is-removal}
 use Rattle.cfb_entries.proofs.Contents.{in-middle, left-names, short-at}
 use Rattle.cfb_entries.proofs.Found.{child-found, same-short}
-use Rattle.cfb_entries.proofs.Indexed.{stream-or, times-reverse}
+use Rattle.cfb_entries.proofs.Indexed.{times-reverse}
 use Rattle.cfb_entries.proofs.Removed.{moves-lists, stays-lists}
+use Rattle.cfb_siblings.proofs.PathWalk.{is-stream-or}
 
 -- ---- what is right before an entry
 
@@ -99,7 +100,7 @@ module _ (cases : Cases) (es : List Entry) (parent : ℕ) (name : List ℕ) (r :
 module _ (cases : Cases) (es : List Entry) (o : Outline) (is : IsOutline cases es o) (m : ℕ) (reached : IsReached o m) (list : List ℕ) (lists : ListsChildren es m list) where
   pub inside-all : (k : ℕ) → (1 ≤ times_in k list) ↔ IsChildIn cases es o m k
   unfolding times_in
-  inside-all k = elim (stream-or (entry_at es m).obj_type) [
+  inside-all k = elim (is-stream-or (entry_at es m).obj_type) [
     | inl t ↦ (λ c. absurd (omega (arith, c, ap (times_in k) (lists.stream t))), λ c. absurd (c.storage t))
     | inr ne ↦
         let (children, h, all) = reached-is-parent cases es o m is reached ne in
@@ -113,7 +114,7 @@ module _ (cases : Cases) (es : List Entry) (o : Outline) (is : IsOutline cases e
 
   pub inside-once : (k : ℕ) → times_in k list ≤ 1
   unfolding times_in
-  inside-once k = elim (stream-or (entry_at es m).obj_type) [
+  inside-once k = elim (is-stream-or (entry_at es m).obj_type) [
     | inl t ↦ omega (arith, ap (times_in k) (lists.stream t))
     | inr ne ↦
         let (children, h, all) = reached-is-parent cases es o m is reached ne in

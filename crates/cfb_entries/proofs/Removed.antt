@@ -10,15 +10,14 @@ use Rattle.cfb_format.specs.DirectoryEntry.{Entry}
 use Rattle.cfb_format.specs.Siblings.{entry_at}
 use Rattle.cfb_format.specs.Reading.{Outline, IsOutline}
 use Rattle.cfb_format.proofs.Unique.{Below-unique}
-use Rattle.cfb_keys.specs.declared.key.IndexKey.{IndexKey}
-use Rattle.cfb_keys.specs.Keys.{IsShort, key_in}
-use Rattle.cfb_keys.proofs.Padded.{keys-tell-names}
+use Rattle.cfb_entries.specs.cfb_keys.declared.key.IndexKey.{IndexKey}
+use Rattle.cfb_entries.specs.cfb_keys.Keys.{IsShort, key_in}
+use Rattle.cfb_entries.proofs.cfb_keys.Padded.{keys-tell-names}
 use Rattle.cfb_index.specs.Index.{IsUpdate, Lists}
 use Rattle.cfb_index.proofs.Lists.{lists-less, lists-more, lists-same}
 use Rattle.cfb_siblings.specs.Children.{HasRemoved}
 use Rattle.cfb_siblings.specs.Painted.{times_in}
 use Rattle.cfb_siblings.proofs.NameFacts.{same-itself}
-use Rattle.cfb_siblings.proofs.Outlines.{if-false, if-true}
 use Rattle.cfb_siblings.proofs.Tallies.{present}
 use Rattle.cfb_trees.specs.Children.{IsChildIn, WasChildIn, place_after}
 use Rattle.cfb_trees.specs.Reached.{IsReached}
@@ -30,6 +29,7 @@ use Rattle.cfb_entries.specs.EntryList.{HaveShortNames}
 use Rattle.cfb_siblings.proofs.Alone.{one-named}
 use Rattle.cfb_entries.proofs.Contents.{in-middle, short-at}
 use Rattle.cfb_entries.proofs.Moves.{AreApart, IsMoved, moved-lists}
+use Rattle.cfb_format.proofs.Tests.{if-false, if-true}
 
 -- in one storage of a tree no two entries have the same name
 pub children-apart : (cases : Cases) (es : List Entry) (o : Outline) → AreApart cases (names_in es) (IsChildIn cases es o)

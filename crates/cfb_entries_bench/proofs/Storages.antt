@@ -3,8 +3,8 @@ use Rattle.std.proofs.Common.{◌≡◌, ℕ, List, sym, subst, refl}
 use Rattle.cfb_format.specs.Names.{Cases}
 use Rattle.cfb_format.specs.DirectoryEntry.{Entry}
 use Rattle.cfb_outline.specs.Outlines.{IsReachedStorage}
-use Rattle.cfb_siblings.specs.Order.{IsPlaceFor, steps_of}
-use Rattle.cfb_siblings.specs.Laws.{grown_by}
+use Rattle.cfb_entries_bench.specs.cfb_siblings.Order.{IsPlaceFor, steps_of}
+use Rattle.cfb_entries_bench.specs.cfb_siblings.Laws.{grown_by}
 use Rattle.cfb_entries.specs.declared.insertion.Insertion.{Insertion}
 use Rattle.cfb_entries.specs.Insertions.{IsInsertionOf, name_in}
 use Rattle.cfb_entries.proofs.Contents.{insertion-stays, reached-stays}

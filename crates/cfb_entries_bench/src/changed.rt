@@ -2,7 +2,7 @@
 ghost use Rattle.std.specs.Prelude.{◌≡◌, ℕ, ◌<◌, ◌≤◌, false, length, IfOk};
 ghost use Rattle.cfb_format.specs.Siblings.{entry_at};
 ghost use Rattle.cfb_outline.specs.Outlines.{IsReachedStorage};
-ghost use Rattle.cfb_siblings.specs.Laws.{grown_by};
+ghost use Rattle.cfb_entries_bench.specs.cfb_siblings.Laws.{grown_by};
 
 use crate::directories::is_stream;
 use cfb_codecs::direntry::DirEntry;

@@ -6,16 +6,16 @@ use Rattle.cfb_format.specs.DirectoryEntry.{Entry}
 use Rattle.cfb_format.specs.Reading.{numbers, siblings}
 use Rattle.cfb_format.specs.Siblings.{Balanced, HangsAt, SiblingTree, entry_at, in_order}
 use Rattle.cfb_format.proofs.Unique.{Below-unique, HangsAt-unique}
-use Rattle.cfb_siblings.specs.Painted.{times_in}
-use Rattle.cfb_siblings.proofs.Tallies.{counted, present}
-use Rattle.cfb_siblings.proofs.Outlines.{siblings-numbers}
-use Rattle.cfb_trees.specs.Reached.{IsReached}
-use Rattle.cfb_trees.proofs.Colored.{SamePaint}
-use Rattle.cfb_trees.proofs.Joined.{joined-numbers, kinds-stay}
-use Rattle.cfb_trees.proofs.Members.{below-once, reached-is-used}
-use Rattle.cfb_trees.proofs.Parents.{links-child}
-use Rattle.cfb_trees.proofs.Reached.{below-reached, root-is-reached, root-or-below}
-use Rattle.cfb_trees.proofs.Standing.{at-apart, at-held, at-within, stands-at}
+use Rattle.cfb_entry_changes.specs.cfb_siblings.Painted.{times_in}
+use Rattle.cfb_entry_changes.proofs.cfb_siblings.Tallies.{counted, present}
+use Rattle.cfb_entry_changes.proofs.cfb_siblings.Outlines.{siblings-numbers}
+use Rattle.cfb_entry_changes.specs.cfb_trees.Reached.{IsReached}
+use Rattle.cfb_entry_changes.proofs.cfb_trees.Colored.{SamePaint}
+use Rattle.cfb_entry_changes.proofs.cfb_trees.Joined.{joined-numbers, kinds-stay}
+use Rattle.cfb_entry_changes.proofs.cfb_trees.Members.{below-once, reached-is-used}
+use Rattle.cfb_entry_changes.proofs.cfb_trees.Parents.{links-child}
+use Rattle.cfb_entry_changes.proofs.cfb_trees.Reached.{below-reached, root-is-reached, root-or-below}
+use Rattle.cfb_entry_changes.proofs.cfb_trees.Standing.{at-apart, at-held, at-within, stands-at}
 use Rattle.cfb_objects.proofs.Balance.{balance-kept, nothing-hangs}
 use Rattle.cfb_entry_changes.specs.Balance.{InsertionKeepsBalance}
 

@@ -1,7 +1,6 @@
 -- All that is below one storage taken from a directory at once.
 use Rattle.std.proofs.Common.{◌≡◌, ◌≢◌, inl, inr, ◌≤◌, ℕ, List, [], ◌∷◌, refl, sym, ◌∙◌, ap, subst, length, length-set, get_or-set_same, get_or-set_other, arith}
 use Rattle.std.specs.Prelude.{Contains, Some, ◌%◌, ◌↔◌, ◌+◌, slice_set}
-use Rattle.std.specs.List.{IsDistinct}
 use Rattle.std.proofs.lemmas.Bool.{cases_eq, cases_lt}
 use Rattle.cfb_format.specs.declared.objtype.ObjType.TheVariants.{Stream}
 use Rattle.cfb_format.specs.Bytes.{no_stream}
@@ -9,40 +8,35 @@ use Rattle.cfb_format.specs.DirectoryEntry.{Entry, unallocated_entry}
 use Rattle.cfb_format.specs.Meaning.{objects_from, storage_info, stream_info}
 use Rattle.cfb_format.specs.Names.{Cases}
 use Rattle.cfb_format.specs.Reading.{IsOutline, Outline, no_more, numbers, siblings}
-use Rattle.cfb_format.specs.Siblings.{Balanced, Below, entry_at, in_order, leaf}
+use Rattle.cfb_format.specs.Siblings.{Balanced, Below, entry_at, in_order}
 use Rattle.cfb_format.specs.Tree.{is_same_name, nothing}
-use Rattle.cfb_format.proofs.Unique.{Below-unique, HangsAt-unique}
-use Rattle.cfb_rules.specs.CallChanges.{tree_changed_at}
-use Rattle.cfb_siblings.specs.Children.{ButChild}
-use Rattle.cfb_siblings.specs.Laws.{SameEntry, SameLinks}
-use Rattle.cfb_siblings.specs.Painted.{times_in}
-use Rattle.cfb_siblings.specs.Paths.{number_from}
-use Rattle.cfb_siblings.proofs.Kept.{below-kept, objects-kept}
-use Rattle.cfb_siblings.proofs.Outlines.{siblings-numbers}
-use Rattle.cfb_siblings.proofs.Tallies.{counted, hit-same, outside, present, uncounted}
-use Rattle.cfb_outline.specs.Outlines.{HasInside}
-use Rattle.cfb_trees.specs.Reached.{IsReached}
-use Rattle.cfb_trees.proofs.Colored.{SamePaint}
-use Rattle.cfb_trees.proofs.Kept.{SameNode, children-kept, contents-kept, same-node}
-use Rattle.cfb_trees.proofs.Members.{below-once, reached-is-within, reached-once, storage-is-no-stream}
-use Rattle.cfb_trees.proofs.Parents.{parent-kind, parent-links, root-len}
-use Rattle.cfb_trees.proofs.PathDown.{Down, down-number, number-down}
-use Rattle.cfb_trees.proofs.Reached.{below-reached, root-is-reached, root-or-below}
-use Rattle.cfb_trees.proofs.Replaced.{Becomes, becomes}
-use Rattle.cfb_trees.proofs.Standing.{StandsAt, at-apart, at-held, at-inner, at-within, owned, stands, stands-at, stands-held, stands-inner, stands-kind}
-use Rattle.cfb_trees.specs.Balance.{StayBalanced}
+use Rattle.cfb_format.proofs.Unique.{Below-unique, HangsAt-unique, outline-unique}
+use Rattle.cfb_entry_changes.specs.cfb_rules.CallChanges.{tree_changed_at}
+use Rattle.cfb_entry_changes.specs.cfb_siblings.Children.{ButChild}
+use Rattle.cfb_entry_changes.specs.cfb_siblings.Laws.{SameEntry, SameLinks}
+use Rattle.cfb_entry_changes.specs.cfb_siblings.Painted.{times_in}
+use Rattle.cfb_entry_changes.specs.cfb_siblings.Paths.{number_from}
+use Rattle.cfb_entry_changes.proofs.cfb_siblings.Kept.{below-kept, objects-kept}
+use Rattle.cfb_entry_changes.proofs.cfb_siblings.Outlines.{siblings-numbers}
+use Rattle.cfb_entry_changes.proofs.cfb_siblings.Tallies.{counted, hit-same, outside, present, uncounted}
+use Rattle.cfb_entry_changes.specs.cfb_outline.Outlines.{HasInside}
+use Rattle.cfb_entry_changes.specs.cfb_trees.Reached.{IsReached}
+use Rattle.cfb_entry_changes.proofs.cfb_trees.Colored.{SamePaint}
+use Rattle.cfb_entry_changes.proofs.cfb_trees.Kept.{SameNode, children-kept, contents-kept, same-node}
+use Rattle.cfb_entry_changes.proofs.cfb_trees.Members.{below-once, reached-is-within, reached-once, storage-is-no-stream}
+use Rattle.cfb_entry_changes.proofs.cfb_trees.Parents.{parent-kind, parent-links, root-len}
+use Rattle.cfb_entry_changes.proofs.cfb_trees.PathDown.{Down, down-number, number-down}
+use Rattle.cfb_entry_changes.proofs.cfb_trees.Reached.{below-reached, root-is-reached, root-or-below}
+use Rattle.cfb_entry_changes.proofs.cfb_trees.Replaced.{Becomes, becomes}
+use Rattle.cfb_entry_changes.proofs.cfb_trees.Standing.{StandsAt, at-apart, at-held, at-inner, at-within, owned, stands, stands-at, stands-held, stands-inner, stands-kind}
+use Rattle.cfb_entry_changes.specs.cfb_trees.Balance.{StayBalanced}
 use Rattle.cfb_objects.proofs.Balance.{balance-kept, nothing-hangs}
 use Rattle.cfb_objects.specs.Objects.{tree_from}
 use Rattle.cfb_objects.proofs.Added.{parent-object}
 use Rattle.cfb_objects.proofs.Level.{KeptBeside, replaced-tree}
 use Rattle.cfb_objects.proofs.Places.{place-of}
-use Rattle.cfb_objects.proofs.Same.{same-outline}
-use Rattle.cfb_entry_changes.specs.Clearing.{HasCleared}
-
--- nothing hangs where there is no child
-none-below : (cases : Cases) (es : List Entry) (top : ℕ) → top ≡ no_stream → Below cases es top []
-unfolding IsDistinct
-none-below cases es top e = record { tree = leaf; hangs = e; is_in_order = refl; distinct = tt; rises = tt }
+use Rattle.cfb_entry_changes.specs.cfb_entries.Clearing.{HasCleared}
+use Rattle.cfb_entry_changes.proofs.cfb_entries.Cleared.{none-below}
 
 module _ (cases : Cases) (old new : List Entry) (o : Outline) (top : ℕ) (x : Outline) (is : IsOutline cases old o) (reached : IsReached o top)
     (ne : (entry_at old top).obj_type ≢ Stream) (inside : HasInside cases old top x) (did : HasCleared old new top (numbers x)) where
@@ -51,7 +45,7 @@ module _ (cases : Cases) (old new : List Entry) (o : Outline) (top : ℕ) (x : O
   standing =
       let (y, s) = stands-at cases old o is top ne (counted top (0 ∷ numbers o) reached) in
       let held = at-held cases old o is top y s in
-      let same : y ≡ x = same-outline cases old y x (Below-unique cases old (entry_at old top).child (siblings y) (siblings x) held.0 inside.children) held.1 inside.contents in
+      let same : y ≡ x = outline-unique cases old y x (Below-unique cases old (entry_at old top).child (siblings y) (siblings x) held.0 inside.children) held.1 inside.contents in
       subst (λ (z : Outline). StandsAt top z o) same s
 
   once : (k : ℕ) → times_in k (0 ∷ numbers o) ≤ 1

@@ -11,16 +11,16 @@ use Rattle.cfb_format.specs.Reading.{Outline, siblings, numbers, IsOutline}
 use Rattle.cfb_format.specs.Meaning.{objects_from}
 use Rattle.cfb_format.specs.Tree.{is_same_name, without}
 use Rattle.cfb_format.proofs.Unique.{Below-unique}
-use Rattle.cfb_rules.specs.CallChanges.{removed_at, tree_changed_at}
-use Rattle.cfb_rules.specs.Finding.{last_name, parent_names}
-use Rattle.cfb_siblings.specs.Painted.{times_in}
-use Rattle.cfb_siblings.specs.Children.{HasRemoved}
-use Rattle.cfb_siblings.specs.Laws.{IgnoresLinks, StandsFor}
-use Rattle.cfb_siblings.proofs.Objects.{object-is-dropped}
-use Rattle.cfb_siblings.proofs.Tallies.{once-distinct, outside}
-use Rattle.cfb_trees.proofs.Members.{reached-once}
-use Rattle.cfb_trees.proofs.Parents.{parent-links}
-use Rattle.cfb_trees.proofs.Standing.{StandsAt, at-inner, at-held}
+use Rattle.cfb_entry_changes.specs.cfb_rules.CallChanges.{removed_at, tree_changed_at}
+use Rattle.cfb_entry_changes.specs.cfb_rules.Finding.{last_name, parent_names}
+use Rattle.cfb_entry_changes.specs.cfb_siblings.Painted.{times_in}
+use Rattle.cfb_entry_changes.specs.cfb_siblings.Children.{HasRemoved}
+use Rattle.cfb_entry_changes.specs.cfb_siblings.Laws.{IgnoresLinks, StandForObjects}
+use Rattle.cfb_entry_changes.proofs.cfb_siblings.Objects.{object-is-dropped}
+use Rattle.cfb_entry_changes.proofs.cfb_siblings.Tallies.{once-distinct, outside}
+use Rattle.cfb_entry_changes.proofs.cfb_trees.Members.{reached-once}
+use Rattle.cfb_entry_changes.proofs.cfb_trees.Parents.{parent-links}
+use Rattle.cfb_entry_changes.proofs.cfb_trees.Standing.{StandsAt, at-inner, at-held}
 use Rattle.cfb_objects.specs.Objects.{tree_from}
 use Rattle.cfb_objects.proofs.Added.{parent-object}
 use Rattle.cfb_objects.proofs.Level.{KeptBeside, replaced-tree}
@@ -52,7 +52,7 @@ module _ (cases : Cases) (old new : List Entry) (c : Entry → List ℕ) (o o' x
 
   pub dropped-at : tree_from new c o' ≡ tree_changed_at cases (without cases name) names (tree_from old c o)
   dropped-at =
-      let s : StandsFor cases new c list (without cases name (objects_from old c x)) =
+      let s : StandForObjects cases new c list (without cases name (objects_from old c x)) =
       object-is-dropped cases old new c parent n freed name xs ys list x rem list-is (at-held cases old o is parent x stands).1 apart ignores called childless in
       replaced-tree cases old new c c parent o x s.inside o' (without cases name) is new_is ne kept
       (subst (λ (l : List ℕ). Below cases new (entry_at new parent).child l) (sym s.siblings_are) rem.now.below) s.contents s.objects_are names at

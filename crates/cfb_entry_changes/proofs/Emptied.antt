@@ -9,15 +9,14 @@ use Rattle.cfb_format.specs.Reading.{IsOutline, Outline, numbers, stream_numbers
 use Rattle.cfb_format.specs.Siblings.{entry_at}
 use Rattle.cfb_format.specs.Tree.{nothing}
 use Rattle.cfb_format.proofs.Unique.{IsOutline-unique}
-use Rattle.cfb_rules.specs.CallChanges.{tree_changed_at}
-use Rattle.cfb_siblings.specs.Paths.{number_from}
-use Rattle.cfb_siblings.proofs.Tallies.{counted, present, uncounted}
-use Rattle.cfb_tables.proofs.Members.{Contains-or}
-use Rattle.cfb_trees.specs.Reached.{IsReached}
-use Rattle.cfb_trees.proofs.Members.{of-stream-kind, streams-are-by-kind}
-use Rattle.cfb_trees.proofs.Streams.{below-is-reached}
-use Rattle.cfb_trees.specs.Balance.{StayBalanced}
-use Rattle.cfb_mini_sectors.specs.State.{MiniState, cases_of, content_of, entries_of}
+use Rattle.cfb_entry_changes.specs.cfb_rules.CallChanges.{tree_changed_at}
+use Rattle.cfb_entry_changes.specs.cfb_siblings.Paths.{number_from}
+use Rattle.cfb_entry_changes.proofs.cfb_siblings.Tallies.{counted, present, uncounted}
+use Rattle.cfb_entry_changes.specs.cfb_trees.Reached.{IsReached}
+use Rattle.cfb_entry_changes.proofs.cfb_trees.Members.{of-stream-kind, streams-are-by-kind}
+use Rattle.cfb_entry_changes.proofs.cfb_trees.Streams.{below-is-reached}
+use Rattle.cfb_entry_changes.specs.cfb_trees.Balance.{StayBalanced}
+use Rattle.cfb_entry_changes.specs.cfb_mini_sectors.State.{MiniState, cases_of, content_of, entries_of}
 use Rattle.cfb_objects.proofs.Same.{tree-stays}
 use Rattle.cfb_entry_changes.specs.Standing.{StreamsStand, WritesEntries}
 use Rattle.cfb_entry_changes.specs.Clearing.{ClearsStorage, WritesClearing}
@@ -26,6 +25,7 @@ use Rattle.cfb_entry_changes.specs.Laws.{ClearedEmptiesTree, ClearedHasOutline, 
 use Rattle.cfb_entry_changes.proofs.Cleared.{after, now-balanced, now-found, now-is, now-reaches, now-tree, kind-same, root-apart}
 use Rattle.cfb_entry_changes.proofs.Standing.{all-used-now, changeable-now, reads-as-before, snug-now}
 use Rattle.cfb_entry_changes.proofs.Trees.{entries-become}
+use Rattle.cfb_format.proofs.Members.{Contains-or}
 
 module _ (old new : MiniState) (top : ℕ) (t : ClearsStorage old new top) (o : Outline) (is : IsOutline (cases_of old) (entries_of old) o) where
   pub reached : IsReached o top

@@ -8,34 +8,34 @@ use Rattle.cfb_format.specs.DirectoryEntry.{Entry}
 use Rattle.cfb_format.specs.Reading.{IsOutline, Outline, numbers, stream_numbers}
 use Rattle.cfb_format.specs.Siblings.{entry_at}
 use Rattle.cfb_format.proofs.Unique.{IsOutline-unique}
-use Rattle.cfb_codecs.specs.EntryModel.{new_entry}
-use Rattle.cfb_rules.specs.Finding.{last_name, parent_names}
-use Rattle.cfb_rules.proofs.CreatedFound.{same_itself}
+use Rattle.cfb_entry_changes.specs.cfb_codecs.EntryModel.{new_entry}
+use Rattle.cfb_entry_changes.specs.cfb_rules.Finding.{last_name, parent_names}
+use Rattle.cfb_entry_changes.proofs.cfb_rules.CreatedFound.{same_itself}
 use Rattle.std.proofs.lemmas.Bool.{cases_eq}
-use Rattle.cfb_siblings.specs.Children.{ButLinks}
-use Rattle.cfb_siblings.specs.Way.{unlinked}
-use Rattle.cfb_siblings.specs.Paths.{number_from}
-use Rattle.cfb_tables.specs.Tables.{AreExactTables}
-use Rattle.cfb_tables.proofs.Members.{Contains-or, Contains-there}
-use Rattle.cfb_trees.specs.Changes.{HasMore}
-use Rattle.cfb_trees.specs.Reached.{IsReached}
-use Rattle.cfb_trees.proofs.Joined.{insertion-keeps-outline}
-use Rattle.cfb_trees.proofs.Members.{streams-are-by-kind}
-use Rattle.cfb_trees.proofs.Same.{growth-keeps-outline, same-fields}
-use Rattle.cfb_trees.proofs.Streams.{insertion-keeps-streams}
-use Rattle.cfb_entries.specs.EntryList.{has_free}
-use Rattle.cfb_directory.specs.State.{with_room}
-use Rattle.cfb_directory.proofs.InsertWhole.{has-room, roomy-longer, roomy-same}
-use Rattle.cfb_directory.proofs.NamesFound.{inserted-is-found}
-use Rattle.cfb_mini.proofs.RootStays.{inserted-root}
-use Rattle.cfb_mini_sectors.specs.State.{MiniState, cases_of, entries_of, version_of}
+use Rattle.cfb_entry_changes.specs.cfb_siblings.Children.{ButLinks}
+use Rattle.cfb_entry_changes.specs.cfb_siblings.Way.{unlinked}
+use Rattle.cfb_entry_changes.specs.cfb_siblings.Paths.{number_from}
+use Rattle.cfb_entry_changes.specs.cfb_tables.Tables.{AreExactTables}
+use Rattle.cfb_entry_changes.specs.cfb_trees.Changes.{HasMore}
+use Rattle.cfb_entry_changes.specs.cfb_trees.Reached.{IsReached}
+use Rattle.cfb_entry_changes.proofs.cfb_trees.Joined.{insertion-keeps-outline}
+use Rattle.cfb_entry_changes.proofs.cfb_trees.Members.{streams-are-by-kind}
+use Rattle.cfb_entry_changes.proofs.cfb_trees.Same.{growth-keeps-outline, same-fields}
+use Rattle.cfb_entry_changes.proofs.cfb_trees.Streams.{insertion-keeps-streams}
+use Rattle.cfb_entry_changes.specs.cfb_entries.EntryList.{has_free}
+use Rattle.cfb_entry_changes.specs.cfb_directory.State.{with_room}
+use Rattle.cfb_entry_changes.proofs.cfb_directory.InsertWhole.{has-room, roomy-longer, roomy-same}
+use Rattle.cfb_entry_changes.proofs.cfb_directory.NamesFound.{inserted-is-found}
+use Rattle.cfb_entry_changes.proofs.cfb_mini.RootStays.{inserted-root}
+use Rattle.cfb_entry_changes.specs.cfb_mini_sectors.State.{MiniState, cases_of, entries_of, version_of}
 use Rattle.cfb_content.specs.Contents.{len_of}
 use Rattle.cfb_content.proofs.SnugMini.{kept-is-snug-mini}
-use Rattle.cfb_trees.specs.Balance.{IsBalanced, StayBalanced}
+use Rattle.cfb_entry_changes.specs.cfb_trees.Balance.{IsBalanced, StayBalanced}
 use Rattle.cfb_entry_changes.specs.Putting.{PutsObject}
 use Rattle.cfb_objects.proofs.Balance.{fields-keep-balance}
 use Rattle.cfb_entry_changes.proofs.Balance.{insertion-keeps-balance}
 use Rattle.cfb_entry_changes.specs.InsertionLaws.{PutHasOutline, PutIsBalanced, PutIsExact, PutIsSnugMini, PutObjectIsFound, PutIsNew, PutKeepsRoot, PutGrowsTightly}
+use Rattle.cfb_format.proofs.Members.{Contains-or, Contains-there}
 
 -- the names before the last, and the last, are all
 all-names : (first : List ℕ) (names : List (List ℕ)) → parent_names (first ∷ names) ++ last_name (first ∷ names) ∷ [] ≡ first ∷ names

@@ -5,8 +5,8 @@ use Rattle.std.specs.List.{list_any}
 use Rattle.std.proofs.lemmas.List.Sums.{length-filter}
 use Rattle.cfb_format.specs.DirectoryEntry.{Entry}
 use Rattle.cfb_format.specs.Full.{is_unallocated}
-use Rattle.cfb_tables.proofs.FullLemmas.{too-few-is-no-room}
-use Rattle.cfb_mini_sectors.specs.State.{tables_in}
+use Rattle.cfb_entry_changes.proofs.cfb_tables.FullLemmas.{too-few-is-no-room}
+use Rattle.cfb_entry_changes.specs.cfb_mini_sectors.State.{tables_in}
 use Rattle.cfb_entry_changes.specs.InsertionLaws.{FullForEntryIsFull}
 
 none-left : {X : Type 0} (p : X → Bool) (xs : List X) → list_any p xs ≡ false → length (filter p xs) ≡ 0

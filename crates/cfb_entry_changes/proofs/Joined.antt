@@ -10,23 +10,23 @@ use Rattle.cfb_format.specs.Meaning.{storage_info, tree_of}
 use Rattle.cfb_format.specs.Reading.{IsOutline, Outline, Reads, no_more}
 use Rattle.cfb_format.specs.Siblings.{entry_at}
 use Rattle.cfb_format.specs.Tree.{Tree}
-use Rattle.cfb_codecs.specs.EntryModel.{new_entry}
-use Rattle.cfb_rules.specs.CallChanges.{storage_added_at, stream_added_at}
-use Rattle.cfb_rules.specs.Finding.{parent_names}
-use Rattle.cfb_siblings.specs.Paths.{number_from}
-use Rattle.cfb_siblings.specs.Way.{unlinked}
-use Rattle.cfb_trees.proofs.PathNames.{growth-keeps-names}
-use Rattle.cfb_entries.specs.EntryList.{has_free}
-use Rattle.cfb_directory.specs.State.{with_room}
-use Rattle.cfb_directory.proofs.InsertWhole.{has-room}
+use Rattle.cfb_entry_changes.specs.cfb_codecs.EntryModel.{new_entry}
+use Rattle.cfb_entry_changes.specs.cfb_rules.CallChanges.{storage_added_at, stream_added_at}
+use Rattle.cfb_entry_changes.specs.cfb_rules.Finding.{parent_names}
+use Rattle.cfb_entry_changes.specs.cfb_siblings.Paths.{number_from}
+use Rattle.cfb_entry_changes.specs.cfb_siblings.Way.{unlinked}
+use Rattle.cfb_entry_changes.proofs.cfb_trees.PathNames.{growth-keeps-names}
+use Rattle.cfb_entry_changes.specs.cfb_entries.EntryList.{has_free}
+use Rattle.cfb_entry_changes.specs.cfb_directory.State.{with_room}
+use Rattle.cfb_entry_changes.proofs.cfb_directory.InsertWhole.{has-room}
 use Rattle.cfb_objects.specs.Changes.{ContentsStay}
 use Rattle.cfb_objects.specs.Laws.{BecomesTree}
 use Rattle.cfb_objects.specs.Objects.{tree_from}
 use Rattle.cfb_objects.proofs.Added.{storage-is-added, stream-is-added}
 use Rattle.cfb_objects.proofs.Becoming.{tree-becomes}
 use Rattle.cfb_objects.proofs.Same.{growth-keeps-tree, readable-ignores-links}
-use Rattle.cfb_mini_sectors.specs.State.{MiniState, bytes_of, cases_of, content_of, entries_of, header_of_version, parts_of, reading_of, version_of}
-use Rattle.cfb_mini_sectors.proofs.HeldMini.{held-mini-is-read}
+use Rattle.cfb_entry_changes.specs.cfb_mini_sectors.State.{MiniState, bytes_of, cases_of, content_of, entries_of, header_of_version, parts_of, reading_of, version_of}
+use Rattle.cfb_entry_changes.proofs.cfb_mini_sectors.HeldMini.{held-mini-is-read}
 use Rattle.cfb_content.proofs.Apart.{held-header}
 use Rattle.cfb_entry_changes.specs.Putting.{WritesObject}
 use Rattle.cfb_entry_changes.specs.InsertionLaws.{PutStorageJoinsTree, PutStreamJoinsTree}
@@ -34,7 +34,7 @@ use Rattle.cfb_entry_changes.proofs.Entries.{no-stream, now, put-has-outline, ro
 use Rattle.cfb_entry_changes.proofs.Sound.{empty-content, reads-as-before}
 
 -- the tree of the parts is that of the entries and the contents
-tree-is : (s : MiniState) (h : Header) (o : Outline) → h.version ≡ version_of s → tree_of (bytes_of s) (reading_of h s o) ≡ tree_from (entries_of s) (content_of s) o
+pub tree-is : (s : MiniState) (h : Header) (o : Outline) → h.version ≡ version_of s → tree_of (bytes_of s) (reading_of h s o) ≡ tree_from (entries_of s) (content_of s) o
 tree-is s h o v = ap (λ w. tree_from (entries_of s) (readable (bytes_of s) (reading_of (header_of_version w) s no_more)) o) v
 
 module _ (v : Validation) (old new : MiniState) (parent n : ℕ) (name : List ℕ) (kind : ObjType) (moment : ℕ) (writes : WritesObject v old new parent n name kind moment)

@@ -1,3 +1,15 @@
+pub use Rattle.cfb_content.proofs.cfb_soundness
+pub use Rattle.cfb_objects.proofs.cfb_siblings
+pub use Rattle.cfb_objects.proofs.cfb_trees
+pub use Rattle.cfb_content.proofs.cfb_entries
+pub use Rattle.cfb_content.proofs.cfb_tables
+pub use Rattle.cfb_content.proofs.cfb_sound_changes
+pub use Rattle.cfb_content.proofs.cfb_directory
+pub use Rattle.cfb_content.proofs.cfb_mini_sectors
+pub use Rattle.cfb_content.proofs.cfb_mini
+pub use Rattle.cfb_content.proofs.cfb_rules
+pub use Rattle.cfb_objects.proofs as cfb_objects
+pub use Rattle.cfb_content.proofs as cfb_content
 pub mod Spared
 pub mod Balance
 pub mod Entries

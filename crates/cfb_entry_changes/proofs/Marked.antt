@@ -10,22 +10,22 @@ use Rattle.cfb_format.specs.Reading.{IsOutline, Outline, stream_numbers}
 use Rattle.cfb_format.specs.Siblings.{entry_at}
 use Rattle.cfb_format.specs.Tree.{StorageInfo, StreamInfo}
 use Rattle.cfb_format.proofs.Unique.{IsOutline-unique}
-use Rattle.cfb_rules.specs.CallChanges.{fields_changed_at}
-use Rattle.cfb_siblings.specs.Laws.{SameObject}
-use Rattle.cfb_siblings.specs.Paths.{number_from}
-use Rattle.cfb_trees.specs.Changes.{ButFields}
-use Rattle.cfb_trees.specs.Reached.{IsReached}
-use Rattle.cfb_trees.proofs.Members.{root-is-no-stream, streams-are-by-kind}
-use Rattle.cfb_trees.proofs.PathNames.{same-from}
-use Rattle.cfb_trees.proofs.PathReached.{found-is-reached}
-use Rattle.cfb_trees.proofs.Reached.{root-or-below}
-use Rattle.cfb_trees.proofs.Same.{fields-keep-outline, set-fields}
-use Rattle.cfb_entries.specs.Fields.{entry_with_fields}
-use Rattle.cfb_entries.specs.declared.fields.Fields.{Fields}
-use Rattle.cfb_directory.proofs.ChangedFields.{changed_beside, changed_here, changed_length}
+use Rattle.cfb_entry_changes.specs.cfb_rules.CallChanges.{fields_changed_at}
+use Rattle.cfb_entry_changes.specs.cfb_siblings.Laws.{SameObject}
+use Rattle.cfb_entry_changes.specs.cfb_siblings.Paths.{number_from}
+use Rattle.cfb_entry_changes.specs.cfb_trees.Changes.{ButFields}
+use Rattle.cfb_entry_changes.specs.cfb_trees.Reached.{IsReached}
+use Rattle.cfb_entry_changes.proofs.cfb_trees.Members.{root-is-no-stream, streams-are-by-kind}
+use Rattle.cfb_entry_changes.proofs.cfb_trees.PathNames.{same-from}
+use Rattle.cfb_entry_changes.proofs.cfb_trees.PathReached.{found-is-reached}
+use Rattle.cfb_entry_changes.proofs.cfb_trees.Reached.{root-or-below}
+use Rattle.cfb_entry_changes.proofs.cfb_trees.Same.{fields-keep-outline, set-fields}
+use Rattle.cfb_entry_changes.specs.cfb_entries.Fields.{entry_with_fields}
+use Rattle.cfb_entry_changes.specs.cfb_entries.declared.fields.Fields.{Fields}
+use Rattle.cfb_entry_changes.proofs.cfb_directory.ChangedFields.{changed_beside, changed_here, changed_length}
 use Rattle.cfb_objects.specs.Changes.{ChangesFields}
 use Rattle.cfb_objects.proofs.Fields.{fields-change-in-place}
-use Rattle.cfb_mini_sectors.specs.State.{MiniState, cases_of, content_of, entries_of}
+use Rattle.cfb_entry_changes.specs.cfb_mini_sectors.State.{MiniState, cases_of, content_of, entries_of}
 use Rattle.cfb_content.specs.Contents.{len_of}
 use Rattle.cfb_content.proofs.SnugMini.{kept-is-snug-mini}
 use Rattle.cfb_objects.proofs.Balance.{fields-keep-balance}

@@ -4,10 +4,10 @@ use Rattle.cfb_format.specs.DirectoryEntry.{ButContent, Entry}
 use Rattle.cfb_format.specs.Reading.{Outline}
 use Rattle.cfb_format.specs.Siblings.{entry_at}
 use Rattle.cfb_format.proofs.Unique.{IsOutline-unique}
-use Rattle.cfb_siblings.specs.Paths.{number_from}
-use Rattle.cfb_trees.specs.Changes.{ButFields}
-use Rattle.cfb_trees.proofs.PathNames.{same-from}
-use Rattle.cfb_mini_sectors.specs.State.{MiniState, cases_of, entries_of}
+use Rattle.cfb_entry_changes.specs.cfb_siblings.Paths.{number_from}
+use Rattle.cfb_entry_changes.specs.cfb_trees.Changes.{ButFields}
+use Rattle.cfb_entry_changes.proofs.cfb_trees.PathNames.{same-from}
+use Rattle.cfb_entry_changes.specs.cfb_mini_sectors.State.{MiniState, cases_of, entries_of}
 use Rattle.cfb_content.specs.Contents.{MovesContent}
 use Rattle.cfb_content.proofs.Outlines.{moved-at, moved-is-outline}
 use Rattle.cfb_entry_changes.specs.Laws.{MovedIsFound}

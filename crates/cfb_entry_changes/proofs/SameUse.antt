@@ -4,10 +4,10 @@ use Rattle.std.specs.Prelude.{Contains, flat_map, nat_eq}
 use Rattle.std.specs.List.{IsDistinct}
 use Rattle.std.proofs.lemmas.Bool.{cases_eq}
 use Rattle.std.proofs.lemmas.Grind.{flat_map-append}
-use Rattle.cfb_tables.specs.Owners.{tally}
-use Rattle.cfb_tables.proofs.Counts.{distinct-tally, in-tally, tally-append, tally-distinct, tally-in, tally-out}
-use Rattle.cfb_tables.proofs.Members.{Contains-here, Contains-nil, Contains-one, Contains-or, Contains-split, Contains-there}
-use Rattle.cfb_sound_changes.specs.Grown.{GrowsBy}
+use Rattle.cfb_entry_changes.specs.cfb_tables.Owners.{tally}
+use Rattle.cfb_entry_changes.proofs.cfb_tables.Counts.{distinct-tally, in-tally, tally-append, tally-distinct, tally-in, tally-out}
+use Rattle.cfb_entry_changes.specs.cfb_sound_changes.Grown.{GrowsBy}
+use Rattle.cfb_format.proofs.Members.{Contains-here, Contains-nil, Contains-one, Contains-or, Contains-split, Contains-there}
 
 cons-tally : (k x : ℕ) (xs : List ℕ) → tally k (x ∷ xs) ≡ tally k (x ∷ []) + tally k xs
 cons-tally k x xs = tally-append k (x ∷ []) xs

@@ -11,13 +11,13 @@ use Rattle.cfb_format.specs.Header.{IsHeader}
 use Rattle.cfb_format.specs.Reading.{IsOutline, Outline, stream_numbers}
 use Rattle.cfb_format.specs.Siblings.{entry_at}
 use Rattle.cfb_format.specs.Soundness.{IsSound, used_mini_sectors, used_sectors}
-use Rattle.cfb_tables.specs.Owners.{Uses}
-use Rattle.cfb_tables.proofs.UseLemmas.{nothing-loose, uses-kept}
-use Rattle.cfb_alloc.specs.Agreement.{WordsAgree}
-use Rattle.cfb_siblings.specs.Children.{ButLinks}
-use Rattle.cfb_sound_changes.specs.Kept.{IsReady}
-use Rattle.cfb_sound_changes.proofs.Kept.{used-sound}
-use Rattle.cfb_mini_sectors.specs.State.{MiniState, bytes_of, cases_of, content_of, entries_of, parts_of, reading_of, tables_in}
+use Rattle.cfb_entry_changes.specs.cfb_tables.Owners.{Uses}
+use Rattle.cfb_entry_changes.proofs.cfb_tables.UseLemmas.{nothing-loose, uses-kept}
+use Rattle.cfb_entry_changes.specs.cfb_alloc.Agreement.{WordsAgree}
+use Rattle.cfb_entry_changes.specs.cfb_siblings.Children.{ButLinks}
+use Rattle.cfb_entry_changes.specs.cfb_sound_changes.Kept.{ShowsSoundness}
+use Rattle.cfb_entry_changes.proofs.cfb_sound_changes.Kept.{used-sound}
+use Rattle.cfb_entry_changes.specs.cfb_mini_sectors.State.{MiniState, bytes_of, cases_of, content_of, entries_of, parts_of, reading_of, tables_in}
 use Rattle.cfb_content.specs.Contents.{IsSnug, len_of, parts_with}
 use Rattle.cfb_content.proofs.Apart.{content-is, sound-at, version-is}
 use Rattle.cfb_content.proofs.Owned.{empty-owns-nothing}
@@ -87,7 +87,7 @@ module _ (v : Validation) (old new : MiniState) (parent n : ℕ) (name : List �
     pub sound-now : (h : Header) → IsHeader (bytes_of new) h → IsSound (bytes_of new) (reading_of h new after)
     sound-now h is_h =
         let version = version-is v new h writes.held is_h in
-        let ready : IsReady (bytes_of new) (reading_of h new after) = record {
+        let ready : ShowsSoundness (bytes_of new) (reading_of h new after) = record {
           agrees = subst (λ w. WordsAgree w (bytes_of new) (tables_in new).fat_sectors (tables_in new).difat_sectors (tables_in new).fat) (sym version) writes.held.directory.tables.holds.agrees;
           mini_stream = subst (λ (w : Option (List ℕ)). IsSome w) (sym writes.held.mini_stream.chain) refl;
           chains = chain-at;

@@ -9,18 +9,19 @@ use Rattle.cfb_format.specs.DirectoryEntry.{Entry}
 use Rattle.cfb_format.specs.Reading.{IsOutline, Outline, stream_numbers}
 use Rattle.cfb_format.specs.Siblings.{entry_at}
 use Rattle.cfb_format.proofs.Chains.{chain_from-IsChain}
-use Rattle.cfb_tables.proofs.ChainLemmas.{chain-stays}
-use Rattle.cfb_tables.proofs.Members.{Contains-nil}
-use Rattle.cfb_alloc.specs.Frame.{IsForeign, Spares}
-use Rattle.cfb_soundness.specs.Places.{mini_start}
-use Rattle.cfb_mini_sectors.specs.State.{IsChangeable, MiniState, cases_of, entries_of, mini_stream_of, parts_of, table_of, tables_in}
-use Rattle.cfb_mini_sectors.specs.Steps.{KeepsMini, SparesMini}
+use Rattle.cfb_entry_changes.proofs.cfb_tables.ChainLemmas.{chain-stays}
+use Rattle.cfb_entry_changes.specs.cfb_alloc.Frame.{IsForeign, Spares}
+use Rattle.cfb_entry_changes.specs.cfb_soundness.Places.{mini_start}
+use Rattle.cfb_entry_changes.specs.cfb_mini_sectors.State.{IsChangeable, MiniState, cases_of, entries_of, mini_stream_of, parts_of, table_of, tables_in}
+use Rattle.cfb_entry_changes.specs.cfb_mini_sectors.Steps.{KeepsMini, SparesMini}
 use Rattle.cfb_content.specs.Contents.{IsStreamOf, mini_sectors_owned, sectors_owned}
 use Rattle.cfb_content.specs.Laws.{IsApart}
 use Rattle.cfb_content.proofs.Apart.{minis-busy, own-is-apart, sectors-busy, sound-at}
 use Rattle.cfb_content.proofs.Kept.{kept-mini-spared}
-use Rattle.cfb_content.proofs.Owned.{large-content, large-owned, small-content, small-owned, some-of}
+use Rattle.cfb_content.proofs.Owned.{large-content, large-owned, small-content, small-owned}
 use Rattle.cfb_entry_changes.specs.InsertionLaws.{PutKeepsStreams}
+use Rattle.cfb_format.proofs.Members.{Contains-nil}
+use Rattle.cfb_entry_changes.proofs.cfb_soundness.Others.{some_of}
 
 module _ (v : Validation) (old new : MiniState) (change : IsChangeable v old) (spares : Spares old.directory.sectors (table_of old) (table_of new)) (mini : KeepsMini old new)
     (o : Outline) (is : IsOutline (cases_of old) (entries_of old) o) (k : ℕ) (m : Contains (stream_numbers o) k) where
@@ -52,7 +53,7 @@ module _ (v : Validation) (old new : MiniState) (change : IsChangeable v old) (s
 
   large : is_large e ≡ true → sector_chain (parts_of new) e ≡ sector_chain (parts_of old) e
   large b =
-      let l = some-of (sector_chain (parts_of old) e) (subst (λ (w : Option (List ℕ)). IsSome w) (large-content old e b) some) in
+      let l = some_of (sector_chain (parts_of old) e) (subst (λ (w : Option (List ℕ)). IsSome w) (large-content old e b) some) in
       (chain_from-IsChain (tables_in new).fat e.start_sector l.0).1
       (chain-stays (tables_in old).fat (tables_in new).fat e.start_sector l.0
       (λ n c. let f = foreign b n (subst (λ (w : Option (List ℕ)). Contains (unwrap_or w []) n) (sym l.1) c) in spares.values n f.busy f.other)

@@ -13,23 +13,22 @@ use Rattle.cfb_format.specs.Reading.{IsOutline, Outline, stream_numbers}
 use Rattle.cfb_format.specs.Siblings.{entry_at}
 use Rattle.cfb_format.specs.Soundness.{IsSound, mini_stream_sectors, used_mini_sectors, used_sectors}
 use Rattle.cfb_format.proofs.Unique.{IsOutline-unique}
-use Rattle.cfb_tables.specs.Owners.{AllUsed, UseChanges, Uses, tally}
-use Rattle.cfb_tables.proofs.Members.{Contains-cases, Contains-here, Contains-nil, Contains-or, Contains-there, cons-distinct, distinct-cons, none_distinct}
-use Rattle.cfb_tables.proofs.UseLemmas.{nothing-loose, uses-kept}
-use Rattle.cfb_alloc.specs.Agreement.{WordsAgree}
-use Rattle.cfb_soundness.specs.Streams.{own_mini_sectors, own_sectors}
-use Rattle.cfb_sound_changes.specs.Grown.{GrowsBy}
-use Rattle.cfb_sound_changes.specs.Kept.{IsReady}
-use Rattle.cfb_sound_changes.proofs.Grown.{lists-stay, nothing-changes, used-grows}
-use Rattle.cfb_sound_changes.proofs.Kept.{sound-used, used-sound}
-use Rattle.cfb_sound_changes.proofs.MiniGrown.{used-minis-grow}
-use Rattle.cfb_mini_sectors.specs.State.{IsChangeable, MiniState, bytes_of, cases_of, content_of, entries_of, parts_of, reading_of, tables_in}
-use Rattle.cfb_mini_sectors.proofs.HeldMini.{held-mini-is-read}
+use Rattle.cfb_entry_changes.specs.cfb_tables.Owners.{AllUsed, UseChanges, Uses, tally}
+use Rattle.cfb_entry_changes.proofs.cfb_tables.UseLemmas.{nothing-loose, uses-kept}
+use Rattle.cfb_entry_changes.specs.cfb_alloc.Agreement.{WordsAgree}
+use Rattle.cfb_entry_changes.specs.cfb_soundness.Streams.{own_mini_sectors, own_sectors}
+use Rattle.cfb_entry_changes.specs.cfb_sound_changes.Grown.{GrowsBy}
+use Rattle.cfb_entry_changes.specs.cfb_sound_changes.Kept.{ShowsSoundness}
+use Rattle.cfb_entry_changes.proofs.cfb_sound_changes.Grown.{lists-stay, nothing-changes, used-grows}
+use Rattle.cfb_entry_changes.proofs.cfb_sound_changes.Kept.{sound-used, used-sound}
+use Rattle.cfb_entry_changes.proofs.cfb_sound_changes.MiniGrown.{used-minis-grow}
+use Rattle.cfb_entry_changes.specs.cfb_mini_sectors.State.{IsChangeable, MiniState, bytes_of, cases_of, content_of, entries_of, parts_of, reading_of, tables_in}
+use Rattle.cfb_entry_changes.proofs.cfb_mini_sectors.HeldMini.{held-mini-is-read}
 use Rattle.cfb_content.specs.Contents.{AreAllUsed, AreSnug, KeepsContent, len_of, mini_sectors_owned, parts_with, sectors_owned}
 use Rattle.cfb_content.proofs.Apart.{content-is, held-header, sound-at, version-is}
 use Rattle.cfb_content.proofs.Kept.{keeps-then}
 use Rattle.cfb_content.proofs.Outlines.{streams-once}
-use Rattle.cfb_content.proofs.Owned.{empty-owns-nothing, same-flat}
+use Rattle.cfb_content.proofs.Owned.{empty-owns-nothing}
 use Rattle.cfb_content.proofs.Readable.{kept-is-readable}
 use Rattle.cfb_content.proofs.Snug.{kept-is-snug}
 use Rattle.cfb_entry_changes.proofs.SameUse.{once-in-both, same-growth, same-tally}
@@ -37,6 +36,7 @@ use Rattle.cfb_entry_changes.proofs.Spared.{put-keeps-streams}
 use Rattle.cfb_entry_changes.proofs.Streams.{own-minis-stay, own-sectors-stay}
 use Rattle.cfb_entry_changes.specs.Standing.{SameContent, StreamsStand, WritesEntries}
 use Rattle.cfb_entry_changes.specs.Laws.{EntriesKeepStreams, StandingIsAllUsed, StandingIsChangeable, StandingIsSnug, StreamsAreKeptInTurn}
+use Rattle.cfb_format.proofs.Members.{Contains-cases, Contains-here, Contains-nil, Contains-or, Contains-there, cons-distinct, distinct-cons, none_distinct, same_flat}
 
 -- ---- lists of numbers that stood elsewhere
 
@@ -154,12 +154,12 @@ module _ (v : Validation) (old new : MiniState) (w : WritesEntries v old new) (o
 
     sectors-as-often : (k : ℕ) → tally k (flat_map (sectors_owned new) (stream_numbers after)) ≡ tally k (flat_map (sectors_owned old) (stream_numbers o))
     sectors-as-often k =
-        ap (tally k) (same-flat (λ j. sectors_owned old (from j)) (sectors_owned new) (stream_numbers after) owned-stays ∙ flat-from (sectors_owned old) from (stream_numbers after))
+        ap (tally k) (same_flat (λ j. sectors_owned old (from j)) (sectors_owned new) (stream_numbers after) owned-stays ∙ flat-from (sectors_owned old) from (stream_numbers after))
         ∙ same-tally (sectors_owned old) k stood (stream_numbers o) (as-often (sectors_owned old) (λ j z. (empty-owns-nothing old j z).sectors_are))
 
     minis-as-often : (k : ℕ) → tally k (flat_map (mini_sectors_owned new) (stream_numbers after)) ≡ tally k (flat_map (mini_sectors_owned old) (stream_numbers o))
     minis-as-often k =
-        ap (tally k) (same-flat (λ j. mini_sectors_owned old (from j)) (mini_sectors_owned new) (stream_numbers after) minis-stay ∙ flat-from (mini_sectors_owned old) from (stream_numbers after))
+        ap (tally k) (same_flat (λ j. mini_sectors_owned old (from j)) (mini_sectors_owned new) (stream_numbers after) minis-stay ∙ flat-from (mini_sectors_owned old) from (stream_numbers after))
         ∙ same-tally (mini_sectors_owned old) k stood (stream_numbers o) (as-often (mini_sectors_owned old) (λ j z. (empty-owns-nothing old j z).mini_sectors_are))
 
     same-stream : mini_stream_sectors (parts_with new after) ≡ mini_stream_sectors (parts_with old o)
@@ -206,7 +206,7 @@ module _ (v : Validation) (old new : MiniState) (w : WritesEntries v old new) (o
     pub sound-now : (h : Header) → IsHeader (bytes_of new) h → IsSound (bytes_of new) (reading_of h new after)
     sound-now h is_h =
         let version = version-is v new h w.held is_h in
-        let ready : IsReady (bytes_of new) (reading_of h new after) = record {
+        let ready : ShowsSoundness (bytes_of new) (reading_of h new after) = record {
           agrees = subst (λ x. WordsAgree x (bytes_of new) (tables_in new).fat_sectors (tables_in new).difat_sectors (tables_in new).fat) (sym version) w.held.directory.tables.holds.agrees;
           mini_stream = subst (λ (l : Option (List ℕ)). IsSome l) (sym w.held.mini_stream.chain) refl;
           chains = chain-at;

@@ -12,25 +12,26 @@ use Rattle.cfb_format.specs.DirectoryEntry.{Entry}
 use Rattle.cfb_format.specs.Reading.{IsOutline, Outline, Reading, Reads, stream_numbers}
 use Rattle.cfb_format.specs.Siblings.{entry_at}
 use Rattle.cfb_format.specs.Soundness.{IsSound, large_streams, mini_stream_sectors, sectors_of, used_mini_sectors, used_sectors}
-use Rattle.cfb_tables.specs.Listed.{ends_of, gained}
-use Rattle.cfb_tables.specs.Owners.{UseChanges, Uses, tally}
-use Rattle.cfb_soundness.specs.Streams.{own_mini_sectors, own_sectors}
-use Rattle.cfb_sound_changes.specs.Grown.{GrowsBy}
-use Rattle.cfb_sound_changes.proofs.Grown.{lists-go-on, lists-stay, nothing-changes, taken-used, used-grows}
-use Rattle.cfb_sound_changes.proofs.Kept.{sound-used}
-use Rattle.cfb_sound_changes.proofs.MiniGrown.{used-minis-grow}
-use Rattle.cfb_entries.specs.EntryList.{has_free}
-use Rattle.cfb_directory.proofs.InsertGrow.{ends-among}
-use Rattle.cfb_mini_sectors.specs.State.{MiniState, bytes_of, cases_of, entries_of, parts_of, reading_of, tables_in}
-use Rattle.cfb_mini_sectors.proofs.HeldMini.{held-mini-is-read}
+use Rattle.cfb_entry_changes.specs.cfb_tables.Listed.{ends_of, gained}
+use Rattle.cfb_entry_changes.specs.cfb_tables.Owners.{UseChanges, Uses, tally}
+use Rattle.cfb_entry_changes.specs.cfb_soundness.Streams.{own_mini_sectors, own_sectors}
+use Rattle.cfb_entry_changes.specs.cfb_sound_changes.Grown.{GrowsBy}
+use Rattle.cfb_entry_changes.proofs.cfb_sound_changes.Grown.{lists-go-on, lists-stay, nothing-changes, taken-used, used-grows}
+use Rattle.cfb_entry_changes.proofs.cfb_sound_changes.Kept.{sound-used}
+use Rattle.cfb_entry_changes.proofs.cfb_sound_changes.MiniGrown.{used-minis-grow}
+use Rattle.cfb_entry_changes.specs.cfb_entries.EntryList.{has_free}
+use Rattle.cfb_entry_changes.proofs.cfb_directory.InsertGrow.{ends-among}
+use Rattle.cfb_entry_changes.specs.cfb_mini_sectors.State.{MiniState, bytes_of, cases_of, entries_of, parts_of, reading_of, tables_in}
+use Rattle.cfb_entry_changes.proofs.cfb_mini_sectors.HeldMini.{held-mini-is-read}
 use Rattle.cfb_content.specs.Contents.{KeepsContent, mini_sectors_owned, parts_with, sectors_owned}
 use Rattle.cfb_content.proofs.Apart.{held-header}
 use Rattle.cfb_content.proofs.Outlines.{streams-once}
-use Rattle.cfb_content.proofs.Owned.{empty-owns-nothing, large-content, large-no-mini, large-owned, same-flat, small-content, small-no-sector, small-owned}
+use Rattle.cfb_content.proofs.Owned.{empty-owns-nothing, large-content, large-no-mini, large-owned, small-content, small-no-sector, small-owned}
 use Rattle.cfb_entry_changes.specs.Putting.{WritesObject}
 use Rattle.cfb_entry_changes.proofs.Entries.{either, kept-links, len-is, streams}
 use Rattle.cfb_entry_changes.proofs.SameUse.{once-in-both, same-growth, same-tally}
 use Rattle.cfb_entry_changes.proofs.Spared.{put-keeps-streams}
+use Rattle.cfb_format.proofs.Members.{same_flat}
 
 -- what a stream owns stays where its content does
 module _ (old new : MiniState) (e : Entry) (keeps : KeepsContent old new e) where
@@ -92,13 +93,13 @@ module _ (v : Validation) (old new : MiniState) (parent n : ℕ) (name : List �
     sectors-as-often k =
         same-tally (sectors_owned new) k (stream_numbers after) (stream_numbers o)
         (as-often (sectors_owned new) (empty-owns-nothing new n (len-is old new parent n name kind moment writes.put)).sectors_are)
-        ∙ ap (tally k) (same-flat (sectors_owned old) (sectors_owned new) (stream_numbers o) owned-stays)
+        ∙ ap (tally k) (same_flat (sectors_owned old) (sectors_owned new) (stream_numbers o) owned-stays)
 
     minis-as-often : (k : ℕ) → tally k (flat_map (mini_sectors_owned new) (stream_numbers after)) ≡ tally k (flat_map (mini_sectors_owned old) (stream_numbers o))
     minis-as-often k =
         same-tally (mini_sectors_owned new) k (stream_numbers after) (stream_numbers o)
         (as-often (mini_sectors_owned new) (empty-owns-nothing new n (len-is old new parent n name kind moment writes.put)).mini_sectors_are)
-        ∙ ap (tally k) (same-flat (mini_sectors_owned old) (mini_sectors_owned new) (stream_numbers o) minis-stay)
+        ∙ ap (tally k) (same_flat (mini_sectors_owned old) (mini_sectors_owned new) (stream_numbers o) minis-stay)
 
     abbrev r : Reading
     r = parts_with old o

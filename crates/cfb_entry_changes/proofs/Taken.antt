@@ -8,20 +8,20 @@ use Rattle.cfb_format.specs.Reading.{IsOutline, Outline, stream_numbers}
 use Rattle.cfb_format.specs.Siblings.{entry_at}
 use Rattle.cfb_format.specs.Tree.{is_same_name}
 use Rattle.cfb_format.proofs.Unique.{Below-unique, IsOutline-unique}
-use Rattle.cfb_rules.specs.CallChanges.{removed_at}
-use Rattle.cfb_siblings.specs.Children.{ButLinks}
-use Rattle.cfb_siblings.specs.Paths.{number_from}
-use Rattle.cfb_trees.specs.Changes.{HasLess, StaysAt}
-use Rattle.cfb_trees.specs.Paths.{number_after}
-use Rattle.cfb_trees.specs.Reached.{IsReached}
-use Rattle.cfb_trees.proofs.Members.{object-is-no-root, streams-are-by-kind}
-use Rattle.cfb_trees.proofs.PathRemoved.{removal-takes-a-name}
-use Rattle.cfb_trees.proofs.Standing.{reached-is-parent}
-use Rattle.cfb_trees.proofs.Streams.{removal-keeps-streams}
-use Rattle.cfb_trees.proofs.Taken.{removal-keeps-outline, taken-numbers}
+use Rattle.cfb_entry_changes.specs.cfb_rules.CallChanges.{removed_at}
+use Rattle.cfb_entry_changes.specs.cfb_siblings.Children.{ButLinks}
+use Rattle.cfb_entry_changes.specs.cfb_siblings.Paths.{number_from}
+use Rattle.cfb_entry_changes.specs.cfb_trees.Changes.{HasLess, StaysAt}
+use Rattle.cfb_entry_changes.specs.cfb_trees.Paths.{number_after}
+use Rattle.cfb_entry_changes.specs.cfb_trees.Reached.{IsReached}
+use Rattle.cfb_entry_changes.proofs.cfb_trees.Members.{object-is-no-root, streams-are-by-kind}
+use Rattle.cfb_entry_changes.proofs.cfb_trees.PathRemoved.{removal-takes-a-name}
+use Rattle.cfb_entry_changes.proofs.cfb_trees.Standing.{reached-is-parent}
+use Rattle.cfb_entry_changes.proofs.cfb_trees.Streams.{removal-keeps-streams}
+use Rattle.cfb_entry_changes.proofs.cfb_trees.Taken.{removal-keeps-outline, taken-numbers}
 use Rattle.cfb_objects.proofs.Same.{readable-ignores-links}
-use Rattle.cfb_mini.proofs.RootStays.{removed-root}
-use Rattle.cfb_mini_sectors.specs.State.{MiniState, bytes_of, cases_of, content_of, entries_of, parts_of}
+use Rattle.cfb_entry_changes.proofs.cfb_mini.RootStays.{removed-root}
+use Rattle.cfb_entry_changes.specs.cfb_mini_sectors.State.{MiniState, bytes_of, cases_of, content_of, entries_of, parts_of}
 use Rattle.cfb_content.specs.Contents.{len_of}
 use Rattle.cfb_content.proofs.SnugMini.{kept-is-snug-mini}
 use Rattle.cfb_entry_changes.specs.Standing.{SameContent, StreamsStand, WritesEntries}

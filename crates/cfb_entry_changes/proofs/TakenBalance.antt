@@ -9,21 +9,21 @@ use Rattle.cfb_format.specs.Names.{Cases}
 use Rattle.cfb_format.specs.Reading.{IsOutline, Outline, numbers, siblings}
 use Rattle.cfb_format.specs.Siblings.{Balanced, HangsAt, SiblingTree, entry_at, in_order}
 use Rattle.cfb_format.proofs.Unique.{Below-unique, HangsAt-unique}
-use Rattle.cfb_siblings.specs.Children.{ButLinks, HasRemoved, KeepsBalance}
-use Rattle.cfb_siblings.specs.Painted.{times_in}
-use Rattle.cfb_siblings.proofs.Tallies.{counted, hit-same, present, tally-append}
-use Rattle.cfb_trees.specs.Paths.{number_after}
-use Rattle.cfb_trees.specs.Reached.{IsReached}
-use Rattle.cfb_trees.proofs.Colored.{SamePaint}
-use Rattle.cfb_trees.proofs.Members.{below-once, no-root}
-use Rattle.cfb_trees.proofs.Parents.{links-child, links-kind}
-use Rattle.cfb_trees.proofs.Reached.{below-reached, root-is-reached, root-or-below}
-use Rattle.cfb_trees.proofs.Standing.{at-apart, at-held, stands-at}
-use Rattle.cfb_trees.proofs.Streams.{child-reached}
-use Rattle.cfb_trees.proofs.Taken.{freed-counted, moved, taken-numbers}
-use Rattle.cfb_trees.specs.Balance.{IsBalanced}
+use Rattle.cfb_entry_changes.specs.cfb_siblings.Children.{ButLinks, HasRemoved, KeepsBalance}
+use Rattle.cfb_entry_changes.specs.cfb_siblings.Painted.{times_in}
+use Rattle.cfb_entry_changes.proofs.cfb_siblings.Tallies.{counted, hit-same, present, tally-append}
+use Rattle.cfb_entry_changes.specs.cfb_trees.Paths.{number_after}
+use Rattle.cfb_entry_changes.specs.cfb_trees.Reached.{IsReached}
+use Rattle.cfb_entry_changes.proofs.cfb_trees.Colored.{SamePaint}
+use Rattle.cfb_entry_changes.proofs.cfb_trees.Members.{below-once, no-root}
+use Rattle.cfb_entry_changes.proofs.cfb_trees.Parents.{links-child, links-kind}
+use Rattle.cfb_entry_changes.proofs.cfb_trees.Reached.{below-reached, root-is-reached, root-or-below}
+use Rattle.cfb_entry_changes.proofs.cfb_trees.Standing.{at-apart, at-held, stands-at}
+use Rattle.cfb_entry_changes.proofs.cfb_trees.Streams.{child-reached}
+use Rattle.cfb_entry_changes.proofs.cfb_trees.Taken.{freed-counted, moved, taken-numbers}
+use Rattle.cfb_entry_changes.specs.cfb_trees.Balance.{IsBalanced}
 use Rattle.cfb_objects.proofs.Balance.{balance-kept}
-use Rattle.cfb_mini_sectors.specs.State.{cases_of, entries_of}
+use Rattle.cfb_entry_changes.specs.cfb_mini_sectors.State.{cases_of, entries_of}
 use Rattle.cfb_entry_changes.specs.Laws.{TakenIsBalanced}
 use Rattle.cfb_entry_changes.proofs.Taken.{now, reached}
 

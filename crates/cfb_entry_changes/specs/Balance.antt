@@ -6,9 +6,9 @@ use Rattle.cfb_format.specs.DirectoryEntry.{Entry}
 use Rattle.cfb_format.specs.Names.{Cases}
 use Rattle.cfb_format.specs.Reading.{IsOutline, Outline}
 use Rattle.cfb_format.specs.Siblings.{entry_at}
-use Rattle.cfb_siblings.specs.Children.{HasInserted}
-use Rattle.cfb_trees.specs.Balance.{IsBalanced}
-use Rattle.cfb_trees.specs.Reached.{IsObject, IsReached}
+use Rattle.cfb_entry_changes.specs.cfb_siblings.Children.{HasInserted}
+use Rattle.cfb_entry_changes.specs.cfb_trees.Balance.{IsBalanced}
+use Rattle.cfb_entry_changes.specs.cfb_trees.Reached.{IsObject, IsReached}
 
 -- an insertion is no matter for any storage but the one into which it goes
 abbrev pub InsertionKeepsBalance : Type 0

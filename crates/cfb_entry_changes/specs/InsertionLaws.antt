@@ -6,18 +6,18 @@ use Rattle.cfb_format.specs.declared.validate.Validation.{Validation}
 use Rattle.cfb_format.specs.Full.{IsFull}
 use Rattle.cfb_format.specs.Reading.{IsOutline, Outline, stream_numbers}
 use Rattle.cfb_format.specs.Siblings.{entry_at}
-use Rattle.cfb_rules.specs.CallChanges.{storage_added_at, stream_added_at}
-use Rattle.cfb_rules.specs.Finding.{last_name, parent_names}
-use Rattle.cfb_siblings.specs.Paths.{number_from}
-use Rattle.cfb_tables.specs.Changes.{NoneFree}
-use Rattle.cfb_tables.specs.Tables.{AreExactTables}
-use Rattle.cfb_alloc.specs.Frame.{Spares}
-use Rattle.cfb_directory.specs.State.{IsFullForEntry}
-use Rattle.cfb_mini_sectors.specs.State.{IsChangeable, MiniState, bytes_of, cases_of, entries_of, parts_of, root_len_of, table_of, tables_in}
-use Rattle.cfb_mini_sectors.specs.Steps.{IsSnugMini, KeepsMini}
+use Rattle.cfb_entry_changes.specs.cfb_rules.CallChanges.{storage_added_at, stream_added_at}
+use Rattle.cfb_entry_changes.specs.cfb_rules.Finding.{last_name, parent_names}
+use Rattle.cfb_entry_changes.specs.cfb_siblings.Paths.{number_from}
+use Rattle.cfb_entry_changes.specs.cfb_tables.Changes.{NoneFree}
+use Rattle.cfb_entry_changes.specs.cfb_tables.Tables.{AreExactTables}
+use Rattle.cfb_entry_changes.specs.cfb_alloc.Frame.{Spares}
+use Rattle.cfb_entry_changes.specs.cfb_directory.State.{IsFullForEntry}
+use Rattle.cfb_entry_changes.specs.cfb_mini_sectors.State.{IsChangeable, MiniState, bytes_of, cases_of, entries_of, parts_of, root_len_of, table_of, tables_in}
+use Rattle.cfb_entry_changes.specs.cfb_mini_sectors.Steps.{IsSnugMini, KeepsMini}
 use Rattle.cfb_objects.specs.Laws.{BecomesTree}
 use Rattle.cfb_content.specs.Contents.{AreAllUsed, KeepsContent, AreSnug}
-use Rattle.cfb_trees.specs.Balance.{StayBalanced}
+use Rattle.cfb_entry_changes.specs.cfb_trees.Balance.{StayBalanced}
 use Rattle.cfb_entry_changes.specs.Putting.{IsNewObject, PutsObject, WritesObject}
 
 -- ---- in memory

@@ -3,11 +3,11 @@ use Rattle.std.specs.Prelude.{ℕ, ◌≡◌, ◌≢◌, List, Some, option_and_
 use Rattle.cfb_format.specs.declared.objtype.ObjType.TheVariants.{Stream}
 use Rattle.cfb_format.specs.Reading.{IsOutline, Outline}
 use Rattle.cfb_format.specs.Siblings.{entry_at}
-use Rattle.cfb_siblings.specs.Paths.{number_from}
-use Rattle.cfb_trees.specs.Paths.{number_after}
-use Rattle.cfb_trees.specs.Reached.{IsReached}
-use Rattle.cfb_trees.specs.Balance.{IsBalanced, StayBalanced}
-use Rattle.cfb_mini_sectors.specs.State.{MiniState, cases_of, entries_of}
+use Rattle.cfb_entry_changes.specs.cfb_siblings.Paths.{number_from}
+use Rattle.cfb_entry_changes.specs.cfb_trees.Paths.{number_after}
+use Rattle.cfb_entry_changes.specs.cfb_trees.Reached.{IsReached}
+use Rattle.cfb_entry_changes.specs.cfb_trees.Balance.{IsBalanced, StayBalanced}
+use Rattle.cfb_entry_changes.specs.cfb_mini_sectors.State.{MiniState, cases_of, entries_of}
 
 -- names that led to an entry lead to it still
 abbrev pub KeepsFound : MiniState → MiniState → Type 0

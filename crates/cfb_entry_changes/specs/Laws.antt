@@ -8,15 +8,15 @@ use Rattle.cfb_format.specs.Names.{Cases}
 use Rattle.cfb_format.specs.Reading.{IsOutline, Outline, numbers, stream_numbers}
 use Rattle.cfb_format.specs.Siblings.{entry_at}
 use Rattle.cfb_format.specs.Tree.{StorageInfo, StreamInfo, is_same_name, nothing}
-use Rattle.cfb_rules.specs.CallChanges.{fields_changed_at, removed_at, tree_changed_at}
-use Rattle.cfb_rules.specs.Finding.{last_name, parent_names}
-use Rattle.cfb_siblings.specs.Children.{ButLinks, HasRemoved}
-use Rattle.cfb_siblings.specs.Laws.{IgnoresLinks}
-use Rattle.cfb_siblings.specs.Paths.{number_from}
-use Rattle.cfb_trees.specs.Changes.{HasLess}
-use Rattle.cfb_entries.specs.declared.fields.Fields.{Fields}
-use Rattle.cfb_mini_sectors.specs.State.{IsChangeable, MiniState, bytes_of, cases_of, entries_of, root_len_of, version_of}
-use Rattle.cfb_mini_sectors.specs.Steps.{IsSnugMini}
+use Rattle.cfb_entry_changes.specs.cfb_rules.CallChanges.{fields_changed_at, removed_at, tree_changed_at}
+use Rattle.cfb_entry_changes.specs.cfb_rules.Finding.{last_name, parent_names}
+use Rattle.cfb_entry_changes.specs.cfb_siblings.Children.{ButLinks, HasRemoved}
+use Rattle.cfb_entry_changes.specs.cfb_siblings.Laws.{IgnoresLinks}
+use Rattle.cfb_entry_changes.specs.cfb_siblings.Paths.{number_from}
+use Rattle.cfb_entry_changes.specs.cfb_trees.Changes.{HasLess}
+use Rattle.cfb_entry_changes.specs.cfb_entries.declared.fields.Fields.{Fields}
+use Rattle.cfb_entry_changes.specs.cfb_mini_sectors.State.{IsChangeable, MiniState, bytes_of, cases_of, entries_of, root_len_of, version_of}
+use Rattle.cfb_entry_changes.specs.cfb_mini_sectors.Steps.{IsSnugMini}
 use Rattle.cfb_objects.specs.Changes.{ContentsStay}
 use Rattle.cfb_objects.specs.Laws.{BecomesTree}
 use Rattle.cfb_objects.specs.Objects.{tree_from}

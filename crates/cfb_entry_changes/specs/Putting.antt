@@ -3,18 +3,18 @@ use Rattle.std.specs.Prelude.{ℕ, ◌≡◌, ◌⊎◌, List, true, false}
 use Rattle.cfb_format.specs.declared.objtype.ObjType.{ObjType}
 use Rattle.cfb_format.specs.declared.objtype.ObjType.TheVariants.{Storage, Stream}
 use Rattle.cfb_format.specs.declared.validate.Validation.{Validation}
-use Rattle.cfb_codecs.specs.EntryModel.{new_entry}
+use Rattle.cfb_entry_changes.specs.cfb_codecs.EntryModel.{new_entry}
 use Rattle.cfb_format.specs.Reading.{IsOutline, Outline}
 use Rattle.cfb_format.specs.Siblings.{entry_at}
-use Rattle.cfb_outline.specs.Outlines.{IsReachedStorage}
-use Rattle.cfb_siblings.specs.Children.{KeepsBalance}
-use Rattle.cfb_alloc.specs.Frame.{Spares}
-use Rattle.cfb_alloc.specs.ListedChain.{Lengthens}
-use Rattle.cfb_entries.specs.EntryList.{InsertsEntry, has_free}
-use Rattle.cfb_directory.specs.State.{with_room}
-use Rattle.cfb_mini_sectors.specs.State.{HoldsMini, IsChangeable, MiniState, cases_of, entries_of, table_of, tables_in}
-use Rattle.cfb_mini_sectors.specs.Steps.{KeepsLimits, KeepsMini}
-use Rattle.cfb_trees.specs.Reached.{IsReached}
+use Rattle.cfb_entry_changes.specs.cfb_outline.Outlines.{IsReachedStorage}
+use Rattle.cfb_entry_changes.specs.cfb_siblings.Children.{KeepsBalance}
+use Rattle.cfb_entry_changes.specs.cfb_alloc.Frame.{Spares}
+use Rattle.cfb_entry_changes.specs.cfb_alloc.ListedChain.{Lengthens}
+use Rattle.cfb_entry_changes.specs.cfb_entries.EntryList.{InsertsEntry, has_free}
+use Rattle.cfb_entry_changes.specs.cfb_directory.State.{with_room}
+use Rattle.cfb_entry_changes.specs.cfb_mini_sectors.State.{HoldsMini, IsChangeable, MiniState, cases_of, entries_of, table_of, tables_in}
+use Rattle.cfb_entry_changes.specs.cfb_mini_sectors.Steps.{KeepsLimits, KeepsMini}
+use Rattle.cfb_entry_changes.specs.cfb_trees.Reached.{IsReached}
 use Rattle.cfb_content.specs.Contents.{len_of}
 
 -- in memory an empty object of that name and kind was put into the free slot n, and among the children of the storage `parent`, which are in

@@ -4,9 +4,9 @@ use Rattle.cfb_format.specs.declared.validate.Validation.{Validation}
 use Rattle.cfb_format.specs.DirectoryEntry.{Entry}
 use Rattle.cfb_format.specs.Reading.{IsOutline, Outline, stream_numbers}
 use Rattle.cfb_format.specs.Siblings.{entry_at}
-use Rattle.cfb_alloc.specs.Frame.{Spares}
-use Rattle.cfb_mini_sectors.specs.State.{HoldsMini, IsChangeable, MiniState, cases_of, entries_of, table_of, tables_in}
-use Rattle.cfb_mini_sectors.specs.Steps.{KeepsLimits, KeepsMini}
+use Rattle.cfb_entry_changes.specs.cfb_alloc.Frame.{Spares}
+use Rattle.cfb_entry_changes.specs.cfb_mini_sectors.State.{HoldsMini, IsChangeable, MiniState, cases_of, entries_of, table_of, tables_in}
+use Rattle.cfb_entry_changes.specs.cfb_mini_sectors.Steps.{KeepsLimits, KeepsMini}
 use Rattle.cfb_content.specs.Contents.{len_of}
 
 -- of memory the entries alone changed: the directory has the sectors that it had, and the tables, the mini sectors and the limits stay

@@ -1,6 +1,9 @@
 //! The example of README.md: a file with one stream is made in memory and read back.
 #![tactic(auto)]
 
+#[cfg(test)]
+mod tests;
+
 use cfb::{CompoundFile, Error, MemoryMedium, std_error};
 use std::alloc::Global;
 use std::io::{self, Write};

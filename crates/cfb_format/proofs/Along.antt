@@ -16,19 +16,19 @@ use Rattle.cfb_format.proofs.Chains.{chain_from-IsChain}
 
 -- ---- places within a sector
 
-first_quotient : (v : Version) (k : ℕ) → k < sector_len v → k / sector_len v ≡ 0
+pub first_quotient : (v : Version) (k : ℕ) → k < sector_len v → k / sector_len v ≡ 0
 first_quotient V3 k h = omega arith
 first_quotient V4 k h = omega arith
 
-first_rest : (v : Version) (k : ℕ) → k < sector_len v → k % sector_len v ≡ k
+pub first_rest : (v : Version) (k : ℕ) → k < sector_len v → k % sector_len v ≡ k
 first_rest V3 k h = omega arith
 first_rest V4 k h = omega arith
 
-next_quotient : (v : Version) (k : ℕ) → sector_len v ≤ k → k / sector_len v ≡ suc ((k - sector_len v) / sector_len v)
+pub next_quotient : (v : Version) (k : ℕ) → sector_len v ≤ k → k / sector_len v ≡ suc ((k - sector_len v) / sector_len v)
 next_quotient V3 k h = omega arith
 next_quotient V4 k h = omega arith
 
-next_rest : (v : Version) (k : ℕ) → sector_len v ≤ k → k % sector_len v ≡ (k - sector_len v) % sector_len v
+pub next_rest : (v : Version) (k : ℕ) → sector_len v ≤ k → k % sector_len v ≡ (k - sector_len v) % sector_len v
 next_rest V3 k h = omega arith
 next_rest V4 k h = omega arith
 
@@ -44,7 +44,7 @@ module _ (v : Version) (bytes : List ℕ) (i : ℕ) (list : List ℕ) where
   place_next : (k : ℕ) → sector_len v ≤ k → place_in_chain v bytes (i ∷ list) k ≡ place_in_chain v bytes list (k - sector_len v)
   place_next k h = λ j. option_and_then (λ n. in_file bytes (sector_start v n + next_rest v k h j)) (slice_get (i ∷ list) (next_quotient v k h j))
 
-in_file_at : (bytes : List ℕ) (at : ℕ) → at < length bytes → in_file bytes at ≡ Some at
+pub in_file_at : (bytes : List ℕ) (at : ℕ) → at < length bytes → in_file bytes at ≡ Some at
 in_file_at bytes at h = ap (λ b. if b then Some at else None) (lt-ltb at (length bytes) h)
 
 past_file : (bytes : List ℕ) (at : ℕ) → length bytes ≤ at → in_file bytes at ≡ None
@@ -156,3 +156,11 @@ readable-large bytes r e list large chain =
     (λ j. placed_from bytes (λ k. if large j then option_and_then (λ l. place_in_chain r.header.version bytes l k) (found j)
     else option_and_then (λ l. place_in_mini_chain bytes r l k) (mini_chain r e)) 0 e.stream_len)
     ∙ placed-bytes_along r.header.version bytes list e.stream_len 0 (omega arith)
+
+pub next_start : (v : Version) (i : ℕ) → sector_start v (i + 1) ≡ sector_start v i + sector_len v
+next_start V3 i = omega arith
+next_start V4 i = omega arith
+
+pub sectors_apart : (v : Version) (a b : ℕ) → a < b → sector_start v a + sector_len v ≤ sector_start v b
+sectors_apart V3 a b h = omega arith
+sectors_apart V4 a b h = omega arith

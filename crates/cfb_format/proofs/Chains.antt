@@ -1,21 +1,18 @@
 -- The chain from a start is found by walking it.
 use Rattle.std.proofs.Common.{◌≡◌, ℕ, zero, suc, ◌<◌, ◌≤◌, List, [], ◌∷◌, Bool, true, false, refl, sym, ◌∙◌, ap, subst, length, arith, ◌||◌}
-use Rattle.std.specs.Prelude.{slice_index, Option, Some, None, nat_eq, nat_lt, ◌↔◌, ◌==◌, option_map, unwrap_or, is_some, if◌then◌else◌, ◌&&◌, IsTrue}
+use Rattle.std.specs.Prelude.{slice_index, Option, Some, None, nat_eq, nat_lt, ◌↔◌, ◌==◌, option_map, is_some, if◌then◌else◌, ◌&&◌, IsTrue}
 use Rattle.std.specs.List.{IsDistinct, AllByRecursion, list_any}
 use Rattle.std.proofs.lemmas.Map.Steps.{length-le_from_distinct_below}
 use Rattle.std.proofs.lemmas.Map.Views.{exact_unsigned_eq}
 use Rattle.std.proofs.lemmas.Bool.{ne_eqb, eqb-false, lt-ltb, ltb-true}
 use Rattle.cfb_format.specs.Bytes.{end_of_chain, is_regular}
 use Rattle.cfb_format.specs.Chain.{Follows, IsChain, chain_within, chain_from}
-use Rattle.cfb_format.proofs.Unique.{Follows-unique}
-
-same_some : {A : Type 0} (x y : A) → Some x ≡ Some y → x ≡ y
-same_some x y e = ap (λ o. unwrap_or o x) e
+use Rattle.cfb_format.proofs.Unique.{Follows-unique, same_some}
 
 none_some : {A : Type 0} (x : A) → None ≡ Some x → ⊥
 none_some x e = let f : false ≡ true = ap is_some e in cc
 
-both_true : (a b : Bool) → a && b ≡ true → (a ≡ true) × (b ≡ true)
+pub both_true : (a b : Bool) → a && b ≡ true → (a ≡ true) × (b ≡ true)
 both_true true b e = (refl, e)
 both_true false b e = cc
 

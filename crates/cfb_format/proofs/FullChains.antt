@@ -26,11 +26,11 @@ use Rattle.cfb_format.proofs.Words.{words-length, sector_words-length}
 
 -- ---- numbers
 
-quotient_none : (v : Version) (a b : ℕ) → a ≤ b * words_per_sector v → rounded_up a (words_per_sector v) - b ≡ 0
+pub quotient_none : (v : Version) (a b : ℕ) → a ≤ b * words_per_sector v → rounded_up a (words_per_sector v) - b ≡ 0
 quotient_none V3 a b h = omega arith
 quotient_none V4 a b h = omega arith
 
-room_none : (v : Version) (a b : ℕ) → a ≤ b * sector_len v → rounded_up a (sector_len v) - b ≡ 0
+pub room_none : (v : Version) (a b : ℕ) → a ≤ b * sector_len v → rounded_up a (sector_len v) - b ≡ 0
 room_none V3 a b h = omega arith
 room_none V4 a b h = omega arith
 
@@ -72,7 +72,7 @@ listed_by v bytes (i ∷ own) =
     let product = suc-mul (length own) (words_per_sector v - 1) in
     omega (arith, both, here, rest, product)
 
-header_entries : (bytes : List ℕ) (h : Header) → IsHeader bytes h → length h.initial_difat_entries ≡ header_difat_len
+pub header_entries : (bytes : List ℕ) (h : Header) → IsHeader bytes h → length h.initial_difat_entries ≡ header_difat_len
 header_entries bytes h is =
     let all = words header_difat_len (drop 76 bytes) in
     let few : length (stored_difat bytes) ≤ length all = take-shorter (position_or_len (λ word. word == free_sector) all) all in

@@ -20,7 +20,7 @@ small_shift : (v : Version) → sector_shift v < 2 ^ 16
 small_shift V3 = lit< tt
 small_shift V4 = lit< tt
 
-words-word_bytes : (xs : List ℕ) → AllByRecursion (λ x. x < 2 ^ 32) xs → words (length xs) (word_bytes xs) ≡ xs
+pub words-word_bytes : (xs : List ℕ) → AllByRecursion (λ x. x < 2 ^ 32) xs → words (length xs) (word_bytes xs) ≡ xs
 unfolding words word_bytes
 words-word_bytes [] h = refl
 words-word_bytes (x ∷ xs) h = λ i. from_le_bytes-to_le_bytes_4 x h.0 i ∷ words-word_bytes xs h.1 i

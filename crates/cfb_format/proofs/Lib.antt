@@ -16,3 +16,7 @@ pub mod Words
 pub mod HeaderDifat
 pub mod HeaderStart
 pub mod Runs
+pub mod Members
+pub mod Walks
+pub mod MiniPlaces
+pub mod Slots

@@ -20,7 +20,7 @@ use Rattle.cfb_format.specs.Meaning.{Means, tree_of}
 
 -- ---- lists and options
 
-same_some : {A : Type 0} (x y : A) → Some x ≡ Some y → x ≡ y
+pub same_some : {A : Type 0} (x y : A) → Some x ≡ Some y → x ≡ y
 same_some x y e = ap (λ o. unwrap_or o x) e
 
 head_or : {A : Type 0} → A → List A → A
@@ -144,10 +144,10 @@ pub Below-unique : (cases : Cases) (entries : List Entry) (top : ℕ) (xs ys : L
 Below-unique cases entries top xs ys a b =
     a.is_in_order ∙ ap in_order (HangsAt-unique entries top a.tree b.tree a.hangs b.hangs) ∙ sym b.is_in_order
 
-storage_is_no_stream : (t : ObjType) → t ≡ Storage → t ≡ Stream → ⊥
+pub storage_is_no_stream : (t : ObjType) → t ≡ Storage → t ≡ Stream → ⊥
 storage_is_no_stream t a b = let e : Storage ≡ Stream = sym a ∙ b in cc
 
-outline-unique : (cases : Cases) (entries : List Entry) (o p : Outline) → siblings o ≡ siblings p → HasContents cases entries o → HasContents cases entries p → o ≡ p
+pub outline-unique : (cases : Cases) (entries : List Entry) (o p : Outline) → siblings o ≡ siblings p → HasContents cases entries o → HasContents cases entries p → o ≡ p
 outline-unique cases entries no_more no_more e a b = refl
 outline-unique cases entries no_more (storage_at j inside rest) e a b = cc
 outline-unique cases entries no_more (stream_at j rest) e a b = cc

@@ -13,30 +13,33 @@ use Rattle.cfb_format.specs.Full.{rounded_up}
 use Rattle.cfb_format.specs.Medium.{written}
 use Rattle.cfb_format.specs.Siblings.{entry_at}
 use Rattle.cfb_format.proofs.ByteLemmas.{length-written, written_at, written_below}
-use Rattle.cfb_tables.specs.Changes.{NoneFree}
-use Rattle.cfb_tables.specs.Listed.{ends_of, gained}
-use Rattle.cfb_tables.specs.Tables.{TableState, first_or_end}
-use Rattle.cfb_alloc.specs.Alloc.{AllocatorState, HoldsTables}
-use Rattle.cfb_alloc.specs.ListedChain.{Lengthens}
-use Rattle.cfb_chains.specs.ChainPlaces.{place_along}
-use Rattle.cfb_chains.proofs.LentContent.{wanted_is}
-use Rattle.cfb_chains.proofs.OwnWrites.{enough_by}
-use Rattle.cfb_chains.proofs.PlacedBytes.{grown_place, no_more}
-use Rattle.cfb_mini_sectors.specs.Held.{with_table}
-use Rattle.cfb_mini_sectors.specs.State.{HoldsMini, IsChangeable, MiniState, bytes_of, content_of, entries_of, parts_of, table_of, tables_in, version_of}
-use Rattle.cfb_mini.specs.MiniSectors.{IsStill}
-use Rattle.cfb_content.specs.Contents.{IsStreamOf, SizesChain, len_of, mini_sectors_owned, sectors_owned}
-use Rattle.cfb_content.specs.Parts.{IsWholeChain, StandAlong, StaysAlong}
-use Rattle.cfb_content.specs.Uses.{ChangesUse, Owns}
-use Rattle.cfb_content.proofs.Changing.{large-goes-on, small-becomes-large}
-use Rattle.cfb_content.proofs.PlacedOnce.{inside-of}
-use Rattle.cfb_content.proofs.Readable.{large-read-by-places, large-is-there, whole-of}
-use Rattle.cfb_content.proofs.WholeStreams.{large-entry}
-use Rattle.cfb_resizing.specs.Turning.{Appends, LeavesNoMinis, LiesInSectors, MovesWith, PutsBehind, StandBehind, StopsOrBegun}
+use Rattle.cfb_growing.specs.cfb_tables.Changes.{NoneFree}
+use Rattle.cfb_growing.specs.cfb_tables.Listed.{ends_of, gained}
+use Rattle.cfb_growing.specs.cfb_tables.Tables.{TableState, first_or_end}
+use Rattle.cfb_growing.specs.cfb_alloc.Alloc.{AllocatorState, HoldsTables}
+use Rattle.cfb_growing.specs.cfb_alloc.ListedChain.{Lengthens}
+use Rattle.cfb_growing.specs.cfb_chains.ChainPlaces.{place_along}
+use Rattle.cfb_growing.proofs.cfb_chains.LentContent.{wanted_is}
+use Rattle.cfb_growing.proofs.cfb_chains.OwnWrites.{enough_by}
+use Rattle.cfb_growing.proofs.cfb_chains.PlacedBytes.{grown_place, no_more}
+use Rattle.cfb_growing.specs.cfb_mini_sectors.Held.{with_table}
+use Rattle.cfb_growing.specs.cfb_mini_sectors.State.{HoldsMini, IsChangeable, MiniState, bytes_of, content_of, entries_of, parts_of, table_of, tables_in, version_of}
+use Rattle.cfb_growing.specs.cfb_mini.MiniSectors.{IsStill}
+use Rattle.cfb_growing.specs.cfb_content.Contents.{IsStreamOf, SizesChain, len_of, mini_sectors_owned, sectors_owned}
+use Rattle.cfb_growing.specs.cfb_content.Parts.{IsWholeChain, StandAlong, StaysAlong}
+use Rattle.cfb_growing.specs.cfb_content.Uses.{ChangesUse, Owns}
+use Rattle.cfb_growing.proofs.cfb_content.Changing.{large-goes-on, small-becomes-large}
+use Rattle.cfb_growing.proofs.cfb_content.Readable.{large-read-by-places, large-is-there, whole-of}
+use Rattle.cfb_growing.proofs.cfb_content.WholeStreams.{large-entry}
+use Rattle.cfb_resizing.specs.Turning.{Appends, LeavesNoMinis, LiesAlongSectors, MovesWith, PutsBehind, StandBehind, StopsOrBegun}
 use Rattle.cfb_resizing.proofs.Named.{WasNamed, mini-then}
 use Rattle.cfb_resizing.proofs.Tightness.{leaves-nothing, taken-stays-full}
 use Rattle.cfb_resizing.proofs.Turned.{change, had-large, had-small, large, len-is, owns-large, sector-byte, sized-large, tables-then, version-is}
 use Rattle.cfb_resizing.proofs.TurnedInSectors.{grow-owned, grow-whole, grown-in, grown-longer, made-here}
+use Rattle.cfb_resizing.proofs.PutBehind.{same-is-still}
+use Rattle.cfb_growing.proofs.cfb_chains.ChainRuns.{inside_listed}
+use Rattle.cfb_growing.proofs.TakenRest.{same-or-begun}
+use Rattle.cfb_resizing.proofs.BegunInSectors.{begun-fits}
 
 -- ---- bytes behind the end
 
@@ -66,15 +69,15 @@ pub record WasAppended (old new : MiniState) (i : ℕ) (from : List ℕ) : Type 
 module _ (v : Validation) (old mid new : MiniState) (i size start : ℕ) (from : List ℕ) (was : WasNamed v old mid new i) (held : HoldsMini v new)
     (named : entry_at (entries_of new) i ≡ record (entry_at (entries_of mid) i) { start_sector = start; stream_len = size })
     (size-is : size ≡ len_of old i + length from) where
-  module _ (ys : List ℕ) (lies' : LiesInSectors old mid i (len_of old i + length from) start ys) (stands : StandBehind old i from (bytes_of mid) (place_along (version_of mid) ys)) where
+  module _ (ys : List ℕ) (lies' : LiesAlongSectors old mid i (len_of old i + length from) start ys) (stands : StandBehind old i from (bytes_of mid) (place_along (version_of mid) ys)) where
     abbrev c : List ℕ
     c = content_of old (entry_at (entries_of old) i)
 
     abbrev xs : List ℕ
     xs = written c (len_of old i) from
 
-    lies : LiesInSectors old mid i size start ys
-    lies = subst (λ n. LiesInSectors old mid i n start ys) (sym size-is) lies'
+    lies : LiesAlongSectors old mid i size start ys
+    lies = subst (λ n. LiesAlongSectors old mid i n start ys) (sym size-is) lies'
 
     owns : Owns new i ys []
     owns = owns-large v old mid new i size start was held named ys lies
@@ -141,18 +144,11 @@ appended-stays-full old new i start from stays (inr t) none =
 
 -- ---- a chain that went on in the allocator that was lent
 
--- all that the stream has lies in its sectors
-pub fits-listed : (w : Version) (len n : ℕ) → ((k : ℕ) → k < len → k / sector_len w < n) → len ≤ n * sector_len w
-fits-listed w len n each = elim (cases_lt 0 len) [
-  | inr none ↦ omega (arith, none)
-  | inl some ↦ (let last = inside-of w (len - 1) n (each (len - 1) (omega (arith, some))) in omega (arith, last, some))
-]
-
 -- the chain has room for what the stream has
 pub behind-there : (here lent : AllocatorState) (start len : ℕ) (list : List ℕ) → lent ≡ here
     → IsWholeChain here.tables.version here.tables.fat here.file.len start len list → len ≤ length list * sector_len lent.tables.version
 behind-there here lent start len list same whole = subst (λ (b : AllocatorState). len ≤ length list * sector_len b.tables.version) (sym same)
-    (fits-listed here.tables.version len (length list) (λ k lt. (whole.there k lt).listed))
+    (begun-fits here.tables.version len (length list) (λ k lt. (whole.there k lt).listed))
 
 -- how many sectors it lacks, and that the bytes fit with them
 module _ (s : MiniState) (len n l wanted count have : ℕ) (lent : AllocatorState) (list : List ℕ) (is-lent : lent ≡ table_of s) (l-is : l ≡ sector_len (version_of s))
@@ -210,7 +206,7 @@ module _ (s : MiniState) (i size start len count : ℕ) (from : List ℕ) (here 
       let lies = large-is-there v s i change' at (large-entry s i big) in
       subst (λ (l : List ℕ). (k < length l * sector_len w) × (place_along w l k < length (bytes_of s))
       × (slice_index (bytes_of s) (place_along w l k) ≡ slice_index (content_of s (entry_at (entries_of s) i)) k)) owned
-      (inside-of w k (length (sectors_owned s i)) (lies.enough k lt), lies.there k lt, lies.bytes k lt)
+      (inside_listed w k (length (sectors_owned s i)) (lies.enough k lt), lies.there k lt, lies.bytes k lt)
 
   same-place : (k : ℕ) → k < length list * sector_len w → place_along w list' k ≡ place_along w list k
   same-place k lt = grown_place w w list list' (gained list list') refl made-now.listed k lt
@@ -236,7 +232,7 @@ module _ (s : MiniState) (i size start len count : ℕ) (from : List ℕ) (here 
     count = needed;
     mini = record { minifat = refl; minifat_sectors = refl; mini_stream = refl };
     longer = grown-longer v s i size needed list list' a change' at big longer all-there.chain refl made-now now held;
-    lies = subst (λ n. LiesInSectors s (with_table s a) i n (entry_at (entries_of s) i).start_sector list') size-is
+    lies = subst (λ n. LiesAlongSectors s (with_table s a) i n (entry_at (entries_of s) i).start_sector list') size-is
         (grown-in v s i size needed list list' a change' at big longer all-there.chain refl made-now now held stands);
     stands = subst (λ (u : Version). StandBehind s i from a.file.bytes (place_along u list')) (sym same-version) (record { kept = stays; put = λ k lt. (put-now k lt).1 });
   })
@@ -255,20 +251,13 @@ pub ok-then : {T : Type 0} {P : T → Type 0} {Q : Type 0} (r : Result T Error) 
 ok-then (Ok x) f p = f x p
 ok-then (Err e) f p = tt
 
-same-still : (old new : MiniState) → new ≡ old → IsStill old new
-same-still old new same = subst (λ (s : MiniState). IsStill old s) (sym same) refl
-
-same-or-begun : (old new : MiniState) → (new ≡ old) ⊎ ((table_of new).file.begun ≡ true) → IsStill old new ⊎ ((table_of new).file.begun ≡ true)
-same-or-begun old new (inl same) = inl (same-still old new same)
-same-or-begun old new (inr begun) = inr begun
-
 pub still-of : (old new : MiniState) (e : Error) → StopsOrBegun old new e → IsStill old new ⊎ ((table_of new).file.begun ≡ true)
-still-of old new (NotFound d) h = inl (same-still old new h)
-still-of old new (AlreadyExists d) h = inl (same-still old new h)
-still-of old new (InvalidInput d) h = inl (same-still old new h)
+still-of old new (NotFound d) h = inl (same-is-still old new h)
+still-of old new (AlreadyExists d) h = inl (same-is-still old new h)
+still-of old new (InvalidInput d) h = inl (same-is-still old new h)
 still-of old new (InvalidData d) h = same-or-begun old new h
 still-of old new (Medium m) h = h
 still-of old new Memory h = same-or-begun old new h
-still-of old new Full h = inl (same-still old new h)
-still-of old new Unsound h = inl (same-still old new h)
-still-of old new Failed h = inl (same-still old new h)
+still-of old new Full h = inl (same-is-still old new h)
+still-of old new Unsound h = inl (same-is-still old new h)
+still-of old new Failed h = inl (same-is-still old new h)

@@ -8,20 +8,20 @@ use Rattle.cfb_format.specs.declared.version.Version.TheVariants.{V3, V4}
 use Rattle.cfb_format.specs.Bytes.{sector_len, words_per_sector}
 use Rattle.cfb_format.specs.Full.{free_count, rounded_up}
 use Rattle.cfb_format.specs.Siblings.{entry_at}
-use Rattle.cfb_tables.specs.Room.{IsTooFewAfter}
-use Rattle.cfb_tables.specs.Tables.{IsTooFew}
-use Rattle.cfb_tables.proofs.RoomLemmas.{more-is-too-few, nothing-given-back}
-use Rattle.cfb_alloc.specs.Alloc.{AllocatorState}
-use Rattle.cfb_chains.proofs.LentContent.{wanted_is}
-use Rattle.cfb_mini_sectors.specs.State.{HoldsMini, MiniState, entries_of, mini_stream_of, table_of, tables_in, version_of}
-use Rattle.cfb_mini_sectors.specs.Steps.{IsTooFewAfterFor, IsTooFewFor, mini_stream_lacks, minifat_lacks}
-use Rattle.cfb_mini.proofs.MiniRoom.{nothing-back}
-use Rattle.cfb_content.specs.Contents.{len_of, mini_sectors_owned}
-use Rattle.cfb_content.specs.Laws.{LacksNumbersFor}
-use Rattle.cfb_content.specs.Parts.{IsWholeChain, IsWholeMiniChain}
-use Rattle.cfb_content.specs.Room.{room_given}
-use Rattle.cfb_content.proofs.RoomGiven.{given-is-counted}
-use Rattle.cfb_content.proofs.WholeStreams.{owned-chain, owned-minis, whole-as, whole-minis-as}
+use Rattle.cfb_growing.specs.cfb_tables.Room.{IsTooFewAfter}
+use Rattle.cfb_growing.specs.cfb_tables.Tables.{IsTooFew}
+use Rattle.cfb_growing.proofs.cfb_tables.RoomLemmas.{more-is-too-few, nothing-given-back}
+use Rattle.cfb_growing.specs.cfb_alloc.Alloc.{AllocatorState}
+use Rattle.cfb_growing.proofs.cfb_chains.LentContent.{wanted_is}
+use Rattle.cfb_growing.specs.cfb_mini_sectors.State.{HoldsMini, MiniState, entries_of, mini_stream_of, table_of, tables_in, version_of}
+use Rattle.cfb_growing.specs.cfb_mini_sectors.Steps.{IsTooFewAfterFor, IsTooFewFor, mini_stream_lacks, minifat_lacks}
+use Rattle.cfb_growing.proofs.cfb_mini.MiniRoom.{nothing-back}
+use Rattle.cfb_growing.specs.cfb_content.Contents.{len_of, mini_sectors_owned}
+use Rattle.cfb_growing.specs.cfb_content.Laws.{LacksNumbersFor}
+use Rattle.cfb_growing.specs.cfb_content.Parts.{IsWholeChain, IsWholeMiniChain}
+use Rattle.cfb_growing.specs.cfb_content.Room.{room_given}
+use Rattle.cfb_growing.proofs.cfb_content.RoomGiven.{given-is-counted}
+use Rattle.cfb_growing.proofs.cfb_content.WholeStreams.{owned-chain, owned-minis, whole-as, whole-minis-as}
 use Rattle.cfb_resizing.proofs.MiniGrowth.{bytes-lack-none, words-lack-none}
 use Rattle.cfb_resizing.proofs.TurnedInMinis.{small-lacks}
 use Rattle.cfb_resizing.proofs.TurnedInSectors.{large-lacks, moving-lacks}

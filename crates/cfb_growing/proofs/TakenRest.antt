@@ -10,27 +10,27 @@ use Rattle.cfb_format.specs.Bytes.{sector_len}
 use Rattle.cfb_format.specs.DirectoryEntry.{Entry, ButContent}
 use Rattle.cfb_format.specs.Full.{IsFullOfMiniSectors, free_count, max_mini_sectors, rounded_up, sectors_for}
 use Rattle.cfb_format.specs.Siblings.{entry_at}
-use Rattle.cfb_tables.specs.Refused.{ChangeRefused}
-use Rattle.cfb_tables.specs.Tables.{AreFullTables, HasTaken, IsTooFew}
-use Rattle.cfb_tables.proofs.Members.{Contains-nil}
-use Rattle.cfb_tables.proofs.RoomLemmas.{all-taken-is-full, more-is-too-few}
-use Rattle.cfb_alloc.specs.Alloc.{AllocatorState}
-use Rattle.cfb_alloc.specs.Frame.{Spares}
+use Rattle.cfb_growing.specs.cfb_tables.Refused.{ChangeRefused}
+use Rattle.cfb_growing.specs.cfb_tables.Tables.{AreFullTables, HasTaken, IsTooFew}
+use Rattle.cfb_growing.proofs.cfb_tables.RoomLemmas.{all-taken-is-full, more-is-too-few}
+use Rattle.cfb_growing.specs.cfb_alloc.Alloc.{AllocatorState}
+use Rattle.cfb_growing.specs.cfb_alloc.Frame.{Spares}
 use Rattle.cfb_mini_table.specs.MiniTable.{IsTooFewMini, TakesMini}
-use Rattle.cfb_mini_sectors.specs.State.{HoldsMini, IsChangeable, MiniState, bytes_of, entries_of, parts_of, table_of, tables_in, version_of}
-use Rattle.cfb_mini_sectors.specs.Steps.{IsTooFewFor, MovesRoot, SparesMini, StopsShortOrFull, system_sectors}
-use Rattle.cfb_mini_sectors.specs.Held.{with_table}
-use Rattle.cfb_mini.specs.MiniSectors.{IsStill}
-use Rattle.cfb_content.specs.Contents.{IsStreamOf, KeepsOthers, MovesContent, len_of, mini_sectors_owned, sectors_owned}
-use Rattle.cfb_content.specs.Laws.{LacksNumbersFor}
-use Rattle.cfb_content.specs.Room.{room_given}
-use Rattle.cfb_content.proofs.Kept.{spared-is-kept, spared-sectors-kept}
-use Rattle.cfb_content.proofs.Outlines.{stream-is-no-root}
-use Rattle.cfb_content.proofs.RoomGiven.{given-is-counted}
+use Rattle.cfb_growing.specs.cfb_mini_sectors.State.{HoldsMini, IsChangeable, MiniState, bytes_of, entries_of, parts_of, table_of, tables_in, version_of}
+use Rattle.cfb_growing.specs.cfb_mini_sectors.Steps.{IsTooFewFor, MovesRoot, SparesMini, StopsShortOrFull, system_sectors}
+use Rattle.cfb_growing.specs.cfb_mini_sectors.Held.{with_table}
+use Rattle.cfb_growing.specs.cfb_mini.MiniSectors.{IsStill}
+use Rattle.cfb_growing.specs.cfb_content.Contents.{IsStreamOf, KeepsOthers, MovesContent, len_of, mini_sectors_owned, sectors_owned}
+use Rattle.cfb_growing.specs.cfb_content.Laws.{LacksNumbersFor}
+use Rattle.cfb_growing.specs.cfb_content.Room.{room_given}
+use Rattle.cfb_growing.proofs.cfb_content.Kept.{spared-is-kept, spared-sectors-kept}
+use Rattle.cfb_growing.proofs.cfb_content.Outlines.{stream-is-no-root}
+use Rattle.cfb_growing.proofs.cfb_content.RoomGiven.{given-is-counted}
 use Rattle.cfb_resizing.specs.Turning.{KeepsAround, StopsOrBegun, StopsOrIsFull}
 use Rattle.cfb_resizing.proofs.TurnedInMinis.{small-lacks}
 use Rattle.cfb_resizing.proofs.MovedToMinis.{still-same}
 use Rattle.cfb_growing.proofs.GrownLengths.{more-minis-too-few}
+use Rattle.cfb_format.proofs.Members.{Contains-nil}
 
 -- ---- what is lacking
 
@@ -67,7 +67,7 @@ on-both-ways (Err e) ok err = err
 same-still : (old new : MiniState) → new ≡ old → IsStill old new ⊎ ((table_of new).file.begun ≡ true)
 same-still old new same = inl (subst (λ (s : MiniState). IsStill old s) (sym same) refl)
 
-same-or-begun : (old new : MiniState) → (new ≡ old) ⊎ ((table_of new).file.begun ≡ true) → IsStill old new ⊎ ((table_of new).file.begun ≡ true)
+pub same-or-begun : (old new : MiniState) → (new ≡ old) ⊎ ((table_of new).file.begun ≡ true) → IsStill old new ⊎ ((table_of new).file.begun ≡ true)
 same-or-begun old new (inl same) = same-still old new same
 same-or-begun old new (inr up) = inr up
 

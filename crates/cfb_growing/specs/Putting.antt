@@ -1,6 +1,6 @@
 -- What bytes leave that are put into a stream inside its length.
 use Rattle.std.specs.Prelude.{◌≡◌}
-use Rattle.cfb_mini_sectors.specs.State.{MiniState, table_of}
+use Rattle.cfb_growing.specs.cfb_mini_sectors.State.{MiniState, table_of}
 
 -- all is as before but what is known of the file: its bytes, its length and sectors, the count of failures, and that a change was begun
 abbrev pub ChangesFileAlone : MiniState → MiniState → Type 0

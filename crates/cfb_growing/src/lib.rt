@@ -4,3 +4,8 @@
 mod appending;
 pub mod growing;
 pub mod putting;
+
+// What crates above name of those below.
+pub use cfb_access::reading::{read_content, readable_len};
+pub use cfb_access::{Fields, MiniAllocator};
+pub use cfb_resizing::resizing::{can_resize, resize_content};

@@ -5,23 +5,22 @@ ghost use Rattle.cfb_format.specs.Bytes.{max_stream_len};
 ghost use Rattle.cfb_format.specs.Medium.{written};
 ghost use Rattle.cfb_format.specs.Refused.{CountsFailure, IsMemory};
 ghost use Rattle.cfb_format.specs.Siblings.{entry_at};
-ghost use Rattle.cfb_tables.specs.Changes.{NoneFree};
-ghost use Rattle.cfb_tables.specs.Refused.{ChangeRefused};
-ghost use Rattle.cfb_mini_sectors.specs.State.{HoldsMini, IsChangeable, content_of, entries_of, table_of, tables_in, version_of};
-ghost use Rattle.cfb_mini.specs.MiniSectors.{IsStill};
-ghost use Rattle.cfb_content.specs.Changed.{MovesAlone, SparesOthers, WasChanged};
-ghost use Rattle.cfb_content.specs.Contents.{IsNotChangeable, IsStreamOf, IsTooLongFor, len_of};
+ghost use Rattle.cfb_growing.specs.cfb_tables.Changes.{NoneFree};
+ghost use Rattle.cfb_growing.specs.cfb_tables.Refused.{ChangeRefused};
+ghost use Rattle.cfb_growing.specs.cfb_mini_sectors.State.{HoldsMini, IsChangeable, content_of, entries_of, table_of, tables_in, version_of};
+ghost use Rattle.cfb_growing.specs.cfb_mini.MiniSectors.{IsStill};
+ghost use Rattle.cfb_growing.specs.cfb_content.Changed.{MovesAlone, SparesOthers, WasChanged};
+ghost use Rattle.cfb_growing.specs.cfb_content.Contents.{IsNotChangeable, IsStreamOf, IsTooLongFor, len_of};
 ghost use Rattle.cfb_resizing.specs.Turning.{KeepsTablesTight, LeavesNoMinis, StopsOrIsFull};
 ghost use Rattle.cfb_growing.specs.Putting.{ChangesFileAlone};
 
 use crate::appending::{append_long, append_long_all, append_up_to};
 use crate::growing::{grow_content, grow_to, len_once_moved};
-use cfb_content::reading::content_in;
-use cfb_content::writing::{write_content, write_listed};
+use cfb_access::writing::{write_content, write_listed};
+use cfb_access::{MiniAllocator, content_in};
 use cfb_format::consts::{MINI_SECTOR_LEN, MINI_STREAM_CUTOFF};
 use cfb_format::error::Error;
 use cfb_format::medium::{Medium, ReadMedium};
-use cfb_mini::mini_allocator::MiniAllocator;
 use std::alloc::Allocator as Heap;
 
 /// A list with room for the mini chain of any stream in mini sectors. `Memory`.

@@ -2,13 +2,13 @@
 ghost use Rattle.std.specs.Prelude.{◌≡◌, ◌<◌, length, IsTrue, IfOk};
 ghost use Rattle.cfb_format.specs.declared.objtype.ObjType.TheVariants.{Stream};
 ghost use Rattle.cfb_format.specs.Siblings.{entry_at};
-ghost use Rattle.cfb_mini_sectors.specs.State.{entries_of};
-ghost use Rattle.cfb_content.specs.Contents.{IsStreamOf};
+ghost use Rattle.cfb_layers.specs.cfb_mini_sectors.State.{entries_of};
+ghost use Rattle.cfb_layers.specs.cfb_content.Contents.{IsStreamOf};
 
 use crate::directories::{put_path, storage_at};
 use crate::runs::{difference, laid};
-use cfb_content::reading::{read_content, readable_len};
-use cfb_content::writing::write_content;
+use cfb_access::reading::{read_content, readable_len};
+use cfb_access::writing::write_content;
 use cfb_format::error::{Detail, Error};
 use cfb_format::medium::{Medium, ReadMedium};
 use cfb_format::objtype::ObjType;

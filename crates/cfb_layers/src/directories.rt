@@ -4,7 +4,7 @@ ghost use Rattle.cfb_codecs.specs.EntryModel.{entries_of as entries_of_all};
 ghost use Rattle.cfb_format.specs.declared.objtype.ObjType.TheVariants.{Stream};
 ghost use Rattle.cfb_format.specs.Siblings.{entry_at};
 ghost use Rattle.cfb_outline.specs.Outlines.{IsReachedStorage};
-ghost use Rattle.cfb_mini_sectors.specs.State.{cases_of, entries_of};
+ghost use Rattle.cfb_layers.specs.cfb_mini_sectors.State.{cases_of, entries_of};
 
 use cfb_codecs::direntry::DirEntry;
 use cfb_codecs::path::validate_name;

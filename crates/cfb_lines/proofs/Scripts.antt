@@ -4,12 +4,12 @@ use Rattle.std.proofs.lemmas.Bool.{eqb-true}
 use Rattle.std.specs.Prelude.{ℤ, ⊤, Result, Ok, Err, IfOk, MatchOption}
 use Rattle.std.specs.List.{AllZip, slice_split}
 use denote.Ref.{Bor}
-use Rattle.cfb_rules.specs.Lists.{Command}
+use Rattle.cfb_lines.specs.cfb_rules.Lists.{Command}
 use Rattle.cfb_lines.specs.declared.error.LinesError.{LinesError}
 use Rattle.cfb_lines.specs.declared.error.LinesError.TheVariants.{WrongWords, Memory}
 use Rattle.cfb_lines.specs.declared.word.Word.{Word}
 use Rattle.cfb_lines.specs.declared.word.Word.TheVariants.{Mkdir, Mkdirs, Touch, Rmdir, Rmtree, Rm, Bits, Len, Put, Add}
-use Rattle.cfb_lines.specs.Commands.{AreCommands, HasBytes, HasMoment, HasNumber, IsLine, IsScript, Says}
+use Rattle.cfb_lines.specs.Commands.{AreCommands, HasHex, HasMoment, HasNumber, IsLine, IsScript, Says}
 use Rattle.cfb_lines.specs.Fields.{IsHex, IsSeconds}
 use Rattle.cfb_lines.specs.Lines.{lines_in}
 use Rattle.cfb_lines.specs.Wrong.{WrongIf, rest_of}
@@ -23,8 +23,8 @@ no_moment last text e none =
     (λ h. let same : text.now ≡ h.0 = cc (h.2) in none h.1 (subst (λ (t : List ℕ). IsSeconds t h.1) (sym same) h.3))
 
 pub some_bytes : {V E : Type 0} (items : V → List ℕ) (r : Result V E) (last : Option (Bor (List ℕ))) (text : Bor (List ℕ)) → last ≡ Some text
-    → IfOk r (λ v. IsHex text.now (items v)) → IfOk r (λ v. HasBytes (rest_of last) (λ bytes. bytes ≡ items v))
-some_bytes items (Ok v) last text e h = subst (λ (o : Option (Bor (List ℕ))). HasBytes (rest_of o) (λ bytes. bytes ≡ items v)) (sym e) (text.now, items v, refl, h, refl)
+    → IfOk r (λ v. IsHex text.now (items v)) → IfOk r (λ v. HasHex (rest_of last) (λ bytes. bytes ≡ items v))
+some_bytes items (Ok v) last text e h = subst (λ (o : Option (Bor (List ℕ))). HasHex (rest_of o) (λ bytes. bytes ≡ items v)) (sym e) (text.now, items v, refl, h, refl)
 some_bytes items (Err x) last text e h = tt
 
 -- ---- one line

@@ -1,3 +1,4 @@
+pub use Rattle.cfb_commands.specs.cfb_rules
 pub mod Lines
 pub mod Fields
 pub mod Words

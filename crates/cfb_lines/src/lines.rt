@@ -1,13 +1,13 @@
 //! Lines of text that are commands.
 ghost use Rattle.std.specs.Prelude.{◌≡◌, ◌<◌, ◌≤◌, ◌∷◌, ◌++◌, ◌==◌, ℕ, List, [], ⊤, length, map, chars, string_bytes, option_to_list, MatchOption, IfOk, IfErr, OnOk};
 ghost use Rattle.std.specs.List.{slice_split};
-ghost use Rattle.cfb_lines.specs.Commands.{HasBytes, HasMoment, HasNumber, IsLine, IsScript, AreCommands, Says};
+ghost use Rattle.cfb_lines.specs.Commands.{HasHex, HasMoment, HasNumber, IsLine, IsScript, AreCommands, Says};
 ghost use Rattle.cfb_commands.specs.Commands.{command_of, opening_of, stream_call_of};
 ghost use Rattle.cfb_lines.specs.Wrong.{WrongIf, rest_of};
 ghost use Rattle.cfb_lines.specs.Words.{spelling};
 ghost use Rattle.cfb_lines.specs.declared.word.Word.{Word as TheWord};
-ghost use Rattle.cfb_rules.specs.Lists as rules;
-ghost use Rattle.cfb_rules.specs.Lists.{Command as Ordered};
+ghost use Rattle.cfb_lines.specs.cfb_rules.Lists as rules;
+ghost use Rattle.cfb_lines.specs.cfb_rules.Lists.{Command as Ordered};
 
 use crate::error::LinesError;
 use crate::fields::{cut, first_line};
@@ -84,8 +84,8 @@ fn stream_len_in(last: Option<&str>) -> Result<u64, LinesError>
 
 /// The bytes in the last field.
 fn content_in<A: Heap + Clone>(alloc: &A, last: Option<&str>) -> Result<Vec<u8, A>, LinesError>
-    ensures ok { IfOk result (λ v. HasBytes (rest_of last.entry) (λ bytes. bytes ≡ v.items)) }
-    ensures wrong { IfErr result (WrongIf (HasBytes (rest_of last.entry) (λ bytes. ⊤) → ⊥)) }
+    ensures ok { IfOk result (λ v. HasHex (rest_of last.entry) (λ bytes. bytes ≡ v.items)) }
+    ensures wrong { IfErr result (WrongIf (HasHex (rest_of last.entry) (λ bytes. ⊤) → ⊥)) }
 {
     let Some(text) = last else {
         return Err(LinesError::WrongWords);

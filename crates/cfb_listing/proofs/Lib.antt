@@ -1,3 +1,5 @@
+pub use Rattle.cfb_trees.proofs as cfb_trees
+pub use Rattle.cfb_rules.proofs as cfb_rules
 pub mod Slashes
 pub mod Telling
 pub mod Levels

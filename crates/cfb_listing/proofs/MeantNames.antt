@@ -1,5 +1,5 @@
 -- The names of a tree that bytes mean have no `/`, and so each is plain or is lost in paths.
-use Rattle.std.proofs.Common.{◌≡◌, ℕ, ◌<◌, ◌≤◌, Bool, true, false, List, [], ◌∷◌, ◌++◌, length, refl, sym, ap, ◌∙◌, subst, inl, inr, ⊎_elim}
+use Rattle.std.proofs.Common.{◌≡◌, ℕ, ◌<◌, ◌≤◌, Bool, true, false, List, [], ◌∷◌, ◌++◌, length, refl, sym, ap, subst, inl, inr, ⊎_elim}
 use Rattle.std.specs.Prelude.{Option, Some, None, if◌then◌else◌, ◌==◌, ◌⊎◌, ⊤, slice_index_or}
 use Rattle.std.specs.Option.{option_map_or}
 use Rattle.std.specs.List.{list_all, list_any, All, AllByRecursion, AllZip}
@@ -8,10 +8,9 @@ use Rattle.std.proofs.lemmas.List.{get_or_past}
 use Rattle.std.proofs.lemmas.List.Elements.{All-nil, All-cons, All-append}
 use Rattle.std.proofs.lemmas.Option.{same_Some}
 use Rattle.cfb_format.specs.declared.version.Version.{Version}
-use Rattle.cfb_format.specs.declared.objtype.ObjType.{ObjType}
 use Rattle.cfb_format.specs.declared.objtype.ObjType.TheVariants.{Storage, Stream}
 use Rattle.cfb_format.specs.Content.{readable}
-use Rattle.cfb_format.specs.DirectoryEntry.{Entry, IsEntry, IsAllowedName, name_for, stored_name, slots, unallocated_entry}
+use Rattle.cfb_format.specs.DirectoryEntry.{Entry, IsEntry, stored_name, slots, unallocated_entry}
 use Rattle.cfb_format.specs.Meaning.{Means, objects_from}
 use Rattle.cfb_format.specs.Names.{Cases}
 use Rattle.cfb_format.specs.Path.{slash, path_of_names, is_plain_name, child_path}
@@ -29,19 +28,17 @@ use Rattle.cfb_listing.proofs.FoundNames.{found-holds}
 use Rattle.cfb_listing.proofs.PathNames.{path-plain}
 use Rattle.cfb_listing.proofs.PlainPaths.{both, IsFree, allowed-free, plain-free, free-plain, free-names}
 use Rattle.cfb_listing.proofs.ReachedFound.{same-entries, plain-walked, plain-listed}
+use Rattle.cfb_format.proofs.Slots.{stored_free}
 
 -- ---- of the entries
-
-stored-allowed : (kind t : ObjType) (name stored : List ℕ) → t ≡ kind → name ≡ name_for t stored → IsAllowedName t stored → (name ≡ name_for kind stored) × IsAllowedName kind stored
-stored-allowed kind t name stored is named allowed = (named ∙ ap (λ (k : ObjType). name_for k stored) is, subst (λ (k : ObjType). IsAllowedName k stored) is allowed)
 
 abbrev FreeIfOfTree : Entry → Type 0
 FreeIfOfTree e = (e.obj_type ≡ Storage) ⊎ (e.obj_type ≡ Stream) → IsFree e.name
 
 slot-free : (v : Version) (slot : List ℕ) (e : Entry) → IsEntry v slot e → FreeIfOfTree e
 slot-free v slot e entry kind = elim kind [
-  | inl is ↦ let h = stored-allowed Storage e.obj_type e.name (stored_name slot) is entry.name entry.name_allowed in subst IsFree (sym h.0) (allowed-free (stored_name slot) h.1)
-  | inr is ↦ let h = stored-allowed Stream e.obj_type e.name (stored_name slot) is entry.name entry.name_allowed in subst IsFree (sym h.0) (allowed-free (stored_name slot) h.1)
+  | inl is ↦ let h = stored_free Storage e.obj_type e.name (stored_name slot) is entry.name entry.name_allowed in subst IsFree (sym h.0) (allowed-free (stored_name slot) h.1)
+  | inr is ↦ let h = stored_free Stream e.obj_type e.name (stored_name slot) is entry.name entry.name_allowed in subst IsFree (sym h.0) (allowed-free (stored_name slot) h.1)
 ]
 
 slots-free : (v : Version) (from : List (List ℕ)) (es : List Entry) → AllZip (IsEntry v) from es → All FreeIfOfTree es

@@ -27,8 +27,8 @@ abbrev pub ListsInside : EntriesOrder → List Entry → List ℕ → ℕ → Li
 ListsInside order entries path k list = OfInside entries k (λ objects. list ≡ listed_by order path objects)
 
 -- the list has the objects of the storage k on the first level
-abbrev pub ListsChildren : List Entry → List ℕ → ℕ → List EntryInfo → Type 0
-ListsChildren entries path k list = OfInside entries k (λ objects. list ≡ listed path objects)
+abbrev pub ListsStorage : List Entry → List ℕ → ℕ → List EntryInfo → Type 0
+ListsStorage entries path k list = OfInside entries k (λ objects. list ≡ listed path objects)
 
 -- the list has the object k with this path and then, if it is a storage or the root, all that is in it
 pub record Walks (entries : List Entry) (path : List ℕ) (k : ℕ) (list : List EntryInfo) : Type 0 where

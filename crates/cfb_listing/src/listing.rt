@@ -10,7 +10,7 @@ ghost use Rattle.cfb_outline.specs.Families.{IsInside};
 ghost use Rattle.cfb_outline.specs.Outlines.{IsReachedStorage};
 ghost use Rattle.cfb_trees.specs.Reached.{IsReached};
 ghost use Rattle.cfb_listing.specs.Told.{entry_info};
-ghost use Rattle.cfb_listing.specs.Listings.{listed_by, OfInside, ListsInside, ListsChildren, Walks};
+ghost use Rattle.cfb_listing.specs.Listings.{listed_by, OfInside, ListsInside, ListsStorage, Walks};
 ghost use Rattle.cfb_listing.specs.Waiting.{waits_in, path_at, is_entered};
 
 use crate::entry::{Entry, entry_of};
@@ -205,7 +205,7 @@ pub fn list_children<A: Allocator + Clone>(
 ) -> Result<Vec<Entry<A>, A>, Error>
     requires { (cases : Cases) × IsReachedStorage cases (entries_of entries.now) number }
     ensures ok { IfOk result (λ list.
-        ListsChildren (entries_of entries.now) (chars path.now) number list.items) }
+        ListsStorage (entries_of entries.now) (chars path.now) number list.items) }
     ensures refused { IfErr result IsMemory }
 {
     list_inside(alloc, entries, EntriesOrder::Nonrecursive, path, number)

@@ -6,11 +6,12 @@ use Rattle.std.proofs.lemmas.List.{length-drop, nil_from_length}
 use Rattle.cfb_format.specs.Bytes.{end_of_chain, free_sector}
 use Rattle.cfb_format.specs.Chain.{IsChain, value}
 use Rattle.cfb_format.proofs.Unique.{IsChain-unique}
-use Rattle.cfb_tables.specs.Listed.{ends_of}
-use Rattle.cfb_tables.proofs.ChainLemmas.{chain-rest, chain_of}
-use Rattle.cfb_tables.proofs.ListedLemmas.{ending_other}
-use Rattle.cfb_tables.proofs.Members.{Contains-here, value-below}
-use Rattle.cfb_mini_table.specs.MiniTable.{MiniGivesBack}
+use Rattle.cfb_mini.specs.cfb_tables.Listed.{ends_of}
+use Rattle.cfb_mini.proofs.cfb_tables.ChainLemmas.{chain-rest}
+use Rattle.cfb_mini.proofs.cfb_tables.ListedLemmas.{ending_other}
+use Rattle.cfb_mini.specs.cfb_mini_table.MiniTable.{MiniGivesBack}
+use Rattle.cfb_format.proofs.Walks.{chain_of, value-below}
+use Rattle.cfb_format.proofs.Members.{Contains-here}
 
 -- a chain that starts somewhere has its start as its first member
 pub begun-at : (table : List ℕ) (start : ℕ) (ids : List ℕ) → start ≢ end_of_chain → IsChain table start ids → ids ≡ start ∷ drop 1 ids

@@ -12,39 +12,40 @@ use Rattle.cfb_format.specs.Full.{max_mini_sectors}
 use Rattle.cfb_format.specs.Reading.{Outline, minifat_words, numbers}
 use Rattle.cfb_format.specs.DirectoryEntry.{Entry}
 use Rattle.cfb_format.specs.Siblings.{entry_at}
-use Rattle.cfb_outline.specs.Outlines.{HasInside, IsReachedStorage}
-use Rattle.cfb_entries.specs.Clearing.{HasCleared}
-use Rattle.cfb_entries.specs.declared.fields.Fields.{Fields}
-use Rattle.cfb_entries.specs.Fields.{entries_with_fields, entry_with_fields}
-use Rattle.cfb_entries.specs.EntryList.{InsertsEntry, RemovesEntry, has_free}
-use Rattle.cfb_tables.specs.Changes.{AreDisjoint}
-use Rattle.cfb_tables.specs.Listed.{gained}
-use Rattle.cfb_tables.specs.Tables.{AreSizes, first_or_end, sizes_of}
-use Rattle.cfb_tables.proofs.ChainLemmas.{members-busy}
-use Rattle.cfb_tables.proofs.Members.{distinct-join, distinct-left, distinct-right}
-use Rattle.cfb_alloc.specs.Agreement.{HasSectors, KeepsSectors}
-use Rattle.cfb_alloc.specs.Alloc.{AllocatorState, HoldsTables, IsOtherHeaderByte}
-use Rattle.cfb_alloc.specs.Frame.{Spares}
-use Rattle.cfb_alloc.specs.ListedChain.{Lengthens}
-use Rattle.cfb_alloc.proofs.Frames.{other-chains-spared}
+use Rattle.cfb_mini.specs.cfb_outline.Outlines.{HasInside, IsReachedStorage}
+use Rattle.cfb_mini.specs.cfb_entries.Clearing.{HasCleared}
+use Rattle.cfb_mini.specs.cfb_entries.declared.fields.Fields.{Fields}
+use Rattle.cfb_mini.specs.cfb_entries.Fields.{entries_with_fields, entry_with_fields}
+use Rattle.cfb_mini.specs.cfb_entries.EntryList.{InsertsEntry, RemovesEntry, has_free}
+use Rattle.cfb_mini.specs.cfb_tables.Changes.{AreDisjoint}
+use Rattle.cfb_mini.specs.cfb_tables.Listed.{gained}
+use Rattle.cfb_mini.specs.cfb_tables.Tables.{AreSizes, first_or_end, sizes_of}
+use Rattle.cfb_mini.proofs.cfb_tables.ChainLemmas.{members-busy}
+use Rattle.cfb_mini.specs.cfb_alloc.Agreement.{HasSectors, KeepsSectors}
+use Rattle.cfb_mini.specs.cfb_alloc.Alloc.{AllocatorState, HoldsTables, IsOtherHeaderByte}
+use Rattle.cfb_mini.specs.cfb_alloc.Frame.{Spares}
+use Rattle.cfb_mini.specs.cfb_alloc.ListedChain.{Lengthens}
+use Rattle.cfb_mini.proofs.cfb_alloc.Frames.{other-chains-spared}
 use Rattle.cfb_sectors.proofs.WordLemmas.{word_same}
-use Rattle.cfb_directory.specs.State.{DirectoryState, HoldsDirectory, IsKeptHeaderByte, KeepsDirectoryHeader, with_room}
-use Rattle.cfb_directory.specs.Steps.{KeepsWholeHeader}
-use Rattle.cfb_directory.proofs.ChangedFields.{changed_beside, changed_here}
-use Rattle.cfb_directory.proofs.InsertWhole.{roomy-same}
-use Rattle.cfb_directory.proofs.Placed.{header_there}
-use Rattle.cfb_directory.proofs.Rewritten.{word_left}
-use Rattle.cfb_mini_sectors.specs.State.{MiniState, HoldWordsBut, HoldsMini, IsStrictMini, bytes_of, entries_of, mini_stream_of, root_len_of, table_of, tables_in, version_of}
-use Rattle.cfb_mini_sectors.specs.Steps.{system_sectors}
-use Rattle.cfb_mini_sectors.specs.Held.{IsMiniStream, with_directory, with_table}
-use Rattle.cfb_mini_sectors.proofs.HeldMini.{if-strict, mini-stays-held, no-tables}
-use Rattle.cfb_mini_sectors.proofs.HeldSteps.{directory-minifat, front-stream}
-use Rattle.cfb_mini_sectors.proofs.MiniStreams.{chain-is-stream, stream-chain, stream-is-chain, begins}
-use Rattle.cfb_mini_sectors.proofs.MiniWords.{held-words-kept, minifat-kept}
+use Rattle.cfb_mini.specs.cfb_directory.State.{DirectoryState, HoldsDirectory, IsKeptHeaderByte, KeepsDirectoryHeader, with_room}
+use Rattle.cfb_mini.specs.cfb_directory.Steps.{KeepsWholeHeader}
+use Rattle.cfb_mini.proofs.cfb_directory.ChangedFields.{changed_beside, changed_here}
+use Rattle.cfb_mini.proofs.cfb_directory.InsertWhole.{roomy-same}
+use Rattle.cfb_mini.proofs.cfb_directory.Placed.{header_there}
+use Rattle.cfb_mini.proofs.cfb_directory.Rewritten.{word_left}
+use Rattle.cfb_mini.specs.cfb_mini_sectors.State.{MiniState, HoldWordsBut, HoldsMini, IsStrictMini, bytes_of, entries_of, mini_stream_of, root_len_of, table_of, tables_in, version_of}
+use Rattle.cfb_mini.specs.cfb_mini_sectors.Steps.{system_sectors}
+use Rattle.cfb_mini.specs.cfb_mini_sectors.Held.{IsMiniStream, with_directory, with_table}
+use Rattle.cfb_mini.proofs.cfb_mini_sectors.HeldMini.{mini-stays-held, no-tables}
+use Rattle.cfb_mini.proofs.cfb_mini_sectors.HeldSteps.{directory-minifat, front-stream}
+use Rattle.cfb_mini.proofs.cfb_mini_sectors.MiniStreams.{chain-is-stream, stream-chain, stream-is-chain, begins}
+use Rattle.cfb_mini.proofs.cfb_mini_sectors.MiniWords.{held-words-kept, minifat-kept}
 use Rattle.cfb_mini_changes.proofs.MiniKnown.{held-stream}
 use Rattle.cfb_mini.proofs.RootStays.{SameContent, cleared-root, inserted-root, removed-root, same-entry}
 use Rattle.std.proofs.lemmas.Bool.{cases_eq}
 use Rattle.std.proofs.lemmas.List.Elements.{Contains-append_cases, Contains-append_left, Contains-append_right}
+use Rattle.cfb_format.proofs.Members.{distinct-join, distinct-left, distinct-right}
+use Rattle.cfb_format.proofs.Tests.{if_strict}
 
 pub held-directory : (validation : Validation) (s : MiniState) (d : DirectoryState) → HoldsMini validation s → HoldsDirectory validation d
     → Spares s.directory.sectors (table_of s) d.table → word_at d.table.file.bytes 60 ≡ word_at (bytes_of s) 60 → word_at d.table.file.bytes 64 ≡ word_at (bytes_of s) 64
@@ -93,7 +94,7 @@ held-directory validation s d h held spares w60 w64 root once =
         room = subst (λ u. length s.minifat * mini_sector_len ≤ length list * sector_len u) version h.mini_stream.room;
       };
       apart = once;
-      strict = if-strict validation (IsStrictMini s) (IsStrictMini (with_directory s d)) (λ t. record {
+      strict = if_strict validation (IsStrictMini s) (IsStrictMini (with_directory s d)) (λ t. record {
         minifat_len = subst (λ n. length (minifat_words d.table.tables.version d.table.file.bytes sectors) ≤ n / mini_sector_len) (sym root.len)
             (subst (λ (l : List ℕ). length l ≤ root_len_of s / mini_sector_len) (sym words) t.minifat_len);
         minifat_count = w64 ∙ t.minifat_count;

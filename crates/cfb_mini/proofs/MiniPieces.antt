@@ -15,20 +15,20 @@ use Rattle.cfb_format.specs.Refused.{AfterMedium, IsInvalidData}
 use Rattle.cfb_format.specs.Siblings.{entry_at}
 use Rattle.cfb_sectors.specs.Sectors.{IsMediumError}
 use Rattle.cfb_sectors.proofs.WordLemmas.{word_same}
-use Rattle.cfb_soundness.specs.Places.{mini_start}
-use Rattle.cfb_tables.specs.Tables.{first_or_end}
-use Rattle.cfb_alloc.specs.Alloc.{AllocatorState, HoldsTables}
-use Rattle.cfb_alloc.specs.Frame.{Spares}
-use Rattle.cfb_alloc.specs.InSector.{IsNoTableSector}
-use Rattle.cfb_alloc.proofs.HeldOrder.{members-no_table}
-use Rattle.cfb_directory.proofs.InsertGrow.{medium-broke}
-use Rattle.cfb_directory.proofs.Placed.{header_there}
-use Rattle.cfb_mini_sectors.specs.State.{MiniState, HoldsMini, bytes_of, entries_of, mini_place, mini_stream_of, table_of, tables_in, version_of}
-use Rattle.cfb_mini_sectors.specs.Steps.{SparesMini, StopsShort}
-use Rattle.cfb_mini_sectors.specs.Held.{with_table}
-use Rattle.cfb_mini_sectors.specs.Pieces.{HasMini}
-use Rattle.cfb_mini_sectors.proofs.HeldSteps.{front-stream}
-use Rattle.cfb_mini_sectors.proofs.MiniStreams.{chain-is-stream, stream-chain}
+use Rattle.cfb_mini.specs.cfb_soundness.Places.{mini_start}
+use Rattle.cfb_mini.specs.cfb_tables.Tables.{first_or_end}
+use Rattle.cfb_mini.specs.cfb_alloc.Alloc.{AllocatorState, HoldsTables}
+use Rattle.cfb_mini.specs.cfb_alloc.Frame.{Spares}
+use Rattle.cfb_mini.specs.cfb_alloc.InSector.{IsNoTableSector}
+use Rattle.cfb_mini.proofs.cfb_alloc.HeldOrder.{members-no_table}
+use Rattle.cfb_mini.proofs.cfb_directory.InsertGrow.{medium-broke}
+use Rattle.cfb_mini.proofs.cfb_directory.Placed.{header_there}
+use Rattle.cfb_mini.specs.cfb_mini_sectors.State.{MiniState, HoldsMini, bytes_of, entries_of, mini_place, mini_stream_of, table_of, tables_in, version_of}
+use Rattle.cfb_mini.specs.cfb_mini_sectors.Steps.{SparesMini, StopsShort}
+use Rattle.cfb_mini.specs.cfb_mini_sectors.Held.{with_table}
+use Rattle.cfb_mini.specs.cfb_mini_sectors.Pieces.{HasMini}
+use Rattle.cfb_mini.proofs.cfb_mini_sectors.HeldSteps.{front-stream}
+use Rattle.cfb_mini.proofs.cfb_mini_sectors.MiniStreams.{chain-is-stream, stream-chain}
 use Rattle.cfb_mini_changes.specs.MiniSectors.{HasMiniByte}
 use Rattle.cfb_mini_changes.proofs.MiniKnown.{has-mini, held-stream, mini-has, mini-or-not}
 use Rattle.cfb_mini.proofs.MiniWritten.{held-bytes, spares-mini-refl, written-spares-mini}
@@ -53,7 +53,7 @@ has-no-mini s mini = elim (mini-or-not s mini) [
 
 -- ---- reading
 
-byte-or-not : (s : MiniState) (mini offset : ℕ) → HasMiniByte s mini offset ⊎ (HasMiniByte s mini offset → ⊥)
+pub byte-or-not : (s : MiniState) (mini offset : ℕ) → HasMiniByte s mini offset ⊎ (HasMiniByte s mini offset → ⊥)
 byte-or-not s mini offset = elim (mini-or-not s mini) [
   | inr none ↦ inr (λ has. none has.mini_sector)
   | inl here ↦ elim (cases_lt (mini_place s mini + offset) (table_of s).file.len) [

@@ -5,38 +5,27 @@ use Rattle.std.proofs.lemmas.Bool.{cases_lt}
 use Rattle.std.proofs.lemmas.List.{drop-append-le, take-append-drop, take-append-le}
 use Rattle.cfb_format.specs.declared.error.Error.{Error}
 use Rattle.cfb_format.specs.declared.version.Version.{Version}
-use Rattle.cfb_format.specs.declared.version.Version.TheVariants.{V3, V4}
 use Rattle.cfb_format.specs.declared.validate.Validation.{Validation}
-use Rattle.cfb_format.specs.Bytes.{sector_len, sector_start}
+use Rattle.cfb_format.specs.Bytes.{sector_len}
 use Rattle.cfb_format.specs.Medium.{ChangesOnlyBytes}
-use Rattle.cfb_tables.proofs.Members.{distinct-right}
-use Rattle.cfb_soundness.specs.Places.{mini_start}
-use Rattle.cfb_alloc.specs.Alloc.{AllocatorState}
+use Rattle.cfb_mini.specs.cfb_soundness.Places.{mini_start}
+use Rattle.cfb_mini.specs.cfb_alloc.Alloc.{AllocatorState}
 use Rattle.cfb_runs.specs.Along.{ChangesOnlyRun}
-use Rattle.cfb_tables.specs.Consecutive.{FollowOn}
+use Rattle.cfb_mini.specs.cfb_tables.Consecutive.{FollowOn}
 use Rattle.cfb_runs.specs.Runs.{IsRun, place_along}
-use Rattle.cfb_mini_sectors.specs.State.{HoldsMini, MiniState, bytes_of, mini_place, mini_stream_of, table_of, tables_in, version_of}
-use Rattle.cfb_mini_sectors.specs.Steps.{SparesMini}
-use Rattle.cfb_mini_sectors.specs.Held.{with_table}
-use Rattle.cfb_mini_sectors.proofs.PiecePlaces.{minis_apart}
+use Rattle.cfb_mini.specs.cfb_mini_sectors.State.{HoldsMini, MiniState, bytes_of, mini_place, mini_stream_of, table_of, tables_in, version_of}
+use Rattle.cfb_mini.specs.cfb_mini_sectors.Steps.{SparesMini}
+use Rattle.cfb_mini.specs.cfb_mini_sectors.Held.{with_table}
+use Rattle.cfb_mini.proofs.cfb_mini_sectors.PiecePlaces.{minis_apart}
 use Rattle.cfb_mini.specs.MiniRuns.{ChangesMiniStretch, HasTheMinis, IsMiniRun, IsMiniStretch}
 use Rattle.cfb_mini_changes.specs.MiniSectors.{HasMiniSector}
 use Rattle.cfb_mini_changes.proofs.MiniKnown.{mini_below, mini_index}
 use Rattle.cfb_mini.proofs.MiniWritten.{busy-mini}
+use Rattle.cfb_format.proofs.Members.{distinct-right}
+use Rattle.cfb_mini.proofs.cfb_mini_sectors.MiniRows.{same_index, along_stream}
+use Rattle.cfb_mini.proofs.cfb_alloc.Spared.{start_past}
 
 -- ---- where a byte of the mini stream lies
-
-same_index : (v : Version) (m r : ℕ) → (64 * m + r) / sector_len v ≡ 64 * (m + r / 64) / sector_len v
-same_index V3 m r = omega arith
-same_index V4 m r = omega arith
-
-same_rest : (v : Version) (m r : ℕ) → (64 * m + r) % sector_len v ≡ 64 * (m + r / 64) % sector_len v + r % 64
-same_rest V3 m r = omega arith
-same_rest V4 m r = omega arith
-
--- its place by the mini stream's sectors is its place by its mini sector
-pub along_stream : (v : Version) (stream : List ℕ) (m r : ℕ) → place_along v stream (64 * m + r) ≡ mini_start v stream (m + r / 64) + r % 64
-along_stream v stream m r = (λ j. sector_start v (slice_index stream (same_index v m r j)) + same_rest v m r j) ∙ omega arith
 
 pub along_here : (v : Version) (stream : List ℕ) (m offset : ℕ) → offset < 64 → place_along v stream (64 * m + offset) ≡ mini_start v stream m + offset
 along_here v stream m offset inside =
@@ -122,15 +111,11 @@ change_of_run s a b stream m offset count len total ea es inside stretch few mos
       (subst (λ (c : AllocatorState). ChangesOnlyBytes (place_along a.tables.version stream (64 * m + offset)) run.run c.file.bytes b.file.bytes) ea run.change);
 }
 
-behind_header : (v : Version) (i r : ℕ) → sector_len v ≤ sector_start v i + r
-behind_header V3 i r = omega arith
-behind_header V4 i r = omega arith
-
 -- nothing of the header
 pub header_stays : (v : Version) (stream : List ℕ) (at count : ℕ) (old new : List ℕ) → ChangesOnlyRun v stream at count old new → (i : ℕ) → i < length old → i < sector_len v
     → slice_index new i ≡ slice_index old i
 header_stays v stream at count old new run i there low =
-    let behind = behind_header v (slice_index stream (at / sector_len v)) (at % sector_len v) in
+    let behind = start_past v (slice_index stream (at / sector_len v)) (at % sector_len v) in
     run.change.below i there (omega (arith, low, behind))
 
 -- ---- what stays

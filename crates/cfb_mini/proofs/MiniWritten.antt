@@ -9,24 +9,26 @@ use Rattle.cfb_format.specs.Content.{mini_sector_len}
 use Rattle.cfb_format.specs.Medium.{ChangesOnlyBytes}
 use Rattle.cfb_format.specs.Reading.{minifat_words}
 use Rattle.cfb_format.specs.Siblings.{entry_at}
-use Rattle.cfb_tables.specs.Changes.{AreDisjoint}
-use Rattle.cfb_tables.specs.Tables.{AreSizes, TableState, first_or_end, sizes_of}
-use Rattle.cfb_tables.proofs.Members.{Contains-here, distinct-right, value-past}
-use Rattle.cfb_alloc.specs.Agreement.{KeepsSectors}
-use Rattle.cfb_alloc.specs.Alloc.{AllocatorState, HoldsTables}
-use Rattle.cfb_alloc.specs.Frame.{Spares}
-use Rattle.cfb_alloc.proofs.Frames.{other-chains-spared}
+use Rattle.cfb_mini.specs.cfb_tables.Changes.{AreDisjoint}
+use Rattle.cfb_mini.specs.cfb_tables.Tables.{AreSizes, TableState, first_or_end, sizes_of}
+use Rattle.cfb_mini.proofs.cfb_tables.Members.{value-past}
+use Rattle.cfb_mini.specs.cfb_alloc.Agreement.{KeepsSectors}
+use Rattle.cfb_mini.specs.cfb_alloc.Alloc.{AllocatorState, HoldsTables}
+use Rattle.cfb_mini.specs.cfb_alloc.Frame.{Spares}
+use Rattle.cfb_mini.proofs.cfb_alloc.Frames.{other-chains-spared}
 use Rattle.std.proofs.lemmas.List.Elements.{Contains-append_right}
-use Rattle.cfb_mini_sectors.specs.State.{MiniState, HoldsMini, IsStrictMini, bytes_of, entries_of, mini_place, mini_stream_of, root_len_of, table_of, tables_in, version_of}
-use Rattle.cfb_mini_sectors.specs.Steps.{SparesMini}
-use Rattle.cfb_mini_sectors.specs.Held.{with_table}
+use Rattle.cfb_mini.specs.cfb_mini_sectors.State.{MiniState, HoldsMini, IsStrictMini, bytes_of, entries_of, mini_place, mini_stream_of, root_len_of, table_of, tables_in, version_of}
+use Rattle.cfb_mini.specs.cfb_mini_sectors.Steps.{SparesMini}
+use Rattle.cfb_mini.specs.cfb_mini_sectors.Held.{with_table}
 use Rattle.cfb_mini_changes.specs.MiniSectors.{HasMiniSector}
-use Rattle.cfb_mini_sectors.proofs.HeldMini.{if-strict, no-tables}
-use Rattle.cfb_mini_sectors.proofs.HeldSteps.{but-written, held-but}
-use Rattle.cfb_mini_sectors.proofs.MiniStreams.{stream_chain}
-use Rattle.cfb_mini_sectors.proofs.MiniWords.{minifat-kept}
+use Rattle.cfb_mini.proofs.cfb_mini_sectors.HeldMini.{no-tables}
+use Rattle.cfb_mini.proofs.cfb_mini_sectors.HeldSteps.{but-written, held-but}
+use Rattle.cfb_mini.proofs.cfb_mini_sectors.MiniStreams.{stream_chain}
+use Rattle.cfb_mini.proofs.cfb_mini_sectors.MiniWords.{minifat-kept}
 use Rattle.cfb_mini_changes.proofs.MiniKnown.{held-sectors, known-mini, mini_index}
-use Rattle.cfb_mini_sectors.proofs.PiecePlaces.{minis_apart}
+use Rattle.cfb_mini.proofs.cfb_mini_sectors.PiecePlaces.{minis_apart}
+use Rattle.cfb_format.proofs.Members.{Contains-here, distinct-right}
+use Rattle.cfb_format.proofs.Tests.{if_strict}
 
 pub spares-mini-refl : (own : List ℕ) (s : MiniState) → SparesMini own s s
 spares-mini-refl own s = record {
@@ -96,7 +98,7 @@ held-bytes validation own s a h tables same spares apart word =
         room = subst (λ u. length s.minifat * mini_sector_len ≤ length h.mini_stream.sectors * sector_len u) version h.mini_stream.room;
       };
       apart = h.apart;
-      strict = if-strict validation (IsStrictMini s) (IsStrictMini (with_table s a)) (λ t. record {
+      strict = if_strict validation (IsStrictMini s) (IsStrictMini (with_table s a)) (λ t. record {
         minifat_len = subst (λ (l : List ℕ). length l ≤ root_len_of s / mini_sector_len) (sym words) t.minifat_len;
         minifat_count = word 64 (omega arith) ∙ t.minifat_count;
       }) h.strict;

@@ -1,19 +1,19 @@
 -- The root's start and length stay as entries come and go.
-use Rattle.std.proofs.Common.{◌≡◌, ◌≢◌, inl, inr, ℕ, List, [], ◌∷◌, ◌++◌, sym, ◌∙◌, ap, subst, arith}
+use Rattle.std.proofs.Common.{◌≡◌, ◌≢◌, inl, inr, ℕ, List, ◌∷◌, ◌++◌, sym, ◌∙◌, ap, subst, arith}
 use Rattle.std.specs.Prelude.{Contains}
 use Rattle.std.proofs.lemmas.Bool.{cases_eq}
-use Rattle.std.proofs.lemmas.List.Elements.{Contains-append_cases, Contains-append_right}
+use Rattle.std.proofs.lemmas.List.Elements.{Contains-append_cases}
 use Rattle.cfb_format.specs.declared.objtype.ObjType.TheVariants.{Unallocated, Storage, Stream, Root}
 use Rattle.cfb_format.specs.DirectoryEntry.{Entry}
 use Rattle.cfb_format.specs.Names.{Cases}
 use Rattle.cfb_format.specs.Reading.{Outline, no_more, storage_at, stream_at, HasContents, siblings, numbers}
 use Rattle.cfb_format.specs.Siblings.{entry_at}
-use Rattle.cfb_outline.specs.Outlines.{HasInside, IsReachedStorage}
-use Rattle.cfb_outline.proofs.Insides.{below-same, storage-is-inside}
-use Rattle.cfb_tables.proofs.Members.{Contains-or}
-use Rattle.cfb_siblings.specs.Children.{ButChild, ButLinks, HasChildren, HasInserted, HasRemoved}
-use Rattle.cfb_entries.specs.Clearing.{HasCleared}
-use Rattle.cfb_directory.proofs.InsertLinks.{first-or-later}
+use Rattle.cfb_mini.specs.cfb_outline.Outlines.{HasInside, IsReachedStorage}
+use Rattle.cfb_mini.proofs.cfb_outline.Insides.{below-same, storage-is-inside, first-or-later}
+use Rattle.cfb_mini.specs.cfb_siblings.Children.{ButChild, ButLinks, HasChildren, HasInserted, HasRemoved}
+use Rattle.cfb_mini.specs.cfb_entries.Clearing.{HasCleared}
+use Rattle.cfb_mini.proofs.cfb_directory.InsertLinks.{siblings-listed}
+use Rattle.cfb_format.proofs.Members.{Contains-or}
 
 -- the start and the length
 pub record SameContent (old new : Entry) : Type 0 where
@@ -43,17 +43,6 @@ listed-no-root cases es (storage_at i inside rest) k (t, l, c, r) has e = elim (
 listed-no-root cases es (stream_at i rest) k (t, r) has e = elim (first-or-later i (numbers rest) k has) [
   | inl same ↦ let clash : Root ≡ Stream = sym e ∙ ap (λ n. (entry_at es n).obj_type) same ∙ t in (cc)
   | inr later ↦ listed-no-root cases es rest k r later e
-]
-
-siblings-listed : (o : Outline) (k : ℕ) → Contains (siblings o) k → Contains (numbers o) k
-siblings-listed no_more k has = has
-siblings-listed (storage_at i inside rest) k has = elim (first-or-later i (siblings rest) k has) [
-  | inl same ↦ (0, omega arith, sym same)
-  | inr later ↦ Contains-append_right (i ∷ numbers inside) (numbers rest) k (siblings-listed rest k later)
-]
-siblings-listed (stream_at i rest) k has = elim (first-or-later i (siblings rest) k has) [
-  | inl same ↦ (0, omega arith, sym same)
-  | inr later ↦ Contains-append_right (i ∷ []) (numbers rest) k (siblings-listed rest k later)
 ]
 
 pub child-no-root : (cases : Cases) (es : List Entry) (parent : ℕ) (list : List ℕ) → IsReachedStorage cases es parent → HasChildren cases es parent list → (k : ℕ) → Contains list k

@@ -17,45 +17,42 @@ ghost use Rattle.cfb_format.specs.Refused.{AfterMedium, CountsFailure, IsInvalid
 ghost use Rattle.cfb_format.specs.Siblings.{entry_at};
 ghost use Rattle.cfb_codecs.specs.EntryModel.{entry_of, new_entry};
 ghost use Rattle.cfb_codecs.specs.EntryModel.{entries_of as entries_in};
-ghost use Rattle.cfb_outline.specs.Outlines.{IsReachedStorage};
-ghost use Rattle.cfb_siblings.specs.Children.{HasChildren, IsAbsent, IsChildNamed, KeepsBalance};
-ghost use Rattle.cfb_siblings.specs.Paths.{number_at_path, number_from};
+ghost use Rattle.cfb_mini.specs.cfb_outline.Outlines.{IsReachedStorage};
+ghost use Rattle.cfb_mini.specs.cfb_siblings.Children.{HasChildren, IsAbsent, IsChildNamed, KeepsBalance};
+ghost use Rattle.cfb_mini.specs.cfb_siblings.Paths.{number_at_path, number_from};
 ghost use Rattle.cfb_sectors.specs.Sectors.{IsMediumError, IsRaised};
-ghost use Rattle.cfb_tables.specs.Changes.{AreDisjoint, IsNextOf, NoChain};
-ghost use Rattle.cfb_tables.specs.Clean.{IsUnnamed};
-ghost use Rattle.cfb_tables.specs.Listed.{ends_of, gained};
-ghost use Rattle.cfb_tables.specs.Refused.{ChangeRefused, NextRefused, NoLast, TableRefused, WalkRefused};
-ghost use Rattle.cfb_tables.specs.Tables.{Extended, ExtendsFrom, GivesBackChain, HasTaken, IsTooFew, TakesFor, ending, first_or_end};
-ghost use Rattle.cfb_alloc.specs.Alloc.{ChangesSectors, HoldsTables, IsFilled, IsUsable, OthersStay};
-ghost use Rattle.cfb_alloc.specs.Broken.{BreaksOff};
-ghost use Rattle.cfb_alloc.specs.Frame.{Spares};
-ghost use Rattle.cfb_alloc.specs.ListedChain.{Lengthens};
-ghost use Rattle.cfb_entries.specs.declared.fields.Fields.{Fields};
-ghost use Rattle.cfb_entries.specs.EntryList.{AreInOrder, InsertsEntry, RemovesEntry, has_free};
-ghost use Rattle.cfb_entries.specs.Fields.{fields_in, entry_with_fields, entries_with_fields};
-ghost use Rattle.cfb_directory.specs.Growing.{ArePlaced, IsListedChain};
-ghost use Rattle.cfb_directory.specs.Slots.{IsLeastAbove};
-ghost use Rattle.cfb_directory.specs.State.{HoldsDirectory, IsFullForEntry, with_room};
-ghost use Rattle.cfb_directory.specs.State.{KeepsDirectoryHeader};
-ghost use Rattle.cfb_directory.specs.Steps.{KeepsOtherSlots, KeepsSlotsBut, KeepsWholeHeader, StaysRedApart};
-ghost use Rattle.cfb_directory.specs.Steps.{IsDirectoryNotHeld};
-ghost use Rattle.cfb_mini_table.specs.MiniTable.{AcceptsMini, IsTooFewMini, MiniGivesBack, TakesMini, read_entries};
-ghost use Rattle.cfb_mini_sectors.specs.State.{MiniState, HoldsMini, bytes_of, cases_of, entries_of, mini_place, mini_stream_of, parts_of, root_len_of, table_of, tables_in, version_of};
-ghost use Rattle.cfb_mini_sectors.specs.Steps.{AreStartsUnnamed, BeginsSystem, CanGiveRoomBack, EndsNoChain, GivesRoomBack, GrowsFor, IsInMiniStream, IsMeasuredMini, IsNotHeld, IsSnugMini, IsTooFewAfterFor, IsTooFewFor, IsZeroMini, KeepsHeader, KeepsLimits, KeepsMini, KeepsSizes, MovesRoot, SparesMini, StopsShort, StopsShortOrFull, mini_stream_lacks, minifat_lacks, system_sectors};
-ghost use Rattle.cfb_mini_sectors.specs.Held.{with_table};
+ghost use Rattle.cfb_mini.specs.cfb_tables.Changes.{AreDisjoint, IsNextOf, NoChain};
+ghost use Rattle.cfb_mini.specs.cfb_tables.Clean.{IsUnnamed};
+ghost use Rattle.cfb_mini.specs.cfb_tables.Listed.{ends_of, gained};
+ghost use Rattle.cfb_mini.specs.cfb_tables.Refused.{ChangeRefused, NextRefused, NoLast, TableRefused, WalkRefused};
+ghost use Rattle.cfb_mini.specs.cfb_tables.Tables.{Extended, ExtendsFrom, GivesBackChain, HasTaken, IsTooFew, TakesFor, ending, first_or_end};
+ghost use Rattle.cfb_mini.specs.cfb_alloc.Alloc.{ChangesSectors, HoldsTables, IsAsFilled, IsUsable, OthersStay};
+ghost use Rattle.cfb_mini.specs.cfb_alloc.Broken.{BreaksOff};
+ghost use Rattle.cfb_mini.specs.cfb_alloc.Frame.{Spares};
+ghost use Rattle.cfb_mini.specs.cfb_alloc.ListedChain.{Lengthens};
+ghost use Rattle.cfb_mini.specs.cfb_entries.declared.fields.Fields.{Fields};
+ghost use Rattle.cfb_mini.specs.cfb_entries.EntryList.{AreInOrder, InsertsEntry, RemovesEntry, has_free};
+ghost use Rattle.cfb_mini.specs.cfb_entries.Fields.{fields_in, entry_with_fields, entries_with_fields};
+ghost use Rattle.cfb_mini.specs.cfb_directory.Growing.{ArePlaced, IsListedChain};
+ghost use Rattle.cfb_mini.specs.cfb_slots.Slots.{IsLeastAbove};
+ghost use Rattle.cfb_mini.specs.cfb_directory.State.{HoldsDirectory, IsFullForEntry, with_room};
+ghost use Rattle.cfb_mini.specs.cfb_directory.State.{KeepsDirectoryHeader};
+ghost use Rattle.cfb_mini.specs.cfb_directory.Steps.{KeepsOtherSlots, KeepsSlotsBut, KeepsWholeHeader, StaysRedApart};
+ghost use Rattle.cfb_mini.specs.cfb_directory.Steps.{IsDirectoryNotHeld};
+ghost use Rattle.cfb_mini.specs.cfb_mini_table.MiniTable.{AcceptsMini, IsTooFewMini, MiniGivesBack, TakesMini, read_entries};
+ghost use Rattle.cfb_mini.specs.cfb_mini_sectors.State.{MiniState, HoldsMini, bytes_of, cases_of, entries_of, mini_place, mini_stream_of, parts_of, root_len_of, table_of, tables_in, version_of};
+ghost use Rattle.cfb_mini.specs.cfb_mini_sectors.Steps.{AreStartsUnnamed, BeginsSystem, CanGiveRoomBack, EndsNoChain, GivesRoomBack, GrowsFor, IsInMiniStream, IsMeasuredMini, IsNotHeld, IsSnugMini, IsTooFewAfterFor, IsTooFewFor, IsZeroMini, KeepsHeader, KeepsLimits, KeepsMini, KeepsSizes, MovesRoot, SparesMini, StopsShort, StopsShortOrFull, mini_stream_lacks, minifat_lacks, system_sectors};
+ghost use Rattle.cfb_mini.specs.cfb_mini_sectors.Held.{with_table};
 ghost use Rattle.cfb_mini_changes.specs.Changing.{AreMinifatSectors, root_len_in};
-ghost use Rattle.cfb_mini_changes.specs.MiniSectors.{ChangesFileOnly, HasMiniByte, HasMiniSector, IsStill, IsWhole, KeepsMiniBytesBut};
+ghost use Rattle.cfb_mini_changes.specs.MiniSectors.{ChangesFileOnly, HasMiniByte, HasMiniSector, IsStill, IsOfWholeSectors, KeepsMiniBytesBut};
 
 mod clearing;
 mod runs;
 
 use crate::opening::{Parts, open_parts};
-use cfb_alloc::alloc::Allocator;
 use cfb_codecs::direntry::DirEntry;
 use cfb_codecs::path::CaseMapper;
 use cfb_codecs::timestamp::Timestamp;
-use cfb_directory::directory::Directory;
-use cfb_entries::fields::Fields;
 use cfb_format::consts::{END_OF_CHAIN, MINI_SECTOR_LEN};
 use cfb_format::error::{Detail, Error};
 use cfb_format::medium::{Medium, ReadMedium};
@@ -63,9 +60,8 @@ use cfb_format::objtype::ObjType;
 use cfb_format::validate::Validation;
 use cfb_format::version::Version;
 use cfb_mini_changes::changing::{cut_listed, extend_listed};
-use cfb_mini_sectors::growing::{Lacks, lacks_for};
-use cfb_mini_sectors::pieces::{read_piece, write_piece};
-use cfb_mini_table::mini_table::MiniTable;
+use cfb_mini_changes::{Directory, Fields, Lacks, MiniTable, lacks_for, read_piece, write_piece};
+use cfb_runs::Allocator;
 use cfb_sectors::sector::SectorInit;
 use std::alloc::{Allocator as Heap, Global};
 use std::marker::Model;
@@ -560,7 +556,7 @@ impl<F: Medium, A: Heap> MiniAllocator<F, A> {
         ensures room { 0 < count
             → OnOk result ((m : ℕ) → m < length self.new.minifat → HasMiniSector self.new m) }
         ensures whole { IsTrue F.tells → (validation : Validation) → HoldsMini validation self.old
-            → IsWhole (table_of self.old) → OnOk result (IsWhole (table_of self.new)) }
+            → IsOfWholeSectors (table_of self.old) → OnOk result (IsOfWholeSectors (table_of self.new)) }
         ensures spares { IsTrue F.tells
             → Spares (system_sectors self.old) (table_of self.old) (table_of self.new) }
         ensures mini_spares { IsTrue F.tells → (validation : Validation)
@@ -936,7 +932,7 @@ impl<F: Medium, A: Heap + Clone> MiniAllocator<F, A> {
             Extended (tables_in self.old) (tables_in self.new) start (x ∷ [])) }
         ensures filled { IsTrue F.tells
             → (validation : Validation) → HoldsTables validation (table_of self.old)
-            → IfOk result (λ x. IsFilled (version_of self.new) init (bytes_of self.new) x) }
+            → IfOk result (λ x. IsAsFilled (version_of self.new) init (bytes_of self.new) x) }
         ensures holds { IsTrue F.tells → (validation : Validation) → HoldsMini validation self.old
             → (list : List ℕ) → IsChain (tables_in self.old).fat start list
             → AreDisjoint (system_sectors self.old) list
@@ -1061,7 +1057,7 @@ impl<F: Medium, A: Heap> MiniAllocator<F, A> {
         ensures chain { IfOk result (λ x. IsChain (tables_in self.new).fat x (x ∷ [])) }
         ensures filled { IsTrue F.tells
             → (validation : Validation) → HoldsTables validation (table_of self.old)
-            → IfOk result (λ x. IsFilled (version_of self.new) init (bytes_of self.new) x) }
+            → IfOk result (λ x. IsAsFilled (version_of self.new) init (bytes_of self.new) x) }
         ensures holds { IsTrue F.tells → (validation : Validation)
             → HoldsMini validation self.old → OnOk result (HoldsMini validation self.new) }
         ensures others { IsTrue F.tells → OthersStay (table_of self.old) (table_of self.new) }

@@ -5,11 +5,10 @@ ghost use Rattle.cfb_runs.specs.Along.{IsKnown, IsListed};
 ghost use Rattle.cfb_runs.specs.Runs.{IsRun};
 ghost use Rattle.cfb_mini.specs.MiniRuns.{IsMiniRun};
 
-use cfb_alloc::alloc::Allocator;
 use cfb_format::consts::MINI_SECTOR_LEN;
 use cfb_format::medium::ReadMedium;
 use cfb_runs::run::run_of;
-use cfb_tables::consecutive::count_consecutive;
+use cfb_runs::{Allocator, count_consecutive};
 use std::alloc::Allocator as Heap;
 
 /// How many of so many bytes, from an offset in the listed mini sector with that index on, lie in listed ones whose numbers follow each

@@ -5,18 +5,16 @@ ghost use Rattle.cfb_format.specs.Content.{mini_sector_len};
 ghost use Rattle.cfb_format.specs.Full.{max_mini_sectors};
 ghost use Rattle.cfb_format.specs.Header.{IfStrict};
 ghost use Rattle.cfb_format.specs.Refused.{IsInvalidOrMemory};
-ghost use Rattle.cfb_tables.specs.Refused.{TableRefused};
-ghost use Rattle.cfb_directory.specs.Slots.{IsLeastAbove};
-ghost use Rattle.cfb_mini_table.specs.MiniTable.{AcceptsMini, read_entries};
+ghost use Rattle.cfb_mini.specs.cfb_tables.Refused.{TableRefused};
+ghost use Rattle.cfb_mini.specs.cfb_slots.Slots.{IsLeastAbove};
+ghost use Rattle.cfb_mini.specs.cfb_mini_table.MiniTable.{AcceptsMini, read_entries};
 ghost use Rattle.cfb_mini_changes.specs.Changing.{AreMinifatSectors, mini_stream_in, root_len_in};
 
-use cfb_directory::bounds::least_above;
-use cfb_directory::directory::Directory;
 use cfb_format::consts::{MAX_REGULAR_SECTOR, MINI_SECTOR_LEN};
 use cfb_format::error::{Detail, Error};
 use cfb_format::medium::ReadMedium;
 use cfb_format::validate::Validation;
-use cfb_mini_table::mini_table::MiniTable;
+use cfb_mini_changes::{Directory, MiniTable, least_above};
 use std::alloc::Allocator as Heap;
 
 /// What the mini sectors of a file have in memory beside its directory.

@@ -5,7 +5,7 @@ use Rattle.cfb_format.specs.Refused.{AfterMedium, CountsError, HasReason, IsInva
 use Rattle.cfb_format.specs.declared.error.Error.{Error}
 use Rattle.cfb_format.specs.declared.error.Error.TheVariants.{NotFound, AlreadyExists, InvalidInput, InvalidData, Medium, Memory, Full, Unsound, Failed}
 use Rattle.cfb_format.specs.declared.medium.MediumFault.{MediumFault}
-use Rattle.cfb_sectors.specs.Sectors.{IsMediumError}
+use Rattle.cfb_mini_chains.specs.cfb_sectors.Sectors.{IsMediumError}
 use Rattle.cfb_tables.specs.Refused.{ChangeRefused}
 use Rattle.cfb_mini_sectors.specs.State.{MiniState}
 use Rattle.cfb_mini_sectors.specs.Steps.{StopsShort, StopsShortOrFull}

@@ -1,5 +1,5 @@
 -- What a write and a set length make of each byte of a lent mini chain.
-use Rattle.std.proofs.Common.{◌≡◌, ◌≢◌, ◌≤◌, ◌<◌, ◌+◌, ◌-◌, ◌*◌, ◌/◌, ◌%◌, ◌⊎◌, inl, inr, max, min, ℕ, zero, suc, List, [], ◌∷◌, ◌++◌, refl, sym, ◌∙◌, ap, subst, length, take, drop, replicate, arith, length-append, length-take, length-drop, get_or-take, get_or-drop}
+use Rattle.std.proofs.Common.{◌≡◌, ◌≢◌, ◌≤◌, ◌<◌, ◌+◌, ◌-◌, ◌*◌, ◌/◌, ◌%◌, ◌⊎◌, inl, inr, max, min, ℕ, zero, suc, List, [], ◌++◌, refl, sym, ◌∙◌, ap, subst, length, take, drop, replicate, arith, length-append, length-take, length-drop, get_or-take, get_or-drop}
 use Rattle.std.specs.Prelude.{Some, Contains, Err, IfOk, Ok, Result, Vec, slice_index, nat_eq, true}
 use Rattle.std.specs.List.{IsDistinct}
 use Rattle.std.proofs.lemmas.Bool.{cases_lt}
@@ -11,27 +11,28 @@ use Rattle.cfb_format.specs.declared.version.Version.TheVariants.{V3, V4}
 use Rattle.cfb_format.specs.Bytes.{byte_at, sector_len, free_sector}
 use Rattle.cfb_format.specs.Chain.{value, chain_from}
 use Rattle.cfb_format.specs.Full.{rounded_up}
-use Rattle.cfb_format.specs.Medium.{ChangesOnlyBytes, written}
+use Rattle.cfb_format.specs.Medium.{written}
 use Rattle.cfb_format.specs.declared.medium.ReadMedium as medium
 use Rattle.cfb_format.proofs.ByteLemmas.{length-written, written_above, written_at, written_below}
-use Rattle.cfb_sectors.specs.Sectors.{SectorFile}
-use Rattle.cfb_tables.proofs.Members.{Contains-nil}
-use Rattle.cfb_alloc.proofs.ChainView.{found_chain}
-use Rattle.cfb_alloc.proofs.Listed.{place_once}
+use Rattle.cfb_mini_chains.specs.cfb_sectors.Sectors.{SectorFile}
+use Rattle.cfb_mini_chains.proofs.cfb_alloc.ChainView.{found_chain}
+use Rattle.cfb_mini_chains.proofs.cfb_alloc.Listed.{place_once}
 use Rattle.cfb_chains.specs.declared.chain.Numbers as numbers
-use Rattle.cfb_table_words.proofs.Runs.{placed_once}
-use Rattle.cfb_soundness.specs.Places.{mini_start}
+use Rattle.cfb_mini_chains.proofs.cfb_table_words.Runs.{placed_once}
+use Rattle.cfb_mini_chains.specs.cfb_soundness.Places.{mini_start}
 use Rattle.cfb_mini_sectors.specs.State.{MiniState, HoldsMini, bytes_of, mini_place, mini_stream_of, table_of, version_of}
 use Rattle.cfb_mini_sectors.specs.Steps.{IsZeroMini, SparesMini, mini_stream_needs}
 use Rattle.cfb_mini_sectors.proofs.MiniFrames.{held-places, place-stays, shorter-place, version-place}
 use Rattle.cfb_mini_chains.proofs.MiniStreamBegun.{begun-distinct, begun-whole}
 use Rattle.cfb_mini.specs.MiniSectors.{ChangesFileOnly, KeepsMiniBytesBut}
-use Rattle.cfb_mini_chains.specs.LentMiniChain.{state_of, start_sector_of, ids_of, left_of, len_of, position_of, file_bytes_of, mini_sector_at, place_at, place_of, byte_of, HoldsWanted, ChangesOnlyWanted, OthersStay, HasWritten, HasResized}
+use Rattle.cfb_mini_chains.specs.LentMiniChain.{state_of, start_sector_of, ids_of, left_of, len_of, position_of, file_bytes_of, mini_sector_at, place_at, place_of, byte_of, HoldsWanted, ChangesOnlyWanted, OtherMiniSectorsStay, HasWritten, HasResized}
 use Rattle.cfb_mini_chains.specs.MiniRunsAlong.{ChangesTogether, StandTogether, minis_along}
 use Rattle.cfb_mini_chains.specs.declared.mini_chain.MiniChain.{MiniChain}
 use Rattle.cfb_mini_chains.proofs.MiniChainHeld.{held_distinct, held_whole, member_below, member_busy}
-use Rattle.cfb_mini_chains.proofs.MiniChainPlaces.{gained_member, index_before, kept_own, mini_along, mini_inside, mini_member, taken_at}
+use Rattle.cfb_mini_chains.proofs.MiniChainPlaces.{gained_member, index_before, kept_own, mini_inside, mini_member, taken_at}
 use Rattle.cfb_mini_chains.proofs.MiniChainRuns.{along_has, together_fits}
+use Rattle.cfb_format.proofs.Members.{Contains-nil}
+use Rattle.cfb_mini.proofs.MiniStretches.{along_here}
 
 -- ---- a write within a mini sector, by places
 
@@ -56,8 +57,8 @@ byte_index V4 m r n short fits = omega (arith, short, fits)
 placed_apart : (v : Version) (sectors ids : List ℕ) → IsDistinct nat_eq ids → IsDistinct nat_eq sectors → ((m : ℕ) → Contains ids m → 64 * m + 64 ≤ length sectors * sector_len v)
     → (i k : ℕ) → i < length ids * 64 → k < length ids * 64 → i ≢ k → place v sectors ids i ≢ place v sectors ids k
 placed_apart v sectors ids once sectors_once whole i k low high ne same =
-    let one = mini_along v sectors (slice_index ids (i / 64)) (i % 64) (short_rest i) in
-    let two = mini_along v sectors (slice_index ids (k / 64)) (k % 64) (short_rest k) in
+    let one = along_here v sectors (slice_index ids (i / 64)) (i % 64) (short_rest i) in
+    let two = along_here v sectors (slice_index ids (k / 64)) (k % 64) (short_rest k) in
     let here = byte_index v (slice_index ids (i / 64)) (i % 64) (length sectors) (short_rest i) (whole (slice_index ids (i / 64)) (mini_member ids i low)) in
     let there = byte_index v (slice_index ids (k / 64)) (k % 64) (length sectors) (short_rest k) (whole (slice_index ids (k / 64)) (mini_member ids k high)) in
     placed_once v sectors (64 * slice_index ids (i / 64) + i % 64) (64 * slice_index ids (k / 64) + k % 64) sectors_once here there (differ i k low high ne)
@@ -214,7 +215,7 @@ module _ {F A : Type 0} {g : medium.Ghosts F} {l : numbers.Ghosts (Vec ℕ A)} w
 
   -- mini sectors that have none of so many bytes from the position on
   pub others_stay : (old new : MiniChain F A (Vec ℕ A) g l) (count : ℕ) → 0 < count
-      → SparesMini (minis_along (ids_of old) (position_of old) count) (state_of old) (state_of new) → OthersStay count old new
+      → SparesMini (minis_along (ids_of old) (position_of old) count) (state_of old) (state_of new) → OtherMiniSectorsStay count old new
   others_stay old new count some spares m busy other =
       spares.bytes m busy (λ c.
       let has = along_has (ids_of old) (position_of old) count m some c in

@@ -1,20 +1,20 @@
 -- What changes of mini chains leave alone, one after the other.
-use Rattle.std.proofs.Common.{◌≡◌, ◌≢◌, ◌≤◌, ◌<◌, ◌+◌, ◌*◌, ◌⊎◌, inl, inr, ℕ, List, [], ◌∷◌, ◌++◌, refl, sym, ◌∙◌, ap, subst, length, take, arith}
+use Rattle.std.proofs.Common.{◌≡◌, ◌≢◌, ◌≤◌, ◌<◌, ◌+◌, ◌⊎◌, inl, inr, ℕ, List, [], ◌++◌, refl, sym, ◌∙◌, ap, subst, length, take, arith}
 use Rattle.std.specs.Prelude.{Contains, Option, unwrap_or}
 use Rattle.std.proofs.lemmas.List.Elements.{Contains-append_right, Contains-append_cases}
 use Rattle.cfb_format.specs.declared.validate.Validation.{Validation}
 use Rattle.cfb_format.specs.Bytes.{free_sector, word_at}
 use Rattle.cfb_format.specs.Chain.{value}
 use Rattle.cfb_format.specs.Medium.{ChangesOnlyBytes}
-use Rattle.cfb_sectors.specs.Words.{RangeStays}
-use Rattle.cfb_sectors.proofs.SectorLemmas.{Stays_trans}
-use Rattle.cfb_sectors.proofs.WordLemmas.{word_apart}
+use Rattle.cfb_mini_chains.specs.cfb_sectors.Words.{RangeStays}
+use Rattle.cfb_mini_chains.proofs.cfb_sectors.SectorLemmas.{Stays_trans}
+use Rattle.cfb_mini_chains.proofs.cfb_sectors.WordLemmas.{word_apart}
 use Rattle.cfb_tables.specs.Listed.{gained}
 use Rattle.cfb_tables.specs.Tables.{HasTaken, TableState}
-use Rattle.cfb_tables.proofs.Members.{Contains-or, in_three, first_of_three, value-below}
-use Rattle.cfb_alloc.specs.Frame.{Spares}
-use Rattle.cfb_alloc.proofs.Frames.{spares-less, spares-then}
-use Rattle.cfb_mini_table.specs.MiniTable.{TakesMini}
+use Rattle.cfb_tables.proofs.Members.{in_three, first_of_three}
+use Rattle.cfb_mini_chains.specs.cfb_alloc.Frame.{Spares}
+use Rattle.cfb_mini_chains.proofs.cfb_alloc.Frames.{spares-less, spares-then}
+use Rattle.cfb_mini_chains.specs.cfb_mini_table.MiniTable.{TakesMini}
 use Rattle.cfb_mini_sectors.specs.State.{MiniState, HoldsMini, bytes_of, mini_place, mini_stream_of, table_of, tables_in, version_of}
 use Rattle.cfb_mini_sectors.specs.Steps.{BeginsSystem, GrowsFor, KeepsHeader, KeepsLimits, MovesRoot, SparesMini, mini_stream_needs, system_sectors}
 use Rattle.cfb_mini_sectors.proofs.MiniFrames.{held-places, shorter-place, spares-less as minis-less, version-place}
@@ -22,6 +22,8 @@ use Rattle.cfb_mini_chains.proofs.MiniStreamBegun.{begun-among}
 use Rattle.cfb_mini.specs.MiniSectors.{ChangesFileOnly, KeepsDirectory, KeepsMiniBytesBut}
 use Rattle.cfb_mini_chains.specs.MiniRunsAlong.{minis_along}
 use Rattle.cfb_mini_chains.proofs.MiniChainRuns.{along_among}
+use Rattle.cfb_format.proofs.Members.{Contains-or}
+use Rattle.cfb_format.proofs.Walks.{value-below}
 
 -- ---- other mini sectors
 

@@ -1,17 +1,14 @@
 -- What holding the mini sectors says of their places.
-use Rattle.std.proofs.Common.{◌≡◌, ◌≢◌, ◌≤◌, ◌<◌, ◌+◌, ◌*◌, ◌/◌, ◌⊎◌, inl, inr, ℕ, List, [], ◌++◌, sym, ◌∙◌, ap, subst, length, arith}
-use Rattle.std.specs.Prelude.{Contains, Option, Some, unwrap_or, slice_index, nat_eq, if◌then◌else◌}
+use Rattle.std.proofs.Common.{◌≡◌, ◌≢◌, ◌≤◌, ◌<◌, ◌+◌, ◌*◌, ℕ, List, [], ◌++◌, ap, length, arith}
+use Rattle.std.specs.Prelude.{Contains, Option, Some, unwrap_or, nat_eq}
 use Rattle.std.specs.List.{IsDistinct}
-use Rattle.std.proofs.lemmas.Bool.{cases_lt}
 use Rattle.cfb_format.specs.declared.validate.Validation.{Validation}
 use Rattle.cfb_format.specs.Bytes.{sector_len, free_sector}
 use Rattle.cfb_format.specs.Chain.{value, chain_from}
-use Rattle.cfb_alloc.proofs.ChainView.{found_chain}
+use Rattle.cfb_mini_chains.proofs.cfb_alloc.ChainView.{found_chain}
 use Rattle.cfb_tables.proofs.ChainLemmas.{members-busy}
-use Rattle.cfb_tables.proofs.Members.{distinct-right}
-use Rattle.cfb_mini_sectors.specs.State.{MiniState, HoldsMini, mini_place, mini_stream_of, table_of, tables_in, version_of}
-use Rattle.cfb_mini.proofs.MiniKnown.{mini-or-not}
-use Rattle.cfb_mini.specs.MiniSectors.{HasMiniByte, HasMiniSector}
+use Rattle.cfb_mini_sectors.specs.State.{MiniState, HoldsMini, mini_stream_of, version_of}
+use Rattle.cfb_format.proofs.Members.{distinct-right}
 
 -- the mini stream's sectors differ
 pub held_distinct : (validation : Validation) (s : MiniState) → HoldsMini validation s → IsDistinct nat_eq (mini_stream_of s)
@@ -30,15 +27,3 @@ member_busy table start ids m chained member = (members-busy table start ids (fo
 
 pub member_below : (table : List ℕ) (start : ℕ) (ids : List ℕ) (m : ℕ) → chain_from table start ≡ Some ids → Contains ids m → m < length table
 member_below table start ids m chained member = (members-busy table start ids (found_chain table start ids chained) m member).1
-
--- the file has a byte of a mini sector or not
-pub byte_or : (s : MiniState) (m offset : ℕ) → HasMiniByte s m offset ⊎ (HasMiniByte s m offset → ⊥)
-byte_or s m offset =
-    elim (mini-or-not s m) [
-      | inl has ↦
-          elim (cases_lt (mini_place s m + offset) (table_of s).file.len) [
-            | inl reached ↦ inl (record { mini_sector = has; reached = reached })
-            | inr past ↦ inr (λ h. let is = h.reached in omega (arith, past, is))
-          ]
-      | inr none ↦ inr (λ h. none h.mini_sector)
-    ]

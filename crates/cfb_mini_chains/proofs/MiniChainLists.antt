@@ -1,5 +1,5 @@
 -- The list of a mini chain's mini sectors, as the mini chain grows and is cut.
-use Rattle.std.proofs.Common.{◌≡◌, ◌≢◌, ◌<◌, ◌≤◌, ◌+◌, ◌-◌, ◌*◌, ◌/◌, ◌%◌, ◌⊎◌, inl, inr, ℕ, zero, suc, List, [], ◌∷◌, ◌++◌, refl, sym, ◌∙◌, ap, subst, length, take, drop, arith, length-drop, get_or-drop}
+use Rattle.std.proofs.Common.{◌≡◌, ◌≢◌, ◌<◌, ◌≤◌, ◌+◌, ◌-◌, ◌*◌, inl, inr, ℕ, zero, List, [], ◌∷◌, ◌++◌, refl, sym, ◌∙◌, ap, subst, length, take, drop, arith, length-drop, get_or-drop}
 use Rattle.std.specs.Prelude.{Some, Result, Ok, Err, OnOk, Contains, get_or, slice_index}
 use Rattle.std.proofs.lemmas.List.{take_all, drop_all}
 use Rattle.std.proofs.lemmas.List.Elements.{Contains-append_cases, Contains-get_or}
@@ -11,23 +11,18 @@ use Rattle.cfb_format.specs.Full.{rounded_up}
 use Rattle.cfb_tables.specs.Listed.{ends_of, gained, last_or_end}
 use Rattle.cfb_tables.specs.Tables.{first_or_end}
 use Rattle.cfb_tables.proofs.ListedLemmas.{last_is, last_alone}
-use Rattle.cfb_tables.proofs.Members.{Contains-nil, Contains-one, Contains-or}
 use Rattle.cfb_chains.proofs.ChainLists.{listed_chain}
-use Rattle.cfb_mini_table.specs.MiniTable.{TakesMini, MiniGivesBack}
+use Rattle.cfb_mini_chains.specs.cfb_mini_table.MiniTable.{TakesMini, MiniGivesBack}
 use Rattle.cfb_mini_sectors.specs.State.{HoldsMini, MiniState, tables_in}
 use Rattle.cfb_mini_sectors.specs.Steps.{BeginsSystem, CanGiveRoomBack, EndsNoChain, GivesRoomBack, GrowsFor, IsMeasuredMini, IsSnugMini, IsTooFewFor, KeepsSizes}
 use Rattle.cfb_mini.specs.MiniSectors.{LengthensMini, ShortensMini}
+use Rattle.cfb_format.proofs.Members.{Contains-nil, Contains-one, Contains-or}
 
 -- ---- where a list starts and ends
 
 pub first_stays : (xs ys : List ℕ) → 0 < length xs → first_or_end (xs ++ ys) ≡ first_or_end xs
 first_stays [] ys some = absurd (omega (arith, some))
 first_stays (x ∷ xs) ys some = refl
-
-pub first_taken : (n : ℕ) (xs : List ℕ) → 0 < n → first_or_end (take n xs) ≡ first_or_end xs
-first_taken zero xs some = absurd (omega (arith, some))
-first_taken (suc n) [] some = refl
-first_taken (suc n) (x ∷ xs) some = refl
 
 -- a mini chain that has a list ends at the last one
 pub ends_a_chain : (table : List ℕ) (s : ℕ) (ids : List ℕ) → chain_from table s ≡ Some ids → EndsNoChain table ids → ⊥

@@ -1,35 +1,17 @@
 -- Where the bytes of a mini chain stand in the mini stream and in the file.
-use Rattle.std.proofs.Common.{◌≡◌, ◌≢◌, ◌≤◌, ◌<◌, ◌+◌, ◌-◌, ◌*◌, ◌/◌, ◌%◌, ◌⊎◌, ◌∙◌, inl, inr, ℕ, List, ◌++◌, refl, sym, ap, subst, length, take, drop, replicate, arith, length-append}
-use Rattle.std.specs.Prelude.{Contains, slice_index, nat_eq}
-use Rattle.std.specs.List.{IsDistinct}
-use Rattle.std.proofs.lemmas.Bool.{cases_eq, cases_lt}
+use Rattle.std.proofs.Common.{◌≡◌, ◌≤◌, ◌<◌, ◌+◌, ◌-◌, ◌*◌, ◌/◌, ◌∙◌, ℕ, List, ◌++◌, refl, sym, ap, subst, length, take, drop, replicate, arith, length-append}
+use Rattle.std.specs.Prelude.{Contains, slice_index}
 use Rattle.std.proofs.lemmas.List.{take-append-drop, take-replicate, get_or_append_left, get_or-append_right, get_or-take}
 use Rattle.std.proofs.lemmas.List.Elements.{Contains-append_left, Contains-get_or}
 use Rattle.cfb_format.specs.declared.version.Version.{Version}
 use Rattle.cfb_format.specs.declared.version.Version.TheVariants.{V3, V4}
-use Rattle.cfb_format.specs.Bytes.{sector_len, sector_start}
-use Rattle.cfb_chains.specs.ChainPlaces.{place_along}
-use Rattle.cfb_alloc.proofs.Listed.{place_once}
-use Rattle.cfb_soundness.specs.Places.{mini_start}
+use Rattle.cfb_format.specs.Bytes.{sector_len}
+use Rattle.cfb_mini_chains.specs.cfb_soundness.Places.{mini_start}
 
 pub zeros_of : (zeros : List ℕ) (n : ℕ) → zeros ≡ replicate 64 0 → n ≤ 64 → take n zeros ≡ replicate n 0
 zeros_of zeros n is few = ap (take n) is ∙ take-replicate n 64 0 few
 
 -- ---- a mini sector lies inside one sector
-
-stream_quotient : (v : Version) (m r : ℕ) → r < 64 → (64 * m + r) / sector_len v ≡ 64 * m / sector_len v
-stream_quotient V3 m r short = omega arith
-stream_quotient V4 m r short = omega arith
-
-stream_rest : (v : Version) (m r : ℕ) → r < 64 → (64 * m + r) % sector_len v ≡ 64 * m % sector_len v + r
-stream_rest V3 m r short = omega arith
-stream_rest V4 m r short = omega arith
-
--- a byte of a mini sector is one of the mini stream
-pub mini_along : (v : Version) (sectors : List ℕ) (m r : ℕ) → r < 64 → place_along v sectors (64 * m + r) ≡ mini_start v sectors m + r
-mini_along v sectors m r short =
-    (λ j. sector_start v (slice_index sectors (stream_quotient v m r short j)) + stream_rest v m r short j)
-    ∙ omega arith
 
 -- the mini stream has all of a mini sector of which it has a byte
 pub whole_mini : (v : Version) (m n : ℕ) → 64 * m < n * sector_len v → 64 * m + 64 ≤ n * sector_len v

@@ -1,46 +1,21 @@
 -- What is read of a mini chain.
-use Rattle.std.proofs.Common.{◌≡◌, ◌≤◌, ◌<◌, ◌+◌, ◌*◌, ◌/◌, ◌%◌, ℕ, zero, suc, List, ◌∷◌, [], refl, sym, ◌∙◌, ap, subst, length, take, drop, arith, drop-cons, add-one, length-take, length-drop}
-use Rattle.std.specs.Prelude.{if◌then◌else◌, Option, Some, None, option_and_then, slice_index, unwrap_or}
-use Rattle.std.specs.Option.{option_map_or}
-use Rattle.std.proofs.lemmas.Bool.{lt-ltb}
+use Rattle.std.proofs.Common.{◌≡◌, ◌≤◌, ◌<◌, ◌+◌, ◌*◌, ◌/◌, ◌%◌, ℕ, List, [], refl, sym, ◌∙◌, ap, length, take, drop, arith, length-take, length-drop}
+use Rattle.std.specs.Prelude.{Option, Some, None, option_and_then, slice_index, unwrap_or}
 use Rattle.std.proofs.lemmas.Option.{slice_get-get_or}
 use Rattle.cfb_format.specs.declared.version.Version.{Version}
 use Rattle.cfb_format.specs.declared.version.Version.TheVariants.{V3, V4}
-use Rattle.cfb_format.specs.Bytes.{byte_at, sector_len, sector_start}
+use Rattle.cfb_format.specs.Bytes.{sector_len, sector_start}
 use Rattle.cfb_format.specs.Content.{in_file, place_in_chain, placed_from}
 use Rattle.cfb_format.specs.Medium.{part}
 use Rattle.cfb_chains.specs.ChainPlaces.{place_along}
 use Rattle.cfb_mini_sectors.specs.State.{MiniState, bytes_of, mini_place, mini_stream_of, table_of, version_of}
 use Rattle.cfb_mini.specs.MiniSectors.{HasMiniByte, HasMiniSector, place_in_mini_sectors}
 use Rattle.cfb_mini_chains.specs.MiniRunsAlong.{StandTogether, place_along_minis}
-use Rattle.cfb_mini_chains.proofs.MiniChainPlaces.{mini_along, whole_mini}
-
-index_inside : (v : Version) (k m : ℕ) → k < m * sector_len v → k / sector_len v < m
-index_inside V3 k m h = omega arith
-index_inside V4 k m h = omega arith
-
-in_file_at : (bytes : List ℕ) (at : ℕ) → at < length bytes → in_file bytes at ≡ Some at
-in_file_at bytes at h = ap (λ b. if b then Some at else None) (lt-ltb at (length bytes) h)
-
-placed_part : (bytes : List ℕ) (p : ℕ → Option ℕ) (n k at : ℕ) → ((j : ℕ) → j < n → p (k + j) ≡ Some (at + j)) → (0 < n → at + n ≤ length bytes)
-    → placed_from bytes p k n ≡ part bytes at n
-unfolding placed_from
-placed_part bytes p zero k at here fits = refl
-placed_part bytes p (suc n) k at here fits =
-    let long = fits (omega arith) in
-    let k0 : k + 0 ≡ k = omega arith in
-    let at0 : at + 0 ≡ at = omega arith in
-    let first : p k ≡ Some at = subst (λ m. p k ≡ Some m) at0 (subst (λ m. p m ≡ Some (at + 0)) k0 (here 0 (omega arith))) in
-    ap (λ o. option_map_or (λ m. byte_at bytes m ∷ placed_from bytes p (k + 1) n) o []) first
-    ∙ ap (λ xs. byte_at bytes at ∷ xs) (placed_part bytes p n (k + 1) (at + 1) next (λ some. omega (arith, long)))
-    ∙ ap (λ m. byte_at bytes at ∷ take n (drop m bytes)) (add-one at)
-    ∙ sym (ap (take (suc n)) (drop-cons bytes at 0 (omega (arith, long))))
-  where
-    next : (j : ℕ) → j < n → p (k + 1 + j) ≡ Some (at + 1 + j)
-    next j h =
-        let k1 : k + suc j ≡ k + 1 + j = omega arith in
-        let at1 : at + suc j ≡ at + 1 + j = omega arith in
-        subst (λ m. p (k + 1 + j) ≡ Some m) at1 (subst (λ m. p m ≡ Some (at + suc j)) k1 (here (suc j) (omega arith)))
+use Rattle.cfb_mini_chains.proofs.MiniChainPlaces.{whole_mini}
+use Rattle.cfb_format.proofs.Along.{in_file_at}
+use Rattle.cfb_mini_chains.proofs.cfb_alloc.ChainView.{index_inside}
+use Rattle.cfb_chains.proofs.ChainBytes.{placed_part}
+use Rattle.cfb_mini.proofs.MiniStretches.{along_here}
 
 -- where a byte of the mini stream stands
 stream_place : (v : Version) (bytes sectors : List ℕ) (k : ℕ) → k < length sectors * sector_len v → place_along v sectors k < length bytes
@@ -59,7 +34,7 @@ pub mini_placed : (s : MiniState) (ids : List ℕ) (k : ℕ) → k < length ids 
 mini_placed s ids k inside has there =
     let m = slice_index ids (k / 64) in
     let short : k % 64 < 64 = omega arith in
-    let at = mini_along (version_of s) (mini_stream_of s) m (k % 64) short in
+    let at = along_here (version_of s) (mini_stream_of s) m (k % 64) short in
     let some = has.in_stream in
     let all = whole_mini (version_of s) m (length (mini_stream_of s)) some in
     ap (option_and_then (λ i. option_and_then (λ list. place_in_chain (version_of s) (bytes_of s) list (64 * i + k % 64)) s.mini_stream))

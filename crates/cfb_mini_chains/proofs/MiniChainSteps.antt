@@ -1,7 +1,6 @@
 -- The steps of a write and of a set length on a lent mini chain, one after the other.
 use Rattle.std.proofs.Common.{◌≡◌, ◌≢◌, ◌<◌, ◌≤◌, ◌+◌, ◌-◌, ◌*◌, ◌/◌, ◌%◌, ◌⊎◌, inl, inr, min, ℕ, List, [], ◌∷◌, ◌++◌, refl, sym, ◌∙◌, ap, subst, length, take, drop, arith, length-append, length-take}
-use Rattle.std.specs.Prelude.{Result, Ok, Err, OnOk, OnErr, IfOk, IfErr, Contains, Option, Vec, slice_index, unwrap_or}
-use Rattle.std.proofs.lemmas.List.{append-nil}
+use Rattle.std.specs.Prelude.{Result, Ok, Err, OnOk, OnErr, IfOk, IfErr, Contains, Vec, slice_index}
 use Rattle.std.proofs.lemmas.List.Elements.{Contains-append_cases}
 use Rattle.cfb_format.specs.declared.error.Error.{Error}
 use Rattle.cfb_format.specs.declared.error.Error.TheVariants.{NotFound, AlreadyExists, InvalidInput, InvalidData, Medium, Memory, Full, Unsound, Failed}
@@ -11,35 +10,33 @@ use Rattle.cfb_format.specs.Bytes.{free_sector}
 use Rattle.cfb_format.specs.Chain.{value}
 use Rattle.cfb_format.specs.Full.{rounded_up}
 use Rattle.cfb_format.specs.Refused.{AfterMedium}
-use Rattle.cfb_sectors.specs.Words.{RangeStays}
-use Rattle.cfb_sectors.specs.Sectors.{IsMediumError}
-use Rattle.cfb_sectors.proofs.SectorLemmas.{Stays_trans}
+use Rattle.cfb_mini_chains.specs.cfb_sectors.Words.{RangeStays}
+use Rattle.cfb_mini_chains.specs.cfb_sectors.Sectors.{IsMediumError}
+use Rattle.cfb_mini_chains.proofs.cfb_sectors.SectorLemmas.{Stays_trans}
 use Rattle.cfb_tables.specs.Listed.{gained}
 use Rattle.cfb_tables.specs.Refused.{ChangeRefused}
 use Rattle.cfb_tables.specs.Tables.{TableState, first_or_end}
 use Rattle.cfb_tables.proofs.ListedLemmas.{gained_listed}
-use Rattle.cfb_tables.proofs.Members.{Contains-nil, Contains-one}
 use Rattle.cfb_chains.specs.declared.chain.Numbers as numbers
 use Rattle.cfb_chains.proofs.ChainLists.{start_is}
-use Rattle.cfb_mini_table.specs.MiniTable.{TakesMini}
+use Rattle.cfb_mini_chains.specs.cfb_mini_table.MiniTable.{TakesMini}
 use Rattle.cfb_mini_sectors.specs.State.{MiniState, HoldsMini, bytes_of, mini_place, mini_stream_of, tables_in, version_of}
 use Rattle.cfb_mini_sectors.specs.Steps.{BeginsSystem, IsNotHeld, KeepsHeader, KeepsSizes, SparesMini}
 use Rattle.cfb_mini_sectors.proofs.MiniFrames.{held-places, place-stays}
 use Rattle.cfb_mini.specs.MiniSectors.{ChangesFileOnly, HasMiniSector, KeepsMiniBytesBut, LengthensMini, ShortensMini}
 use Rattle.cfb_mini.proofs.MiniKnown.{held-sectors, known-mini}
-use Rattle.cfb_mini_chains.specs.LentMiniChain.{state_of, start_sector_of, ids_of, len_of, position_of, file_bytes_of, mini_sector_at, missing_of, ChangesOnlyWanted, IsPlaced, OthersStay}
+use Rattle.cfb_mini_chains.specs.LentMiniChain.{state_of, start_sector_of, ids_of, len_of, position_of, file_bytes_of, mini_sector_at, missing_of, ChangesOnlyWanted, HasMiniSectorAt, OtherMiniSectorsStay}
 use Rattle.cfb_mini_chains.specs.declared.mini_chain.MiniChain.{MiniChain}
 use Rattle.cfb_mini_chains.proofs.MiniChainBytes.{IsChained, was_wanted, zero_or_more}
 use Rattle.cfb_mini_chains.proofs.MiniChainFrames.{bytes_less, bytes_then, outside_first}
 use Rattle.cfb_mini_chains.proofs.MiniChainHeld.{member_below}
 use Rattle.cfb_mini_chains.proofs.MiniStreamBegun.{begun-there}
-use Rattle.cfb_mini_chains.proofs.MiniChainLists.{dropped_first, dropped_more, first_taken, left_busy, some_needed}
+use Rattle.cfb_mini_chains.proofs.MiniChainLists.{dropped_first, dropped_more, left_busy, some_needed}
 use Rattle.cfb_mini_chains.proofs.MiniChainPlaces.{behind_header, mini_member, taken_at}
+use Rattle.cfb_format.proofs.Members.{Contains-nil, Contains-one}
+use Rattle.cfb_mini_sectors.proofs.HeldShortened.{first-of-left}
 
 -- ---- lists
-
-pub same_listed : (ids ids' : List ℕ) → ids' ≡ ids → ids' ≡ ids ++ gained ids ids'
-same_listed ids ids' same = gained_listed ids ids' [] (same ∙ sym (append-nil ids))
 
 pub then_listed : (ids ids' ids'' : List ℕ) → ids' ≡ ids ++ gained ids ids' → ids'' ≡ ids' → ids'' ≡ ids ++ gained ids ids''
 then_listed ids ids' ids'' listed same = gained_listed ids ids'' (gained ids ids') (same ∙ listed)
@@ -194,7 +191,7 @@ module _ {F A : Type 0} {g : medium.Ghosts F} {l : numbers.Ghosts (Vec ℕ A)} w
   same_start old new before after same = starts_at_first new after ∙ same ∙ sym (starts_at_first old before)
 
   pub cut_start : (old new : MiniChain F A (Vec ℕ A) g l) (n : ℕ) → IsChained old → IsChained new → ids_of new ≡ take n (ids_of old) → 0 < n → start_sector_of new ≡ start_sector_of old
-  cut_start old new n before after left some = same_start old new before after (ap first_or_end left ∙ first_taken n (ids_of old) some)
+  cut_start old new n before after left some = same_start old new before after (ap first_or_end left ∙ first-of-left n (ids_of old) some)
 
   -- the mini sector of a byte of the mini chain is one of the table
   pub byte_below : (c : MiniChain F A (Vec ℕ A) g l) (k : ℕ) → IsChained c → k < len_of c → mini_sector_at c k < length (state_of c).minifat
@@ -208,12 +205,12 @@ module _ {F A : Type 0} {g : medium.Ghosts F} {l : numbers.Ghosts (Vec ℕ A)} w
       omega (arith, low, size)
 
   -- the bytes do not hold a mini stream that has no such mini sector
-  pub not_held : (c : MiniChain F A (Vec ℕ A) g l) (k : ℕ) → IsChained c → k < len_of c → (IsPlaced c k → ⊥) → IsNotHeld (state_of c)
+  pub not_held : (c : MiniChain F A (Vec ℕ A) g l) (k : ℕ) → IsChained c → k < len_of c → (HasMiniSectorAt c k → ⊥) → IsNotHeld (state_of c)
   not_held c k chained inside none validation h = none (known-mini (state_of c) (held-sectors validation (state_of c) h) (mini_sector_at c k) (byte_below c k chained inside))
 
   -- once it has grown, the mini stream has the mini sector at the position
   pub grown_placed : (now grown : MiniChain F A (Vec ℕ A) g l) (n : ℕ) (more : List ℕ) → position_of now ≤ len_of now → IsChained grown → position_of grown ≡ position_of now → ids_of grown ≡ ids_of now ++ more
-      → length more ≡ missing_of now n → 0 < length more → ((m : ℕ) → m < length (state_of grown).minifat → HasMiniSector (state_of grown) m) → IsPlaced grown (position_of grown)
+      → length more ≡ missing_of now n → 0 < length more → ((m : ℕ) → m < length (state_of grown).minifat → HasMiniSector (state_of grown) m) → HasMiniSectorAt grown (position_of grown)
   grown_placed now grown n more within chained position listed is some room =
       let left = left_after (position_of now) (position_of grown) n (ids_of now) (ids_of grown) more position listed is in
       let wanted = some_needed (position_of now) n (length (ids_of now)) (omega (arith, some, is)) within in
@@ -222,7 +219,7 @@ module _ {F A : Type 0} {g : medium.Ghosts F} {l : numbers.Ghosts (Vec ℕ A)} w
   -- once it is cut, the mini stream has the mini sector of a length that ends in one, as it had before
   pub tail_placed : (old cut : MiniChain F A (Vec ℕ A) g l) (len n : ℕ) → n ≡ rounded_up len 64 → ids_of cut ≡ take n (ids_of old) → n ≤ length (ids_of old) → IsChained cut
       → KeepsSizes (tables_in (state_of old)) (tables_in (state_of cut)) → BeginsSystem (state_of old) (state_of cut)
-      → (0 < len % 64 → IsPlaced old len) → (len % 64 ≡ 0) ⊎ IsPlaced cut len
+      → (0 < len % 64 → HasMiniSectorAt old len) → (len % 64 ≡ 0) ⊎ HasMiniSectorAt cut len
   tail_placed old cut len n wanted left few chained sizes stays placed =
       elim (zero_or_more (len % 64)) [
         | inl whole ↦ inl whole
@@ -253,7 +250,7 @@ module _ {F A : Type 0} {g : medium.Ghosts F} {l : numbers.Ghosts (Vec ℕ A)} w
       → version_of (state_of grown) ≡ version_of (state_of old) → mini_stream_of (state_of grown) ≡ mini_stream_of (state_of old) ++ sectors
       → position_of grown ≡ position_of old → ids_of grown ≡ ids_of old ++ more → ((k : ℕ) → Contains more k → value (state_of old).minifat k ≡ free_sector)
       → ((m : ℕ) → value (state_of old).minifat m ≢ free_sector → value (state_of grown).minifat m ≢ free_sector)
-      → KeepsMiniBytesBut [] (state_of old) (state_of grown) → OthersStay count grown new → OthersStay count old new
+      → KeepsMiniBytesBut [] (state_of old) (state_of grown) → OtherMiniSectorsStay count grown new → OtherMiniSectorsStay count old new
   others_then validation old grown new count more sectors h version stream position listed fresh still keeps second m busy other =
       let at = place-stays (state_of old) (state_of grown) m sectors (held-places (state_of old) h.mini_stream) version stream busy in
       Stays_trans (mini_place (state_of old) m) (mini_place (state_of old) m + 64) (file_bytes_of old) (file_bytes_of grown) (file_bytes_of new)

@@ -1,5 +1,5 @@
 -- What is still there where the mini stream may have given back sectors.
-use Rattle.std.proofs.Common.{◌≡◌, ◌⊎◌, ◌≤◌, ◌<◌, ◌+◌, ◌*◌, ◌/◌, inl, inr, ℕ, List, refl, sym, ◌∙◌, ap, subst, length, take, drop, arith, length-take}
+use Rattle.std.proofs.Common.{◌≡◌, ◌⊎◌, ◌≤◌, ◌<◌, ◌+◌, ◌*◌, ◌/◌, inl, inr, ℕ, List, sym, ◌∙◌, ap, subst, length, take, drop, arith, length-take}
 use Rattle.std.specs.Prelude.{Contains, min, nat_eq, slice_index}
 use Rattle.std.specs.List.{IsDistinct}
 use Rattle.std.proofs.lemmas.List.{get_or_append_left, take-append-drop}
@@ -9,12 +9,12 @@ use Rattle.cfb_format.specs.Bytes.{sector_len}
 use Rattle.cfb_format.specs.Content.{mini_sector_len}
 use Rattle.cfb_format.specs.Full.{rounded_up}
 use Rattle.cfb_tables.specs.Tables.{TableState}
-use Rattle.cfb_tables.proofs.Members.{distinct-left}
 use Rattle.cfb_mini_sectors.specs.State.{MiniState, mini_stream_of, tables_in, version_of}
 use Rattle.cfb_mini_sectors.specs.Steps.{KeepsSizes, mini_stream_needs}
 use Rattle.cfb_mini_sectors.proofs.HeldShortened.{taken-among}
 use Rattle.cfb_mini.specs.MiniSectors.{HasMiniSector}
 use Rattle.cfb_mini.proofs.MiniKnown.{mini_index}
+use Rattle.cfb_format.proofs.Members.{distinct-left}
 
 -- so many mini sectors of it end where the sectors do that they need
 needed_whole : (v : Version) (m count k : ℕ) (list : List ℕ) → k ≡ min (rounded_up (count * mini_sector_len) (sector_len v)) (length list) → m < count

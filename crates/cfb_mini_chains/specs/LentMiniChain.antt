@@ -9,7 +9,7 @@ use Rattle.cfb_format.specs.Full.{rounded_up}
 use Rattle.cfb_format.specs.declared.error.Error.{Error}
 use Rattle.cfb_format.specs.declared.medium.ReadMedium as medium
 use Rattle.cfb_tables.specs.Listed.{gained}
-use Rattle.cfb_sectors.specs.Words.{RangeStays}
+use Rattle.cfb_mini_chains.specs.cfb_sectors.Words.{RangeStays}
 use Rattle.cfb_chains.specs.declared.chain.Numbers as numbers
 use Rattle.cfb_mini_sectors.specs.State.{MiniState, bytes_of, mini_place, table_of}
 use Rattle.cfb_mini.specs.MiniSectors.{HasMiniByte, HasMiniSector}
@@ -56,11 +56,11 @@ module _ {F A : Type 0} {g : medium.Ghosts F} {n : numbers.Ghosts (Vec ℕ A)} w
   byte_of c k = slice_index (file_bytes_of c) (place_at c k)
 
   -- the mini stream has the mini sector of byte k, and the file has the byte
-  abbrev pub IsPlaced : MiniChain F A (Vec ℕ A) g n → ℕ → Type 0
-  IsPlaced c k = HasMiniSector (state_of c) (mini_sector_at c k)
+  abbrev pub HasMiniSectorAt : MiniChain F A (Vec ℕ A) g n → ℕ → Type 0
+  HasMiniSectorAt c k = HasMiniSector (state_of c) (mini_sector_at c k)
 
-  abbrev pub IsThere : MiniChain F A (Vec ℕ A) g n → ℕ → Type 0
-  IsThere c k = HasMiniByte (state_of c) (mini_sector_at c k) (k % mini_sector_len)
+  abbrev pub HasByteAt : MiniChain F A (Vec ℕ A) g n → ℕ → Type 0
+  HasByteAt c k = HasMiniByte (state_of c) (mini_sector_at c k) (k % mini_sector_len)
 
   -- where in the file the bytes from the position on begin
   abbrev pub place_of : MiniChain F A (Vec ℕ A) g n → ℕ
@@ -86,8 +86,8 @@ module _ {F A : Type 0} {g : medium.Ghosts F} {n : numbers.Ghosts (Vec ℕ A)} w
         → slice_index (file_bytes_of new) i ≡ slice_index (file_bytes_of old) i
 
   -- every mini sector in use that holds none of so many bytes from the position on keeps its bytes
-  abbrev pub OthersStay : ℕ → MiniChain F A (Vec ℕ A) g n → MiniChain F A (Vec ℕ A) g n → Type 0
-  OthersStay count old new = (m : ℕ) → value (state_of old).minifat m ≢ free_sector → (HoldsWanted count old m → ⊥)
+  abbrev pub OtherMiniSectorsStay : ℕ → MiniChain F A (Vec ℕ A) g n → MiniChain F A (Vec ℕ A) g n → Type 0
+  OtherMiniSectorsStay count old new = (m : ℕ) → value (state_of old).minifat m ≢ free_sector → (HoldsWanted count old m → ⊥)
       → RangeStays (mini_place (state_of old) m) (mini_place (state_of old) m + mini_sector_len) (file_bytes_of old) (file_bytes_of new)
 
   -- so many of these bytes were written at the position; the mini chain may have gained mini sectors for all of them first

@@ -7,8 +7,8 @@ ghost use Rattle.cfb_format.specs.Content.{mini_sector_len, placed_from};
 ghost use Rattle.cfb_format.specs.Full.{rounded_up};
 ghost use Rattle.cfb_format.specs.Medium.{ChangesOnlyBytes, part, written};
 ghost use Rattle.cfb_format.specs.Refused.{AfterMedium, CountsFailure, IsInvalidData, IsInvalidInput};
-ghost use Rattle.cfb_alloc.specs.Frame.{Spares};
-ghost use Rattle.cfb_sectors.specs.Sectors.{IsRaised};
+ghost use Rattle.cfb_mini_chains.specs.cfb_alloc.Frame.{Spares};
+ghost use Rattle.cfb_mini_chains.specs.cfb_sectors.Sectors.{IsRaised};
 ghost use Rattle.cfb_tables.specs.Clean.{IsUnnamed};
 ghost use Rattle.cfb_tables.specs.Listed.{gained};
 ghost use Rattle.cfb_tables.specs.Refused.{ChangeRefused, WalkRefused};
@@ -68,7 +68,7 @@ impl<'a, F: ReadMedium, A: Heap + Clone> MiniChain<'a, F, A> {
 }
 
 impl<'a, F: ReadMedium, A: Heap> MiniChain<'a, F, A> {
-    ghost use Rattle.cfb_mini_chains.specs.LentMiniChain.{minialloc_of, state_of, start_sector_of, ids_of, len_of, left_of, position_of, mini_sector_at, file_bytes_of, IsThere};
+    ghost use Rattle.cfb_mini_chains.specs.LentMiniChain.{minialloc_of, state_of, start_sector_of, ids_of, len_of, left_of, position_of, mini_sector_at, file_bytes_of, HasByteAt};
 
     /// The number of its first mini sector, or END where it has none.
     pub fn start_sector_id(&self) -> u32
@@ -149,7 +149,7 @@ impl<'a, F: ReadMedium, A: Heap> MiniChain<'a, F, A> {
         ensures count { IfOk result (λ n. n ≤ min (length into.old) (left_of self.old)) }
         ensures some { IfOk result (λ n. 0 < min (length into.old) (left_of self.old) → 0 < n) }
         ensures within { IfOk result (λ n. (j : ℕ)
-            → j < n → IsThere self.old (position_of self.old + j)) }
+            → j < n → HasByteAt self.old (position_of self.old + j)) }
         ensures position { MatchResult result (λ n. position_of self.new
             ≡ position_of self.old + n) (λ _. position_of self.new ≡ position_of self.old) }
         ensures ok { IsTrue F.tells → IfOk result (λ n. take n into.new
@@ -157,10 +157,10 @@ impl<'a, F: ReadMedium, A: Heap> MiniChain<'a, F, A> {
             (state_of self.old) (ids_of self.old)) (position_of self.old) n) }
         ensures rest { IfOk result (λ n. drop n into.new ≡ drop n into.old) }
         ensures cut { 0 < min (length into.old) (left_of self.old)
-            → (IsThere self.old (position_of self.old) → ⊥) → IsErrAnd result IsInvalidData }
+            → (HasByteAt self.old (position_of self.old) → ⊥) → IsErrAnd result IsInvalidData }
         ensures none { min (length into.old) (left_of self.old) ≡ 0
             → OnErr result ⊥ × (state_of self.new ≡ state_of self.old) }
-        ensures err { IfErr result (ChangeRefused (IsThere self.old (position_of self.old)
+        ensures err { IfErr result (ChangeRefused (HasByteAt self.old (position_of self.old)
             → ⊥) ⊥ ⊥ Unit) }
         ensures same { IsTrue F.tells → OnOk result (state_of self.new ≡ state_of self.old) }
         ensures bytes { IsTrue F.tells → file_bytes_of self.new ≡ file_bytes_of self.old }
@@ -186,16 +186,16 @@ impl<'a, F: ReadMedium, A: Heap> MiniChain<'a, F, A> {
         ensures count { IfOk result (λ n. n ≤ min (length into.old) (left_of self.old)) }
         ensures some { IfOk result (λ n. 0 < n) }
         ensures within { IfOk result (λ n. (j : ℕ)
-            → j < n → IsThere self.old (position_of self.old + j)) }
+            → j < n → HasByteAt self.old (position_of self.old + j)) }
         ensures position { MatchResult result (λ n. position_of self.new
             ≡ position_of self.old + n) (λ _. position_of self.new ≡ position_of self.old) }
         ensures ok { IsTrue F.tells → IfOk result (λ n. take n into.new
             ≡ placed_from (file_bytes_of self.old) (place_in_mini_sectors
             (state_of self.old) (ids_of self.old)) (position_of self.old) n) }
         ensures rest { IfOk result (λ n. drop n into.new ≡ drop n into.old) }
-        ensures cut { (IsThere self.old (position_of self.old) → ⊥)
+        ensures cut { (HasByteAt self.old (position_of self.old) → ⊥)
             → IsErrAnd result IsInvalidData }
-        ensures err { IfErr result (ChangeRefused (IsThere self.old (position_of self.old)
+        ensures err { IfErr result (ChangeRefused (HasByteAt self.old (position_of self.old)
             → ⊥) ⊥ ⊥ Unit) }
         ensures same { IsTrue F.tells → OnOk result (state_of self.new ≡ state_of self.old) }
         ensures bytes { IsTrue F.tells → file_bytes_of self.new ≡ file_bytes_of self.old }
@@ -222,7 +222,7 @@ impl<'a, F: ReadMedium, A: Heap> MiniChain<'a, F, A> {
 }
 
 impl<'a, F: Medium, A: Heap> MiniChain<'a, F, A> {
-    ghost use Rattle.cfb_mini_chains.specs.LentMiniChain.{minialloc_of, state_of, start_sector_of, ids_of, len_of, position_of, left_of, mini_sector_at, file_bytes_of, place_at, place_of, IsPlaced, ChangesOnlyWanted, OthersStay, HasWritten};
+    ghost use Rattle.cfb_mini_chains.specs.LentMiniChain.{minialloc_of, state_of, start_sector_of, ids_of, len_of, position_of, left_of, mini_sector_at, file_bytes_of, place_at, place_of, HasMiniSectorAt, ChangesOnlyWanted, OtherMiniSectorsStay, HasWritten};
 
     /// Writes a beginning of `from` over what the mini chain has from the position on, by one call of the medium, goes on behind it, and
     /// answers how many bytes that is: as many as follow each other in the file, none exactly where `from` is empty or the end is
@@ -246,10 +246,10 @@ impl<'a, F: Medium, A: Heap> MiniChain<'a, F, A> {
               len = max (table_of (state_of self.old)).file.len (place_of self.old + n);
               begun = true;
             }) }
-        ensures there { IfOk result (λ n. 0 < n → IsPlaced self.old (position_of self.old)) }
+        ensures there { IfOk result (λ n. 0 < n → HasMiniSectorAt self.old (position_of self.old)) }
         ensures cut { 0 < min (length from.now) (left_of self.old)
-            → (IsPlaced self.old (position_of self.old) → ⊥) → IsErrAnd result IsInvalidData }
-        ensures err { IfErr result (ChangeRefused (IsPlaced self.old (position_of self.old)
+            → (HasMiniSectorAt self.old (position_of self.old) → ⊥) → IsErrAnd result IsInvalidData }
+        ensures err { IfErr result (ChangeRefused (HasMiniSectorAt self.old (position_of self.old)
             → ⊥) ⊥ ⊥ Unit) }
         ensures places { IsTrue F.tells
             → (validation : Validation) → HoldsMini validation (state_of self.old)
@@ -260,7 +260,7 @@ impl<'a, F: Medium, A: Heap> MiniChain<'a, F, A> {
         ensures others { IsTrue F.tells → ChangesOnlyWanted (length from.now) self.old self.new }
         ensures other_mini { IsTrue F.tells
             → (validation : Validation) → HoldsMini validation (state_of self.old)
-            → OthersStay (length from.now) self.old self.new }
+            → OtherMiniSectorsStay (length from.now) self.old self.new }
         ensures spares { IsTrue F.tells → Spares (mini_stream_of (state_of self.old))
             (table_of (state_of self.old)) (table_of (state_of self.new)) }
         ensures mini_spares { IsTrue F.tells
@@ -302,10 +302,10 @@ impl<'a, F: Medium, A: Heap> MiniChain<'a, F, A> {
               len = max (table_of (state_of self.old)).file.len (place_of self.old + n);
               begun = true;
             }) }
-        ensures there { OnOk result (IsPlaced self.old (position_of self.old)) }
-        ensures cut { (IsPlaced self.old (position_of self.old) → ⊥)
+        ensures there { OnOk result (HasMiniSectorAt self.old (position_of self.old)) }
+        ensures cut { (HasMiniSectorAt self.old (position_of self.old) → ⊥)
             → IsErrAnd result IsInvalidData }
-        ensures err { IfErr result (ChangeRefused (IsPlaced self.old (position_of self.old)
+        ensures err { IfErr result (ChangeRefused (HasMiniSectorAt self.old (position_of self.old)
             → ⊥) ⊥ ⊥ Unit) }
         ensures holds { IsTrue F.tells
             → (validation : Validation) → HoldsMini validation (state_of self.old)
@@ -351,8 +351,8 @@ impl<'a, F: Medium, A: Heap> MiniChain<'a, F, A> {
               begun = true;
             }) }
         ensures cut { 0 < offset % mini_sector_len
-            → (IsPlaced self.old offset → ⊥) → IsErrAnd result IsInvalidData }
-        ensures err { IfErr result (ChangeRefused (IsPlaced self.old offset → ⊥) ⊥ ⊥ Unit) }
+            → (HasMiniSectorAt self.old offset → ⊥) → IsErrAnd result IsInvalidData }
+        ensures err { IfErr result (ChangeRefused (HasMiniSectorAt self.old offset → ⊥) ⊥ ⊥ Unit) }
         ensures holds { IsTrue F.tells
             → (validation : Validation) → HoldsMini validation (state_of self.old)
             → OnOk result (HoldsMini validation (state_of self.new)) }
@@ -383,7 +383,7 @@ impl<'a, F: Medium, A: Heap> MiniChain<'a, F, A> {
 }
 
 impl<'a, F: Medium, A: Heap> MiniChain<'a, F, A> {
-    ghost use Rattle.cfb_mini_chains.specs.LentMiniChain.{minialloc_of, state_of, start_sector_of, ids_of, len_of, position_of, missing_of, mini_sector_at, HasGained, HasKept, IsAsBefore, IsPlaced, OthersStay, HasWritten, HasResized};
+    ghost use Rattle.cfb_mini_chains.specs.LentMiniChain.{minialloc_of, state_of, start_sector_of, ids_of, len_of, position_of, missing_of, mini_sector_at, HasGained, HasKept, IsAsBefore, HasMiniSectorAt, OtherMiniSectorsStay, HasWritten, HasResized};
 
     /// Frees its mini sectors: then it has none. What is freed reads as zeros where the mini stream still has it; the sectors of the MiniFAT
     /// and of the mini stream that are not needed then are given back. Where it had none nothing changes.
@@ -466,7 +466,7 @@ impl<'a, F: Medium, A: Heap> MiniChain<'a, F, A> {
             → IfOk result (λ n. HasWritten n from.now self.old self.new) }
         ensures others { IsTrue F.tells
             → (validation : Validation) → HoldsMini validation (state_of self.old)
-            → OthersStay (length from.now) self.old self.new }
+            → OtherMiniSectorsStay (length from.now) self.old self.new }
         ensures spares { IsTrue F.tells → Spares (system_sectors (state_of self.old))
             (table_of (state_of self.old)) (table_of (state_of self.new)) }
         ensures mini_spares { IsTrue F.tells
@@ -482,7 +482,7 @@ impl<'a, F: Medium, A: Heap> MiniChain<'a, F, A> {
         ensures err { IfErr result (ChangeRefused (IsNotHeld (state_of self.old)) Unit
             (IsTooFewFor (state_of self.old) (missing_of self.old (length from.now))) Unit) }
         ensures needed { missing_of self.old (length from.now) ≡ 0
-            → IfErr result (ChangeRefused (IsPlaced self.old (position_of self.old) → ⊥) ⊥ ⊥ Unit) }
+            → IfErr result (ChangeRefused (HasMiniSectorAt self.old (position_of self.old) → ⊥) ⊥ ⊥ Unit) }
         ensures counts { IsTrue F.tells
             → CountsFailure F.write_faults result (table_of (state_of self.old)).file.failures
             (table_of (state_of self.new)).file.failures }
@@ -556,7 +556,7 @@ impl<'a, F: Medium, A: Heap> MiniChain<'a, F, A> {
             × IsTooFewFor (state_of self.old) (rounded_up len mini_sector_len
             - length (ids_of self.old))) Unit) }
         ensures needed { rounded_up len mini_sector_len ≡ length (ids_of self.old)
-            → IfErr result (ChangeRefused (IsPlaced self.old len → ⊥) ⊥ ⊥ Unit) }
+            → IfErr result (ChangeRefused (HasMiniSectorAt self.old len → ⊥) ⊥ ⊥ Unit) }
         ensures begun { OnOk result (IsRaised (len ≢ len_of self.old)
             (table_of (state_of self.old)).file (table_of (state_of self.new)).file) }
         ensures counts { IsTrue F.tells
@@ -577,8 +577,8 @@ impl<'a, F: Medium, A: Heap> MiniChain<'a, F, A> {
     /// sector for it.
     fn can_end_at(&self, len: u64) -> Result<(), Error>
         ensures none { len % mini_sector_len ≡ 0 → OnErr result ⊥ }
-        ensures placed { 0 < len % mini_sector_len → OnOk result (IsPlaced self.now len) }
-        ensures err { IfErr result (ChangeRefused (IsPlaced self.now len → ⊥) ⊥ ⊥ ⊥) }
+        ensures placed { 0 < len % mini_sector_len → OnOk result (HasMiniSectorAt self.now len) }
+        ensures err { IfErr result (ChangeRefused (HasMiniSectorAt self.now len → ⊥) ⊥ ⊥ ⊥) }
     {
         if len % MINI_SECTOR_LEN as u64 == 0 {
             return Ok(());

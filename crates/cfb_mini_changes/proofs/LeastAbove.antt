@@ -1,10 +1,10 @@
 -- The least number above two lists, and how it grows with them.
 use Rattle.std.proofs.Common.{◌≡◌, ◌≤◌, ◌<◌, ◌⊎◌, inl, inr, ℕ, List, [], Some, ◌++◌, ◌-◌, length, take, drop, sym, subst}
 use Rattle.std.specs.Prelude.{Contains, Option, option_map, unwrap_or}
-use Rattle.std.proofs.lemmas.List.{length-drop, take-append-drop}
+use Rattle.std.proofs.lemmas.List.{take-append-drop}
 use Rattle.std.proofs.lemmas.List.Elements.{Contains-append_cases, Contains-append_left, Contains-append_right}
-use Rattle.std.proofs.Math.Seq.{take-append_seam, take-length}
-use Rattle.cfb_directory.specs.Slots.{IsLeastAbove}
+use Rattle.std.proofs.Math.Seq.{take-append_seam}
+use Rattle.cfb_mini_changes.specs.cfb_slots.Slots.{IsLeastAbove}
 
 -- below the same number are all of the first and all of the second
 pub first-below : (xs ys : List ℕ) (above n : ℕ) → IsLeastAbove (xs ++ ys) above → above ≤ n → (i : ℕ) → Contains xs i → i < n
@@ -64,10 +64,6 @@ least-with-rest xs ys j k above =
 -- the beginning of a list that was made longer
 pub listed-before : (old new more : List ℕ) → new ≡ old ++ more → take (length old) new ≡ old
 listed-before old new more same = subst (λ (l : List ℕ). take (length old) l ≡ old) (sym same) (take-append_seam old more)
-
--- what is behind the beginning of a list, as a part of it
-pub part-behind : (list : List ℕ) (k : ℕ) → take (length list - k) (drop k list) ≡ drop k list
-part-behind list k = subst (λ n. take n (drop k list) ≡ drop k list) (length-drop k list) (take-length (drop k list))
 
 -- the second list may be that of an option, which is there
 pub of-some : {V : Type 0} (items : V → List ℕ) (o : Option V) (v : V) (xs : List ℕ) (above : ℕ) → o ≡ Some v

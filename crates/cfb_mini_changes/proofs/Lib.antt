@@ -1,3 +1,13 @@
+pub use Rattle.cfb_mini_sectors.proofs.cfb_outline
+pub use Rattle.cfb_mini_sectors.proofs.cfb_siblings
+pub use Rattle.cfb_mini_sectors.proofs.cfb_trees
+pub use Rattle.cfb_mini_sectors.proofs.cfb_entries
+pub use Rattle.cfb_mini_sectors.proofs.cfb_sectors
+pub use Rattle.cfb_mini_sectors.proofs.cfb_tables
+pub use Rattle.cfb_mini_sectors.proofs.cfb_mini_table
+pub use Rattle.cfb_mini_sectors.proofs.cfb_alloc
+pub use Rattle.cfb_mini_sectors.proofs.cfb_directory
+pub use Rattle.cfb_mini_sectors.proofs as cfb_mini_sectors
 pub mod MiniKnown
 pub mod MiniSettled
 pub mod MiniTaken

@@ -8,19 +8,17 @@ use Rattle.cfb_format.specs.declared.validate.Validation.{Validation}
 use Rattle.cfb_format.specs.Bytes.{end_of_chain, free_sector}
 use Rattle.cfb_format.specs.Chain.{IsChain, value}
 use Rattle.cfb_format.specs.Content.{mini_sector_len}
-use Rattle.cfb_sectors.specs.Words.{RangeStays}
-use Rattle.cfb_tables.specs.Clean.{IsUnnamed}
-use Rattle.cfb_tables.specs.Listed.{ends_of, last_or_end}
-use Rattle.cfb_tables.specs.Tables.{first_or_end}
-use Rattle.cfb_tables.proofs.ChainLemmas.{members-busy}
-use Rattle.cfb_tables.proofs.ListedLemmas.{last_alone, last_is, rest-is, what_is_left-ends}
-use Rattle.cfb_tables.proofs.Members.{Contains-one, value-below}
-use Rattle.cfb_alloc.proofs.Listed.{not_in_nil}
-use Rattle.cfb_alloc.proofs.ListedLemmas.{cut_members, shown_cut}
-use Rattle.cfb_directory.specs.Growing.{AreSectorsOf}
-use Rattle.cfb_mini_table.specs.MiniTable.{EndsBusy, MiniGivesBack}
-use Rattle.cfb_mini_table.proofs.FreedLemmas.{gives-none}
-use Rattle.cfb_mini_table.proofs.LawLemmas.{left-is-chain}
+use Rattle.cfb_mini_changes.specs.cfb_sectors.Words.{RangeStays}
+use Rattle.cfb_mini_changes.specs.cfb_tables.Clean.{IsUnnamed}
+use Rattle.cfb_mini_changes.specs.cfb_tables.Listed.{ends_of, last_or_end}
+use Rattle.cfb_mini_changes.specs.cfb_tables.Tables.{first_or_end}
+use Rattle.cfb_mini_changes.proofs.cfb_tables.ChainLemmas.{members-busy}
+use Rattle.cfb_mini_changes.proofs.cfb_tables.ListedLemmas.{last_alone, last_is, rest-is, what_is_left-ends}
+use Rattle.cfb_mini_changes.proofs.cfb_alloc.ListedLemmas.{cut_members, shown_cut}
+use Rattle.cfb_mini_changes.specs.cfb_directory.Growing.{AreSectorsOf}
+use Rattle.cfb_mini_changes.specs.cfb_mini_table.MiniTable.{EndsBusy, MiniGivesBack}
+use Rattle.cfb_mini_changes.proofs.cfb_mini_table.FreedLemmas.{gives-none}
+use Rattle.cfb_mini_changes.proofs.cfb_mini_table.LawLemmas.{left-is-chain}
 use Rattle.cfb_mini_sectors.specs.State.{IsMiniClean, MiniState, HoldsMini, bytes_of, mini_place, mini_stream_of, tables_in, version_of}
 use Rattle.cfb_mini_sectors.specs.Steps.{EndsNoChain, SparesMini, mini_stream_needs}
 use Rattle.cfb_mini_sectors.specs.Held.{HasMiniPlaces, HoldsMiniBut, with_minifat}
@@ -31,6 +29,8 @@ use Rattle.cfb_mini_sectors.proofs.MiniFrames.{shorter-place}
 use Rattle.cfb_mini_changes.specs.MiniSectors.{HasMiniSector}
 use Rattle.cfb_mini_changes.proofs.MiniKnown.{has-mini, held-sectors, known-mini, known-word}
 use Rattle.cfb_mini_changes.proofs.MiniExtended.{mini-there}
+use Rattle.cfb_format.proofs.Members.{Contains-one, Contains-nil}
+use Rattle.cfb_format.proofs.Walks.{value-below}
 
 module _ (ids : List ℕ) (left : ℕ) (old new : List ℕ) (chain : IsChain old (first_or_end ids) ids) (fewer : left < length ids)
     (cut : MiniGivesBack (ends_of (take left ids)) (drop left ids) old new) where
@@ -125,7 +125,7 @@ rest-among ids n i m = subst (λ (l : List ℕ). Contains l i) (take-append-drop
 
 -- a chain ends at the last of its members
 chain-ended : (table list : List ℕ) → IsChain table (first_or_end list) list → (i : ℕ) → Contains (ends_of list) i → value table i ≡ end_of_chain
-chain-ended table [] c i m = absurd (not_in_nil i m)
+chain-ended table [] c i m = absurd (Contains-nil i m)
 chain-ended table (x ∷ list) c i m =
     let some : 0 < length (x ∷ list) = omega arith in
     let last = last_or_end (x ∷ list) in

@@ -13,27 +13,27 @@ use Rattle.cfb_format.specs.DirectoryEntry.{Entry, ButContent}
 use Rattle.cfb_format.specs.Siblings.{entry_at}
 use Rattle.cfb_format.specs.declared.medium.MediumFault.{MediumFault}
 use Rattle.cfb_format.specs.Refused.{AfterMedium, CountsError, IsInvalidData}
-use Rattle.cfb_sectors.specs.Sectors.{IsMediumError}
-use Rattle.cfb_sectors.specs.Words.{RangeStays}
-use Rattle.cfb_sectors.proofs.SectorLemmas.{Stays_trans}
-use Rattle.cfb_tables.specs.Refused.{ChangeRefused}
-use Rattle.cfb_tables.specs.Tables.{TableState}
-use Rattle.cfb_tables.proofs.Members.{value-below}
-use Rattle.cfb_alloc.specs.Frame.{Spares}
-use Rattle.cfb_alloc.specs.ListedChain.{Lengthens}
-use Rattle.cfb_alloc.proofs.Frames.{spares-then}
-use Rattle.cfb_alloc.proofs.Listed.{not_in_nil}
-use Rattle.cfb_directory.specs.Growing.{AreSectorsOf}
-use Rattle.cfb_directory.specs.Steps.{KeepsWholeHeader}
-use Rattle.cfb_mini_table.specs.MiniTable.{IsTooFewMini, MiniTableState, TakesMini}
+use Rattle.cfb_mini_changes.specs.cfb_sectors.Sectors.{IsMediumError}
+use Rattle.cfb_mini_changes.specs.cfb_sectors.Words.{RangeStays}
+use Rattle.cfb_mini_changes.proofs.cfb_sectors.SectorLemmas.{Stays_trans}
+use Rattle.cfb_mini_changes.specs.cfb_tables.Refused.{ChangeRefused}
+use Rattle.cfb_mini_changes.specs.cfb_tables.Tables.{TableState}
+use Rattle.cfb_mini_changes.specs.cfb_alloc.Frame.{Spares}
+use Rattle.cfb_mini_changes.specs.cfb_alloc.ListedChain.{Lengthens}
+use Rattle.cfb_mini_changes.proofs.cfb_alloc.Frames.{spares-then}
+use Rattle.cfb_mini_changes.specs.cfb_directory.Growing.{AreSectorsOf}
+use Rattle.cfb_mini_changes.specs.cfb_directory.Steps.{KeepsWholeHeader}
+use Rattle.cfb_mini_changes.specs.cfb_mini_table.MiniTable.{IsTooFewMini, MiniTableState, TakesMini}
 use Rattle.cfb_mini_sectors.specs.State.{MiniState, bytes_of, entries_of, mini_place, mini_stream_of, root_len_of, table_of, tables_in, version_of}
 use Rattle.cfb_mini_sectors.specs.Steps.{GrowsFor, KeepsHeader, KeepsLimits, MovesRoot, SparesMini, StopsShortOrFull, mini_stream_lacks, minifat_lacks, system_sectors}
-use Rattle.cfb_soundness.specs.Places.{mini_start}
+use Rattle.cfb_mini_changes.specs.cfb_soundness.Places.{mini_start}
 use Rattle.cfb_mini_sectors.specs.Held.{HasMiniPlaces}
 use Rattle.cfb_mini_sectors.proofs.MiniFrames.{version-place}
 use Rattle.cfb_mini_changes.specs.MiniSectors.{HasMiniSector}
 use Rattle.cfb_mini_changes.proofs.MiniGrown.{grown-system}
 use Rattle.cfb_mini_changes.proofs.MiniKnown.{mini_index}
+use Rattle.cfb_format.proofs.Walks.{value-below}
+use Rattle.cfb_format.proofs.Members.{Contains-nil}
 
 -- ---- the root
 
@@ -44,14 +44,6 @@ moves-from a b c same m = record {
   root = subst (λ (l : List Entry). ButContent (entry_at l 0) (entry_at (entries_of c) 0)) same m.root;
   root_len = subst (λ (l : List Entry). (root_len_of c ≡ (entry_at l 0).stream_len) ⊎ ((k : ℕ) × (root_len_of c ≡ mini_sector_len * k))) same m.root_len;
   others = λ k ne. m.others k ne ∙ ap (λ (l : List Entry). entry_at l k) same;
-}
-
-pub moves-none : (a b : MiniState) → entries_of b ≡ entries_of a → MovesRoot a b
-moves-none a b same = record {
-  same_length = ap (λ (l : List Entry). length l) same;
-  root = subst (λ (l : List Entry). ButContent (entry_at (entries_of a) 0) (entry_at l 0)) (sym same) refl;
-  root_len = inl (ap (λ (l : List Entry). (entry_at l 0).stream_len) same);
-  others = λ k ne. ap (λ (l : List Entry). entry_at l k) same;
 }
 
 -- ---- the limits and the header
@@ -99,14 +91,14 @@ module _ (ends more : List ℕ) (limit : ℕ) (a b c : MiniState) (places : HasM
   pub taken-bytes : (m : ℕ) → value a.minifat m ≢ free_sector → RangeStays (mini_place a m) (mini_place a m + mini_sector_len) (bytes_of a) (bytes_of c)
   taken-bytes m busy =
       let low : m < length b.minifat = subst (λ (l : List ℕ). m < length l) (sym minifat) (value-below a.minifat m busy) in
-      let here : mini_place b m ≡ mini_place a m = version-place a b m version (grown.places m busy (not_in_nil m)) in
-      Stays_trans (mini_place a m) (mini_place a m + mini_sector_len) (bytes_of a) (bytes_of b) (bytes_of c) (grown.bytes m busy (λ n. not_in_nil m n))
+      let here : mini_place b m ≡ mini_place a m = version-place a b m version (grown.places m busy (Contains-nil m)) in
+      Stays_trans (mini_place a m) (mini_place a m + mini_sector_len) (bytes_of a) (bytes_of b) (bytes_of c) (grown.bytes m busy (λ n. Contains-nil m n))
       (subst (λ p. RangeStays p (p + mini_sector_len) (bytes_of b) (bytes_of c)) here (others m (mini-there b m room within low) (λ n. busy (taken.fresh m n))))
 
   pub taken-spares : SparesMini ends a c
   taken-spares = record {
     values = λ m busy out. taken.only m (λ n. elim (Contains-append_cases ends more m n) [ inl e ↦ out e | inr n ↦ busy (taken.fresh m n) ]);
-    places = λ m busy out. ap (λ (l : List ℕ). mini_start (version_of a) l m) stream ∙ grown.places m busy (not_in_nil m);
+    places = λ m busy out. ap (λ (l : List ℕ). mini_start (version_of a) l m) stream ∙ grown.places m busy (Contains-nil m);
     bytes = λ m busy out. taken-bytes m busy;
   }
 

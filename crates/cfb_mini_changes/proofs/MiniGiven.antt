@@ -1,5 +1,5 @@
 -- What is made of the mini sectors as the MiniFAT and the mini stream give back sectors behind a change.
-use Rattle.std.proofs.Common.{◌≡◌, ◌⊎◌, ◌≤◌, ◌<◌, ◌+◌, ◌*◌, ◌/◌, ◌^◌, inl, inr, ℕ, List, [], ◌++◌, Bool, Option, Some, true, refl, sym, ◌∙◌, ap, subst, length, take, arith, length-take}
+use Rattle.std.proofs.Common.{◌≡◌, ◌⊎◌, ◌≤◌, ◌<◌, ◌+◌, ◌*◌, ◌/◌, ◌^◌, inl, inr, ℕ, List, [], ◌++◌, Bool, Option, Some, true, sym, ◌∙◌, ap, subst, length, take, arith, length-take}
 use Rattle.std.specs.Prelude.{◌↔◌, Contains, IsTrue, min, slice_index, unwrap_or}
 use Rattle.std.proofs.lemmas.Bool.{cases_eq}
 use Rattle.std.proofs.lemmas.List.{nil_from_length, take_all}
@@ -10,25 +10,25 @@ use Rattle.cfb_format.specs.Bytes.{byte_at, max_regular_sector, sector_len, word
 use Rattle.cfb_format.specs.Content.{mini_sector_len}
 use Rattle.cfb_format.specs.Full.{rounded_up}
 use Rattle.cfb_format.specs.Siblings.{entry_at}
-use Rattle.cfb_sectors.specs.Sectors.{SectorStays}
-use Rattle.cfb_sectors.specs.Words.{RangeStays}
-use Rattle.cfb_tables.specs.Changes.{AreDisjoint}
-use Rattle.cfb_tables.specs.Clean.{IsUnnamed}
-use Rattle.cfb_tables.specs.Tables.{TableState, first_or_end}
-use Rattle.cfb_alloc.specs.Alloc.{AllocatorState, IsUsable}
-use Rattle.cfb_alloc.specs.Frame.{table_sectors}
-use Rattle.cfb_alloc.specs.ListedChain.{Shortens}
-use Rattle.cfb_alloc.proofs.ListedLemmas.{can_shorten}
-use Rattle.cfb_directory.specs.Growing.{IsListedChain}
-use Rattle.cfb_directory.specs.Slots.{IsLeastAbove}
-use Rattle.cfb_directory.proofs.InsertGrow.{ends-among}
-use Rattle.cfb_soundness.specs.Places.{mini_start}
+use Rattle.cfb_mini_changes.specs.cfb_sectors.Sectors.{SectorStays}
+use Rattle.cfb_mini_changes.specs.cfb_sectors.Words.{RangeStays}
+use Rattle.cfb_mini_changes.specs.cfb_tables.Changes.{AreDisjoint}
+use Rattle.cfb_mini_changes.specs.cfb_tables.Clean.{IsUnnamed}
+use Rattle.cfb_mini_changes.specs.cfb_tables.Tables.{TableState, first_or_end}
+use Rattle.cfb_mini_changes.specs.cfb_alloc.Alloc.{AllocatorState, IsUsable}
+use Rattle.cfb_mini_changes.specs.cfb_alloc.Frame.{table_sectors}
+use Rattle.cfb_mini_changes.specs.cfb_alloc.ListedChain.{Shortens}
+use Rattle.cfb_mini_changes.proofs.cfb_alloc.ListedLemmas.{can_shorten}
+use Rattle.cfb_mini_changes.specs.cfb_directory.Growing.{IsListedChain}
+use Rattle.cfb_mini_changes.specs.cfb_slots.Slots.{IsLeastAbove}
+use Rattle.cfb_mini_changes.proofs.cfb_directory.InsertGrow.{ends-among}
+use Rattle.cfb_mini_changes.specs.cfb_soundness.Places.{mini_start}
 use Rattle.cfb_mini_sectors.specs.State.{HoldsMini, MiniState, bytes_of, entries_of, mini_place, mini_stream_of, table_of, tables_in, version_of}
 use Rattle.cfb_mini_sectors.specs.Steps.{AreStartsUnnamed, BeginsSystem, CanGiveRoomBack, GivesRoomBack, IsInMiniStream, IsMeasuredMini, IsSnugMini, IsZeroMini, KeepsLimits, KeepsSizes, MovesRoot, minifat_needs, mini_stream_needs}
 use Rattle.cfb_mini_sectors.specs.Giving.{CanGiveBack, ShortensBoth}
 use Rattle.cfb_mini_sectors.specs.Held.{with_minifat}
 use Rattle.cfb_mini_sectors.specs.Pieces.{AreZeros}
-use Rattle.cfb_mini_sectors.proofs.HeldShortened.{but-can}
+use Rattle.cfb_mini_sectors.proofs.HeldShortened.{but-can, sizes-refl}
 use Rattle.cfb_mini_sectors.proofs.HeldSteps.{held-but}
 use Rattle.cfb_mini_sectors.proofs.MiniPlaces.{mini_start-shorter}
 use Rattle.cfb_mini_changes.specs.Changing.{IsStreamApart, KeepsAllButRoom}
@@ -127,15 +127,12 @@ needs-minis a d minifat version = λ j. rounded_up (length (sym minifat j) * min
 
 -- ---- one step, and two
 
-sizes-same : (t : TableState) → KeepsSizes t t
-sizes-same t = record { sectors = refl; free = omega arith; rest = refl }
-
 -- where the root's entry alone was written
 pub kept-named : (a d : MiniState) → d.directory.sectors ≡ a.directory.sectors → tables_in d ≡ tables_in a → d.minifat_sectors ≡ a.minifat_sectors
     → mini_stream_of d ≡ mini_stream_of a → MovesRoot a d → KeepsLimits a d → KeepsAllButRoom a d
 kept-named a d directory tables sectors stream entries limits = record {
   directory = directory;
-  sizes = subst (λ (t : TableState). KeepsSizes (tables_in a) t) (sym tables) (sizes-same (tables_in a));
+  sizes = subst (λ (t : TableState). KeepsSizes (tables_in a) t) (sym tables) (sizes-refl (tables_in a));
   stays = begins-refl a d sectors stream;
   entries = entries;
   limits = limits;

@@ -12,20 +12,19 @@ use Rattle.cfb_format.specs.Chain.{IsChain, value}
 use Rattle.cfb_format.specs.Content.{mini_sector_len}
 use Rattle.cfb_format.specs.Full.{rounded_up}
 use Rattle.cfb_format.specs.Siblings.{entry_at}
-use Rattle.cfb_tables.specs.Listed.{ends_of, gained}
-use Rattle.cfb_tables.specs.Refused.{ChangeRefused}
-use Rattle.cfb_tables.specs.Tables.{TableState, first_or_end}
-use Rattle.cfb_tables.proofs.ChainLemmas.{members-busy}
-use Rattle.cfb_tables.proofs.ListedLemmas.{chain_ends}
-use Rattle.cfb_tables.proofs.Members.{Contains-or, value-below}
-use Rattle.cfb_tables.proofs.TakenLemmas.{taken-busy}
-use Rattle.cfb_alloc.specs.Alloc.{AllocatorState, IsUsable}
-use Rattle.cfb_alloc.specs.Frame.{Spares}
-use Rattle.cfb_alloc.specs.ListedChain.{Lengthens}
-use Rattle.cfb_alloc.proofs.Frames.{spares-less}
-use Rattle.cfb_alloc.proofs.HeldOrder.{held-usable}
-use Rattle.cfb_directory.specs.Growing.{ArePlaced, AreSectorsOf}
-use Rattle.cfb_directory.proofs.InsertGrow.{ends-among}
+use Rattle.cfb_mini_changes.specs.cfb_tables.Listed.{ends_of, gained}
+use Rattle.cfb_mini_changes.specs.cfb_tables.Refused.{ChangeRefused}
+use Rattle.cfb_mini_changes.specs.cfb_tables.Tables.{TableState, first_or_end}
+use Rattle.cfb_mini_changes.proofs.cfb_tables.ChainLemmas.{members-busy}
+use Rattle.cfb_mini_changes.proofs.cfb_tables.ListedLemmas.{chain_ends}
+use Rattle.cfb_mini_changes.proofs.cfb_tables.TakenLemmas.{taken-busy}
+use Rattle.cfb_mini_changes.specs.cfb_alloc.Alloc.{AllocatorState, IsUsable}
+use Rattle.cfb_mini_changes.specs.cfb_alloc.Frame.{Spares}
+use Rattle.cfb_mini_changes.specs.cfb_alloc.ListedChain.{Lengthens}
+use Rattle.cfb_mini_changes.proofs.cfb_alloc.Frames.{spares-less}
+use Rattle.cfb_mini_changes.proofs.cfb_alloc.HeldOrder.{held-usable}
+use Rattle.cfb_mini_changes.specs.cfb_directory.Growing.{ArePlaced, AreSectorsOf}
+use Rattle.cfb_mini_changes.proofs.cfb_directory.InsertGrow.{ends-among}
 use Rattle.cfb_mini_sectors.specs.State.{MiniState, HoldsMini, entries_of, mini_stream_of, table_of, tables_in, version_of}
 use Rattle.cfb_mini_sectors.specs.Steps.{GrowsFor, IsNotHeld, SparesMini, StopsShortOrFull, mini_stream_lacks, minifat_lacks, minifat_len_with, system_sectors}
 use Rattle.cfb_mini_sectors.specs.Held.{with_mini_stream, with_minifat_sectors, with_table}
@@ -36,6 +35,8 @@ use Rattle.cfb_mini_sectors.proofs.HeldGrown.{but-places}
 use Rattle.cfb_mini_sectors.proofs.MiniFrames.{sectors-spare}
 use Rattle.cfb_mini_sectors.proofs.MiniStreams.{chain-is-stream, stream-chain}
 use Rattle.cfb_mini_changes.proofs.MiniKnown.{held-stream, minis-with, words-with}
+use Rattle.cfb_format.proofs.Members.{Contains-or}
+use Rattle.cfb_format.proofs.Walks.{value-below}
 
 -- ---- what is lacking
 

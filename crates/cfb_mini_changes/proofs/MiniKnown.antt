@@ -11,16 +11,17 @@ use Rattle.cfb_format.specs.Bytes.{max_regular_sector, sector_len, words_per_sec
 use Rattle.cfb_format.specs.Content.{mini_sector_len}
 use Rattle.cfb_format.specs.Full.{rounded_up}
 use Rattle.cfb_format.specs.Siblings.{entry_at}
-use Rattle.cfb_tables.specs.Tables.{first_or_end}
-use Rattle.cfb_tables.proofs.ChainLemmas.{members-busy}
-use Rattle.cfb_alloc.proofs.AgreementLemmas.{every}
-use Rattle.cfb_alloc.proofs.HeldLemmas.{every_member}
-use Rattle.cfb_directory.proofs.Placed.{held_places}
+use Rattle.cfb_mini_changes.specs.cfb_tables.Tables.{first_or_end}
+use Rattle.cfb_mini_changes.proofs.cfb_tables.ChainLemmas.{members-busy}
+use Rattle.cfb_mini_changes.proofs.cfb_alloc.AgreementLemmas.{every}
+use Rattle.cfb_mini_changes.proofs.cfb_directory.Placed.{held_places}
 use Rattle.cfb_mini_sectors.specs.State.{MiniState, HoldsMini, entries_of, mini_stream_of, tables_in, version_of}
 use Rattle.cfb_mini_changes.specs.Changing.{HaveSectors}
 use Rattle.cfb_mini_changes.specs.MiniSectors.{HasMiniSector}
 use Rattle.cfb_mini_sectors.specs.Pieces.{HasMini, HasWord}
 use Rattle.cfb_mini_sectors.proofs.MiniStreams.{chain-is-stream, stream-chain}
+use Rattle.cfb_format.proofs.FullChains.{quotient_none}
+use Rattle.cfb_format.proofs.Members.{every_member}
 
 pub held-stream : (validation : Validation) (s : MiniState) (h : HoldsMini validation s) → mini_stream_of s ≡ h.mini_stream.sectors
 held-stream validation s h = ap (λ (w : Option (List ℕ)). unwrap_or w []) h.mini_stream.kept
@@ -105,10 +106,6 @@ pub words-enough : (v : Version) (n have : ℕ) → rounded_up n (words_per_sect
 words-enough V3 n have none = omega (arith, none)
 words-enough V4 n have none = omega (arith, none)
 
-pub words-lack : (v : Version) (n have : ℕ) → n ≤ have * words_per_sector v → rounded_up n (words_per_sector v) - have ≡ 0
-words-lack V3 n have few = omega (arith, few)
-words-lack V4 n have few = omega (arith, few)
-
 -- with the sectors that are lacking there is one
 pub words-with : (v : Version) (n have : ℕ) → n ≤ (have + (rounded_up n (words_per_sector v) - have)) * words_per_sector v
 words-with V3 n have = omega arith
@@ -136,7 +133,7 @@ lacks-few V4 n a b few = omega (arith, few)
 pub have-not : (s : MiniState) (a b : ℕ) → a ≡ rounded_up (length s.minifat) (words_per_sector (version_of s)) - length s.minifat_sectors
     → b ≡ rounded_up (length s.minifat * mini_sector_len) (sector_len (version_of s)) - length (mini_stream_of s) → (0 < a) ⊎ (0 < b) → HaveSectors s → ⊥
 have-not s a b words minis lacks h =
-    let none = words-lack (version_of s) (length s.minifat) (length s.minifat_sectors) h.words in
+    let none = quotient_none (version_of s) (length s.minifat) (length s.minifat_sectors) h.words in
     let no = minis-lack (version_of s) (length s.minifat) (length (mini_stream_of s)) h.room in
     elim lacks [ inl l ↦ omega (arith, l, words, none) | inr l ↦ omega (arith, l, minis, no) ]
 

@@ -12,32 +12,35 @@ use Rattle.cfb_format.specs.Content.{mini_sector_len}
 use Rattle.cfb_format.specs.DirectoryEntry.{Entry, ButContent}
 use Rattle.cfb_format.specs.Full.{max_mini_sectors}
 use Rattle.cfb_format.specs.Siblings.{entry_at}
-use Rattle.cfb_sectors.specs.Words.{RangeStays}
-use Rattle.cfb_sectors.specs.Sectors.{SectorStays}
-use Rattle.cfb_tables.specs.Changes.{AreDisjoint}
-use Rattle.cfb_tables.specs.Tables.{AreSizes, TableState, first_or_end, sizes_of}
-use Rattle.cfb_tables.proofs.Members.{Contains-or, value-past}
-use Rattle.cfb_alloc.specs.Agreement.{HasSectors, word_home, word_of}
-use Rattle.cfb_alloc.specs.Alloc.{AllocatorState, HoldsTables}
-use Rattle.cfb_alloc.specs.Frame.{Spares, table_sectors}
-use Rattle.cfb_alloc.specs.InSector.{IsNoTableSector}
-use Rattle.cfb_alloc.proofs.Frames.{other-chains-spared}
-use Rattle.cfb_alloc.proofs.HeldOrder.{members-no_table}
-use Rattle.cfb_alloc.proofs.TableWords.{home_inside, home_sector}
-use Rattle.cfb_directory.specs.State.{DirectoryState, HoldsDirectory}
-use Rattle.cfb_directory.specs.Steps.{KeepsWholeHeader}
-use Rattle.cfb_directory.proofs.HeldDirectory.{directory-stays-held}
-use Rattle.cfb_directory.proofs.Rewritten.{word_left}
-use Rattle.cfb_soundness.specs.Places.{mini_start}
-use Rattle.cfb_mini_table.specs.MiniTable.{EndsBusy}
+use Rattle.cfb_mini_changes.specs.cfb_sectors.Words.{RangeStays}
+use Rattle.cfb_mini_changes.specs.cfb_sectors.Sectors.{SectorStays}
+use Rattle.cfb_mini_changes.specs.cfb_tables.Changes.{AreDisjoint}
+use Rattle.cfb_mini_changes.specs.cfb_tables.Tables.{AreSizes, TableState, first_or_end, sizes_of}
+use Rattle.cfb_mini_changes.proofs.cfb_tables.Members.{value-past}
+use Rattle.cfb_mini_changes.specs.cfb_alloc.Agreement.{HasSectors, word_home, word_of}
+use Rattle.cfb_mini_changes.specs.cfb_alloc.Alloc.{AllocatorState, HoldsTables}
+use Rattle.cfb_mini_changes.specs.cfb_alloc.Frame.{Spares, table_sectors}
+use Rattle.cfb_mini_changes.specs.cfb_alloc.InSector.{IsNoTableSector}
+use Rattle.cfb_mini_changes.proofs.cfb_alloc.Frames.{other-chains-spared}
+use Rattle.cfb_mini_changes.proofs.cfb_alloc.HeldOrder.{members-no_table}
+use Rattle.cfb_mini_changes.proofs.cfb_alloc.TableWords.{home_inside, home_sector}
+use Rattle.cfb_mini_changes.specs.cfb_directory.State.{DirectoryState, HoldsDirectory}
+use Rattle.cfb_mini_changes.specs.cfb_directory.Steps.{KeepsWholeHeader}
+use Rattle.cfb_mini_changes.proofs.cfb_directory.HeldDirectory.{directory-stays-held}
+use Rattle.cfb_mini_changes.proofs.cfb_directory.Rewritten.{word_left}
+use Rattle.cfb_mini_changes.specs.cfb_soundness.Places.{mini_start}
+use Rattle.cfb_mini_changes.specs.cfb_mini_table.MiniTable.{EndsBusy}
 use Rattle.cfb_mini_sectors.specs.State.{MiniState, HoldWordsBut, HoldsMini, bytes_of, entries_of, mini_place, mini_stream_of, table_of, tables_in, version_of}
 use Rattle.cfb_mini_sectors.specs.Steps.{IsZeroMini, MovesRoot, system_sectors}
 use Rattle.cfb_mini_sectors.specs.Held.{HoldsMiniBut, IsFreeBehind, with_directory, with_table}
 use Rattle.cfb_mini_sectors.specs.Pieces.{AreZeros}
-use Rattle.cfb_mini_sectors.proofs.HeldMini.{if-strict, no-tables}
+use Rattle.cfb_mini_sectors.proofs.HeldMini.{no-tables}
 use Rattle.cfb_mini_sectors.proofs.HeldSteps.{but-held, but-root, but-written, directory-minifat, front-stream}
 use Rattle.cfb_mini_sectors.proofs.PiecePlaces.{mini_fits}
 use Rattle.cfb_mini_changes.specs.Changing.{IsStreamApart}
+use Rattle.cfb_format.proofs.Members.{Contains-or}
+use Rattle.cfb_mini_changes.proofs.cfb_sectors.SectorLemmas.{Stays_trans}
+use Rattle.cfb_format.proofs.Tests.{if_strict}
 
 -- all late words were written, and the others stayed
 pub but-words : (validation : Validation) (late : List ℕ) (s : MiniState) (a : AllocatorState) → HoldsMiniBut late validation s → a.tables ≡ tables_in s → HoldsTables validation a
@@ -77,8 +80,8 @@ but-words validation late s a h same tables spares word mine other =
         room = subst (λ u. length s.minifat * mini_sector_len ≤ length h.mini_stream.sectors * sector_len u) version h.mini_stream.room;
       };
       apart = h.apart;
-      count = if-strict validation (word_at bytes 64 ≡ length sectors) (word_at a.file.bytes 64 ≡ length sectors) (λ e. word 64 (omega arith) ∙ e) h.count;
-      behind = if-strict validation (IsFreeBehind late s) (IsFreeBehind [] (with_table s a))
+      count = if_strict validation (word_at bytes 64 ≡ length sectors) (word_at a.file.bytes 64 ≡ length sectors) (λ e. word 64 (omega arith) ∙ e) h.count;
+      behind = if_strict validation (IsFreeBehind late s) (IsFreeBehind [] (with_table s a))
           (λ b m ge. subst (λ u. m < length sectors * words_per_sector u → (Contains [] m → ⊥) → word_of u a.file.bytes sectors m ≡ free_sector) version
           (λ inside out. elim (Contains-or late m) [
             | inl is ↦ mine m is ∙ value-past s.minifat m ge
@@ -108,12 +111,6 @@ zeros-kept a b at stays zeros =
       there = omega (arith, there, longer);
       zeros = λ i lt. stays.each (at + i) (omega (arith, there, lt)) (omega arith) (omega (arith, lt)) ∙ zeros.zeros i lt;
     }
-
-pub stays-then : (from to : ℕ) (a b c : List ℕ) → RangeStays from to a b → RangeStays from to b c → RangeStays from to a c
-stays-then from to a b c first second =
-    let one = first.no_shorter in
-    let two = second.no_shorter in
-    record { no_shorter = omega (arith, one, two); each = λ i lt low high. second.each i (omega (arith, lt, one)) low high ∙ first.each i lt low high }
 
 -- the sector of a mini sector is one of the mini stream's
 pub mini-sector-of : (v : Version) (stream : List ℕ) (m : ℕ) → mini_sector_len * m / sector_len v < length stream
@@ -165,7 +162,7 @@ other-left s a b m once lt first stays =
     let stream = mini_stream_of s in
     let x = slice_index stream (mini_sector_len * m / sector_len v) in
     let out : Contains s.minifat_sectors x → ⊥ = λ o. front-stream s once x (Contains-append_right s.directory.sectors s.minifat_sectors x o) (mini-sector-of v stream m lt) in
-    stays-then (mini_start v stream m) (mini_start v stream m + mini_sector_len) (bytes_of s) a.file.bytes b.file.bytes first
+    Stays_trans (mini_start v stream m) (mini_start v stream m + mini_sector_len) (bytes_of s) a.file.bytes b.file.bytes first
     (mini-in-sector v stream a.file.bytes b.file.bytes m (stays x out))
 
 -- none of the mini stream's sectors holds the tables

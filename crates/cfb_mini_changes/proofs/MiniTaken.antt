@@ -1,8 +1,8 @@
 -- What is to be written once mini sectors were taken: their words and that of the one before them, which have their places.
-use Rattle.std.proofs.Common.{◌≡◌, ◌⊎◌, ◌≤◌, ◌<◌, ◌+◌, ◌-◌, ◌*◌, ◌/◌, inl, inr, ℕ, List, [], ◌∷◌, ◌++◌, sym, ◌∙◌, ap, subst, append-nil, length, take, drop, get_or, arith}
+use Rattle.std.proofs.Common.{◌≡◌, ◌⊎◌, ◌≤◌, ◌<◌, ◌+◌, ◌-◌, ◌*◌, ◌/◌, inl, inr, ℕ, List, [], ◌∷◌, ◌++◌, sym, ◌∙◌, ap, subst, append-nil, length, drop, get_or, arith}
 use Rattle.std.specs.Prelude.{Contains, slice_index}
 use Rattle.std.proofs.lemmas.Bool.{cases_eq}
-use Rattle.std.proofs.lemmas.List.{drop-append-le, get_or-drop, get_or_default, length-drop, take_all}
+use Rattle.std.proofs.lemmas.List.{drop-append-le, get_or-drop, get_or_default, length-drop}
 use Rattle.std.proofs.lemmas.List.Elements.{Contains-append_cases, Contains-append_left, Contains-append_right, Contains-get_or}
 use Rattle.cfb_format.specs.declared.version.Version.{Version}
 use Rattle.cfb_format.specs.declared.validate.Validation.{Validation}
@@ -10,17 +10,18 @@ use Rattle.cfb_format.specs.Bytes.{end_of_chain, free_sector, sector_len, words_
 use Rattle.cfb_format.specs.Chain.{IsChain, value}
 use Rattle.cfb_format.specs.Content.{mini_sector_len}
 use Rattle.cfb_format.specs.Full.{free_count}
-use Rattle.cfb_tables.specs.Listed.{ends_of, gained, last_or_end}
-use Rattle.cfb_tables.specs.Tables.{ending, first_or_end}
-use Rattle.cfb_tables.proofs.ListedLemmas.{ending_other}
-use Rattle.cfb_tables.proofs.Members.{Contains-nil, Contains-one, value-below}
-use Rattle.cfb_mini_table.specs.MiniTable.{TakesMini}
+use Rattle.cfb_mini_changes.specs.cfb_tables.Listed.{ends_of, gained, last_or_end}
+use Rattle.cfb_mini_changes.specs.cfb_tables.Tables.{ending, first_or_end}
+use Rattle.cfb_mini_changes.proofs.cfb_tables.ListedLemmas.{ending_other}
+use Rattle.cfb_mini_changes.specs.cfb_mini_table.MiniTable.{TakesMini}
 use Rattle.cfb_mini_sectors.specs.State.{MiniState, mini_stream_of, version_of}
 use Rattle.cfb_mini_sectors.specs.Held.{HoldsMiniBut, IsFreeBehind, with_minifat}
 use Rattle.cfb_mini_sectors.specs.Pieces.{HasMini, HasWord}
-use Rattle.cfb_mini_sectors.proofs.HeldMini.{if-strict}
 use Rattle.cfb_mini_sectors.proofs.HeldSteps.{but-taken}
 use Rattle.cfb_mini_changes.proofs.MiniKnown.{mini_index, word_index}
+use Rattle.cfb_format.proofs.Members.{Contains-nil, Contains-one}
+use Rattle.cfb_format.proofs.Walks.{value-below}
+use Rattle.cfb_format.proofs.Tests.{if_strict}
 
 -- more may be late
 pub but-later : (validation : Validation) (late more : List ℕ) (s : MiniState) → ((m : ℕ) → Contains late m → Contains more m) → HoldsMiniBut late validation s
@@ -36,7 +37,7 @@ but-later validation late more s among h = record {
   mini_stream = h.mini_stream;
   apart = h.apart;
   count = h.count;
-  behind = if-strict validation (IsFreeBehind late s) (IsFreeBehind more s) (λ b m ge lt out. b m ge lt (λ l. out (among m l))) h.behind;
+  behind = if_strict validation (IsFreeBehind late s) (IsFreeBehind more s) (λ b m ge lt out. b m ge lt (λ l. out (among m l))) h.behind;
 }
 
 -- ---- a list from its last old member on
@@ -83,10 +84,6 @@ ends-and-gained ids ids' m is c = subst (λ (l : List ℕ). Contains l m) (sym (
       | inl old ↦ Contains-append_left (drop (length ids - 1) ids) (gained ids ids') m (ends_there ids m old)
       | inr new ↦ Contains-append_right (drop (length ids - 1) ids) (gained ids ids') m new
     ])
-
--- what a slice of it shows from a place on
-pub shown-behind : (list : List ℕ) (k : ℕ) → take (length list - k) (drop k list) ≡ drop k list
-shown-behind list k = let len = length-drop k list in take_all (length list - k) (drop k list) (omega (arith, len))
 
 -- ---- places
 

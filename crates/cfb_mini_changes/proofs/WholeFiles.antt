@@ -9,14 +9,15 @@ use Rattle.cfb_format.specs.declared.version.Version.TheVariants.{V3, V4}
 use Rattle.cfb_format.specs.Bytes.{end_of_chain, free_sector, is_whole_sector, sector_len, sector_start}
 use Rattle.cfb_format.specs.Chain.{value}
 use Rattle.cfb_format.proofs.Words.{whole-end}
-use Rattle.cfb_sectors.specs.declared.sector.SectorInit.TheVariants.{Fat, Zero}
-use Rattle.cfb_tables.specs.Tables.{HasTaken, TableState}
-use Rattle.cfb_tables.proofs.Members.{Contains-or, value-past}
-use Rattle.cfb_alloc.specs.Alloc.{AllocatorState, HoldsTables}
-use Rattle.cfb_alloc.proofs.HeldLemmas.{listed_whole}
-use Rattle.cfb_alloc.proofs.SoundTables.{difat-whole}
+use Rattle.cfb_mini_changes.specs.cfb_sectors.declared.sector.SectorInit.TheVariants.{Fat, Zero}
+use Rattle.cfb_mini_changes.specs.cfb_tables.Tables.{HasTaken, TableState}
+use Rattle.cfb_mini_changes.proofs.cfb_tables.Members.{value-past}
+use Rattle.cfb_mini_changes.specs.cfb_alloc.Alloc.{AllocatorState, HoldsTables}
+use Rattle.cfb_mini_changes.proofs.cfb_alloc.HeldLemmas.{listed_whole}
 use Rattle.cfb_mini_sectors.specs.Growing.{GainsFilled, GrowsBoth}
-use Rattle.cfb_mini_changes.specs.MiniSectors.{IsWhole}
+use Rattle.cfb_mini_changes.specs.MiniSectors.{IsOfWholeSectors}
+use Rattle.cfb_format.proofs.Members.{Contains-or}
+use Rattle.cfb_format.proofs.Walks.{difat-whole}
 
 -- ---- numbers
 
@@ -39,7 +40,7 @@ no-longer validation a h = count-most a.tables.version (length a.tables.fat) (le
 
 -- where it has as many sectors as before
 pub same-whole : (validation : Validation) (a b : AllocatorState) → HoldsTables validation b → b.tables.version ≡ a.tables.version
-    → length b.tables.fat ≡ length a.tables.fat → length a.file.bytes ≤ length b.file.bytes → IsWhole a → IsWhole b
+    → length b.tables.fat ≡ length a.tables.fat → length a.file.bytes ≤ length b.file.bytes → IsOfWholeSectors a → IsOfWholeSectors b
 same-whole validation a b h version same longer was =
     both-ways (length a.file.bytes) (length b.file.bytes) ((1 + length a.tables.fat) * sector_len a.tables.version) ((1 + length b.tables.fat) * sector_len b.tables.version)
     (no-longer validation b h) longer was (λ j. (1 + same j) * sector_len (version j))
@@ -75,13 +76,13 @@ table-ends validation b h i (inr m) =
 
 -- where the last sector is whole
 ends-whole : (validation : Validation) (b : AllocatorState) → HoldsTables validation b → 0 < length b.tables.fat
-    → sector_start b.tables.version (length b.tables.fat - 1) + sector_len b.tables.version ≤ length b.file.bytes → IsWhole b
+    → sector_start b.tables.version (length b.tables.fat - 1) + sector_len b.tables.version ≤ length b.file.bytes → IsOfWholeSectors b
 ends-whole validation b h some there = last-ends b.tables.version (length b.tables.fat) (length b.file.bytes) some there (no-longer validation b h)
 
 -- where sectors were taken for a chain
 pub taken-whole : (validation : Validation) (a b : AllocatorState) (touched more : List ℕ) → HoldsTables validation b → HasTaken a.tables b.tables touched more
     → length a.file.bytes ≤ length b.file.bytes
-    → ((i : ℕ) → Contains more i → sector_start b.tables.version i + sector_len b.tables.version ≤ length b.file.bytes) → IsWhole a → IsWhole b
+    → ((i : ℕ) → Contains more i → sector_start b.tables.version i + sector_len b.tables.version ≤ length b.file.bytes) → IsOfWholeSectors a → IsOfWholeSectors b
 taken-whole validation a b touched more h t longer filled was = elim (cases_lt (length a.tables.fat) (length b.tables.fat)) [
   | inl grew ↦ ends-whole validation b h (omega (arith, grew)) (elim (taken-last a.tables b.tables touched more t grew) [
     | inl c ↦ filled (length b.tables.fat - 1) c
@@ -93,7 +94,7 @@ taken-whole validation a b touched more h t longer filled was = elim (cases_lt (
 -- where the MiniFAT and the mini stream went on
 pub both-whole : (validation : Validation) (a b : AllocatorState) (n m : ℕ) (sectors sectors' stream stream' : List ℕ) → HoldsTables validation b
     → GrowsBoth n m sectors sectors' stream stream' a.tables b.tables → length a.file.bytes ≤ length b.file.bytes
-    → GainsFilled Fat sectors sectors' b.tables.version b.file.bytes → GainsFilled Zero stream stream' b.tables.version b.file.bytes → IsWhole a → IsWhole b
+    → GainsFilled Fat sectors sectors' b.tables.version b.file.bytes → GainsFilled Zero stream stream' b.tables.version b.file.bytes → IsOfWholeSectors a → IsOfWholeSectors b
 both-whole validation a b n m sectors sectors' stream stream' h grown longer minifat mini_stream was =
     let mid = grown.between in
     let one = grown.first.taken in

@@ -4,12 +4,12 @@ use Rattle.cfb_format.specs.Bytes.{sector_len, words_per_sector}
 use Rattle.cfb_format.specs.Chain.{IsChain}
 use Rattle.cfb_format.specs.Content.{mini_sector_len, mini_stream_chain}
 use Rattle.cfb_format.specs.Siblings.{entry_at}
-use Rattle.cfb_tables.specs.Changes.{AreDisjoint}
-use Rattle.cfb_alloc.specs.Frame.{table_sectors}
-use Rattle.cfb_directory.specs.Growing.{ArePlaced, AreSectorsOf, IsListedChain}
-use Rattle.cfb_directory.specs.State.{DirectoryState}
-use Rattle.cfb_mini_table.specs.MiniTable.{MiniTableState}
-use Rattle.cfb_tables.specs.Tables.{first_or_end}
+use Rattle.cfb_mini_changes.specs.cfb_tables.Changes.{AreDisjoint}
+use Rattle.cfb_mini_changes.specs.cfb_alloc.Frame.{table_sectors}
+use Rattle.cfb_mini_changes.specs.cfb_directory.Growing.{ArePlaced, AreSectorsOf, IsListedChain}
+use Rattle.cfb_mini_changes.specs.cfb_directory.State.{DirectoryState}
+use Rattle.cfb_mini_changes.specs.cfb_mini_table.MiniTable.{MiniTableState}
+use Rattle.cfb_mini_changes.specs.cfb_tables.Tables.{first_or_end}
 use Rattle.cfb_mini_sectors.specs.State.{MiniState, entries_of, mini_stream_of, parts_of, tables_in, version_of}
 use Rattle.cfb_mini_sectors.specs.Steps.{BeginsSystem, IsMeasuredMini, KeepsLimits, KeepsSizes, MovesRoot}
 

@@ -4,16 +4,16 @@ use Rattle.cfb_format.specs.declared.validate.Validation.{Validation}
 use Rattle.cfb_format.specs.Bytes.{sector_len, free_sector}
 use Rattle.cfb_format.specs.Chain.{value}
 use Rattle.cfb_format.specs.Content.{mini_sector_len, place_in_chain}
-use Rattle.cfb_sectors.specs.Words.{RangeStays}
-use Rattle.cfb_tables.specs.Listed.{ends_of, gained}
-use Rattle.cfb_alloc.specs.Alloc.{AllocatorState}
-use Rattle.cfb_mini_table.specs.MiniTable.{TakesMini, MiniGivesBack}
+use Rattle.cfb_mini_changes.specs.cfb_sectors.Words.{RangeStays}
+use Rattle.cfb_mini_changes.specs.cfb_tables.Listed.{ends_of, gained}
+use Rattle.cfb_mini_changes.specs.cfb_alloc.Alloc.{AllocatorState}
+use Rattle.cfb_mini_changes.specs.cfb_mini_table.MiniTable.{TakesMini, MiniGivesBack}
 use Rattle.cfb_mini_sectors.specs.State.{MiniState, HoldsMini, bytes_of, mini_place, mini_stream_of, table_of, tables_in, version_of}
 use Rattle.cfb_mini_sectors.specs.Steps.{BeginsSystem, CanGiveRoomBack, GivesRoomBack, GrowsFor, IsMeasuredMini, IsSnugMini, IsTooFewFor, KeepsLimits, KeepsSizes, MovesRoot}
 
 -- the file is a whole number of sectors, the header counted as one (MS-CFB 2.2)
-abbrev pub IsWhole : AllocatorState → Type 0
-IsWhole a = length a.file.bytes ≡ (1 + length a.tables.fat) * sector_len a.tables.version
+abbrev pub IsOfWholeSectors : AllocatorState → Type 0
+IsOfWholeSectors a = length a.file.bytes ≡ (1 + length a.tables.fat) * sector_len a.tables.version
 
 -- the mini stream has this mini sector, in a sector of the file
 pub record HasMiniSector (s : MiniState) (m : ℕ) : Type 0 where

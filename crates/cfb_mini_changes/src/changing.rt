@@ -9,39 +9,35 @@ ghost use Rattle.cfb_format.specs.Content.{mini_sector_len};
 ghost use Rattle.cfb_format.specs.Full.{free_count, max_mini_sectors};
 ghost use Rattle.cfb_format.specs.Refused.{AfterMedium, CountsFailure, IsInvalidData};
 ghost use Rattle.cfb_format.specs.Siblings.{entry_at};
-ghost use Rattle.cfb_sectors.specs.Sectors.{IsMediumError, IsRaised};
-ghost use Rattle.cfb_sectors.specs.Words.{RangeStays};
-ghost use Rattle.cfb_tables.specs.Clean.{IsUnnamed};
-ghost use Rattle.cfb_tables.specs.Listed.{ends_of, gained, last_or_end};
-ghost use Rattle.cfb_tables.specs.Refused.{ChangeRefused};
-ghost use Rattle.cfb_tables.specs.Tables.{first_or_end};
-ghost use Rattle.cfb_alloc.specs.Frame.{Spares};
-ghost use Rattle.cfb_directory.specs.Growing.{ArePlaced, AreSectorsOf};
-ghost use Rattle.cfb_directory.specs.Slots.{IsLeastAbove};
-ghost use Rattle.cfb_directory.specs.State.{HoldsDirectory};
-ghost use Rattle.cfb_directory.specs.State.{KeepsDirectoryLimits};
-ghost use Rattle.cfb_directory.specs.Steps.{KeepsWholeHeader};
-ghost use Rattle.cfb_mini_table.specs.MiniTable.{EndsBusy, IsPreparedMini, IsTooFewMini, MiniGivesBack, TakesMini};
+ghost use Rattle.cfb_mini_changes.specs.cfb_sectors.Sectors.{IsMediumError, IsRaised};
+ghost use Rattle.cfb_mini_changes.specs.cfb_sectors.Words.{RangeStays};
+ghost use Rattle.cfb_mini_changes.specs.cfb_tables.Clean.{IsUnnamed};
+ghost use Rattle.cfb_mini_changes.specs.cfb_tables.Listed.{ends_of, gained, last_or_end};
+ghost use Rattle.cfb_mini_changes.specs.cfb_tables.Refused.{ChangeRefused};
+ghost use Rattle.cfb_mini_changes.specs.cfb_tables.Tables.{first_or_end};
+ghost use Rattle.cfb_mini_changes.specs.cfb_alloc.Frame.{Spares};
+ghost use Rattle.cfb_mini_changes.specs.cfb_directory.Growing.{ArePlaced, AreSectorsOf};
+ghost use Rattle.cfb_mini_changes.specs.cfb_slots.Slots.{IsLeastAbove};
+ghost use Rattle.cfb_mini_changes.specs.cfb_directory.State.{HoldsDirectory};
+ghost use Rattle.cfb_mini_changes.specs.cfb_directory.State.{KeepsDirectoryLimits};
+ghost use Rattle.cfb_mini_changes.specs.cfb_directory.Steps.{KeepsWholeHeader};
+ghost use Rattle.cfb_mini_changes.specs.cfb_mini_table.MiniTable.{EndsBusy, IsPreparedMini, IsTooFewMini, MiniGivesBack, TakesMini};
 ghost use Rattle.cfb_mini_sectors.specs.State.{HoldsMini, bytes_of, mini_place};
 ghost use Rattle.cfb_mini_sectors.specs.Steps.{AreStartsUnnamed, BeginsSystem, CanGiveRoomBack, EndsNoChain, GivesRoomBack, GrowsFor, IsInMiniStream, IsMeasuredMini, IsNotHeld, IsSnugMini, IsTooFewFor, IsZeroMini, KeepsHeader, KeepsLimits, KeepsSizes, MovesRoot, SparesMini, StopsShort, StopsShortOrFull, mini_stream_needs, minifat_needs, system_sectors};
-ghost use Rattle.cfb_soundness.specs.Places.{mini_start};
+ghost use Rattle.cfb_mini_changes.specs.cfb_soundness.Places.{mini_start};
 ghost use Rattle.cfb_mini_sectors.specs.Giving.{CanGiveBack};
 ghost use Rattle.cfb_mini_sectors.specs.Held.{HoldsMiniBut, with_minifat};
 ghost use Rattle.cfb_mini_sectors.specs.Pieces.{HaveMinis, HaveWords};
-ghost use Rattle.cfb_mini_changes.specs.MiniSectors.{HasMiniSector, IsWhole, KeepsMiniBytesBut};
+ghost use Rattle.cfb_mini_changes.specs.MiniSectors.{HasMiniSector, IsOfWholeSectors, KeepsMiniBytesBut};
 ghost use Rattle.cfb_mini_changes.specs.Changing.{HaveSectors, IsNamedMini, IsStreamApart, KeepsAllButRoom, mini_of};
 
-use cfb_directory::bounds::least_above;
-use cfb_directory::directory::Directory;
-use cfb_entries::fields::Fields;
 use cfb_format::consts::{END_OF_CHAIN, MINI_SECTOR_LEN};
 use cfb_format::error::{Detail, Error};
 use cfb_format::medium::{Medium, ReadMedium};
 use cfb_mini_sectors::giving::{Needs, can_give_back, give_back_both, needs_for};
 use cfb_mini_sectors::growing::{grow_both, lacks_for};
 use cfb_mini_sectors::pieces::{are_known_minis, are_known_words, wipe, write_words};
-use cfb_mini_table::mini_table::MiniTable;
-use cfb_tables::ends::first_number;
+use cfb_mini_sectors::{Directory, Fields, MiniTable, first_number, least_above};
 use std::alloc::Allocator as Heap;
 
 /// Whether each mini sector of the MiniFAT has its word and its bytes in sectors of the file, and each entry its slot. That is the least
@@ -421,7 +417,7 @@ fn grow_sectors<F: Medium, A: Heap>(
         (mini_of directory.new table.now minifat_sectors.new.items (Some stream.new.items))) }
     ensures whole { IsTrue F.tells → (validation : Validation) → HoldsMini validation
         (mini_of directory.old table.now minifat_sectors.old.items (Some stream.old.items))
-        → IsWhole directory.old.table → OnOk result (IsWhole directory.new.table) }
+        → IsOfWholeSectors directory.old.table → OnOk result (IsOfWholeSectors directory.new.table) }
     ensures spares { IsTrue F.tells
         → Spares (system_sectors (mini_of directory.old table.now minifat_sectors.old.items
         (Some stream.old.items))) directory.old.table directory.new.table }
@@ -507,7 +503,7 @@ pub fn extend_listed<F: Medium, A: Heap>(
         (mini_of directory.new table.new minifat_sectors.new.items (Some stream.new.items)) m) }
     ensures whole { IsTrue F.tells → (validation : Validation) → HoldsMini validation
         (mini_of directory.old table.old minifat_sectors.old.items (Some stream.old.items))
-        → IsWhole directory.old.table → OnOk result (IsWhole directory.new.table) }
+        → IsOfWholeSectors directory.old.table → OnOk result (IsOfWholeSectors directory.new.table) }
     ensures spares { IsTrue F.tells
         → Spares (system_sectors (mini_of directory.old table.old minifat_sectors.old.items
         (Some stream.old.items))) directory.old.table directory.new.table }

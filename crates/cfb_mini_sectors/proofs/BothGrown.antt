@@ -14,20 +14,19 @@ use Rattle.cfb_format.specs.Full.{rounded_up}
 use Rattle.cfb_format.specs.Refused.{AfterMedium}
 use Rattle.cfb_sectors.specs.declared.sector.SectorInit.TheVariants.{Fat, Zero}
 use Rattle.cfb_sectors.specs.Sectors.{IsRaised, SectorFile}
-use Rattle.cfb_tables.specs.Changes.{AreDisjoint}
-use Rattle.cfb_tables.specs.Listed.{EndsChain, ends_of, gained, last_or_end}
-use Rattle.cfb_tables.specs.Refused.{ChangeRefused}
-use Rattle.cfb_tables.specs.Tables.{TableState, AreFullTables, AreSizes, HasTaken, IsTooFew, ending, first_or_end, sizes_of}
-use Rattle.cfb_tables.proofs.ChainLemmas.{chain-stays, members-busy, regular-le}
-use Rattle.cfb_tables.proofs.ListedLemmas.{ending_other, last_pushed, last_split}
-use Rattle.cfb_tables.proofs.Members.{Contains-cases, Contains-here, Contains-nil, Contains-one, first_of_three, in_three, second_of_three, third_of_three, value-at}
-use Rattle.cfb_tables.proofs.RoomLemmas.{all-taken-is-full, more-is-too-few, room-in-turn}
-use Rattle.cfb_alloc.specs.Alloc.{AllocatorState, HoldsTables, IsUsable, OthersStay}
-use Rattle.cfb_alloc.specs.Frame.{Spares}
-use Rattle.cfb_alloc.specs.ListedChain.{Lengthens}
-use Rattle.cfb_alloc.proofs.Frames.{spares-less, spares-then}
-use Rattle.cfb_alloc.proofs.HeldLemmas.{stays_filled}
-use Rattle.cfb_alloc.proofs.Listed.{not_in_nil}
+use Rattle.cfb_mini_sectors.specs.cfb_tables.Changes.{AreDisjoint}
+use Rattle.cfb_mini_sectors.specs.cfb_tables.Listed.{EndsChain, ends_of, gained, last_or_end}
+use Rattle.cfb_mini_sectors.specs.cfb_tables.Refused.{ChangeRefused}
+use Rattle.cfb_mini_sectors.specs.cfb_tables.Tables.{TableState, AreFullTables, AreSizes, HasTaken, IsTooFew, ending, first_or_end, sizes_of}
+use Rattle.cfb_mini_sectors.proofs.cfb_tables.ChainLemmas.{chain-stays, members-busy}
+use Rattle.cfb_mini_sectors.proofs.cfb_tables.ListedLemmas.{ending_other, last_pushed, last_split}
+use Rattle.cfb_mini_sectors.proofs.cfb_tables.Members.{first_of_three, in_three, second_of_three, third_of_three}
+use Rattle.cfb_mini_sectors.proofs.cfb_tables.RoomLemmas.{all-taken-is-full, more-is-too-few, room-in-turn}
+use Rattle.cfb_mini_sectors.specs.cfb_alloc.Alloc.{AllocatorState, HoldsTables, IsUsable, OthersStay}
+use Rattle.cfb_mini_sectors.specs.cfb_alloc.Frame.{Spares}
+use Rattle.cfb_mini_sectors.specs.cfb_alloc.ListedChain.{Lengthens}
+use Rattle.cfb_mini_sectors.proofs.cfb_alloc.Frames.{spares-less, spares-then}
+use Rattle.cfb_mini_sectors.proofs.cfb_alloc.HeldLemmas.{stays_filled}
 use Rattle.cfb_directory.specs.Growing.{IsListedChain, KeepsBounds}
 use Rattle.cfb_mini_sectors.specs.Growing.{BreaksOffBegun, GainsFilled, KeepsOutsideMini}
 use Rattle.cfb_mini_sectors.specs.Held.{Grows, HoldsMiniBut, with_mini_stream, with_minifat_sectors, with_table}
@@ -35,6 +34,8 @@ use Rattle.cfb_mini_sectors.specs.State.{MiniState, mini_stream_of}
 use Rattle.cfb_mini_sectors.proofs.HeldGrown.{but-stream-grows}
 use Rattle.cfb_mini_sectors.proofs.HeldMini.{no-tables}
 use Rattle.cfb_mini_sectors.proofs.MinifatGrown.{nothing_behind}
+use Rattle.cfb_format.proofs.Walks.{regular-le, value-at}
+use Rattle.cfb_format.proofs.Members.{Contains-cases, Contains-here, Contains-nil, Contains-one}
 
 -- ---- where lists end
 
@@ -45,14 +46,14 @@ in_ends list i is some =
 
 pub of_ends : (list : List ℕ) (i : ℕ) → Contains (ends_of list) i → (last_or_end list ≡ i) × (i ≢ end_of_chain)
 of_ends list i m = elim (cases_eq (last_or_end list) end_of_chain) [
-  | inl e ↦ absurd (not_in_nil i (subst (λ k. Contains (ending k) i) e m))
+  | inl e ↦ absurd (Contains-nil i (subst (λ k. Contains (ending k) i) e m))
   | inr ne ↦
       let is : last_or_end list ≡ i = Contains-one (last_or_end list) i (subst (λ (l : List ℕ). Contains l i) (ending_other (last_or_end list) ne) m) in
       (is, λ e. ne (is ∙ e))
 ]
 
 pub some_end : (list : List ℕ) (i : ℕ) → Contains (ends_of list) i → 0 < length list
-some_end [] i m = absurd (not_in_nil i m)
+some_end [] i m = absurd (Contains-nil i m)
 some_end (x ∷ list) i m = omega arith
 
 -- the last of two lists is that of the first where the second is empty, and else one of the second
@@ -167,7 +168,7 @@ filled-after validation b d xs xs' tables behind others version filled =
     let in_list = Contains-append_right (ends_of xs) (gained xs xs') i m in
     stays_filled b.tables.version Fat i b.file.bytes d.file.bytes
     (others.sectors i (members-busy b.tables.fat (first_or_end list) list behind i in_list).0
-    (no-tables validation b (first_or_end list) list tables behind i in_list) (not_in_nil i)) (filled i m))
+    (no-tables validation b (first_or_end list) list tables behind i in_list) (Contains-nil i)) (filled i m))
 
 pub both-outside : (a b d : List ℕ) → length a ≤ length b → KeepsOutsideMini a b → KeepsOutsideMini b d → KeepsOutsideMini a d
 both-outside a b d longer first second i lt out = second i (omega (arith, lt, longer)) out ∙ first i lt out

@@ -19,26 +19,26 @@ use Rattle.cfb_sectors.specs.declared.sector.SectorInit.TheVariants.{Fat, Zero}
 use Rattle.cfb_sectors.specs.Words.{with_word}
 use Rattle.cfb_sectors.proofs.SectorLemmas.{SectorStays_next, after_header}
 use Rattle.cfb_sectors.proofs.WordLemmas.{word_stays, word_with_word, word_with_word_apart}
-use Rattle.cfb_tables.specs.Changes.{AreDisjoint}
-use Rattle.cfb_tables.specs.Listed.{ends_of, gained}
-use Rattle.cfb_tables.specs.Tables.{AreSizes, HasTaken, TableState, first_or_end, sizes_of}
-use Rattle.cfb_tables.proofs.ChainLemmas.{members-busy}
-use Rattle.cfb_tables.proofs.Members.{distinct-join, distinct-left, distinct-right}
-use Rattle.cfb_alloc.specs.Agreement.{HasSectors, KeepsSectors, word_of}
-use Rattle.cfb_alloc.specs.Alloc.{AllocatorState, HoldsTables, IsFilled, OthersStay}
-use Rattle.cfb_alloc.specs.Frame.{IsFixedHeaderByte, Spares, table_sectors}
-use Rattle.cfb_alloc.proofs.DifatWords.{fresh_fat_words}
-use Rattle.cfb_alloc.proofs.Frames.{other-chains-spared, spares-then}
-use Rattle.cfb_alloc.proofs.HeldLemmas.{filled_fat}
-use Rattle.cfb_alloc.proofs.Listed.{not_in_nil}
-use Rattle.cfb_alloc.proofs.TableWords.{home_sector, kept_word, some_words}
+use Rattle.cfb_mini_sectors.specs.cfb_tables.Changes.{AreDisjoint}
+use Rattle.cfb_mini_sectors.specs.cfb_tables.Listed.{ends_of, gained}
+use Rattle.cfb_mini_sectors.specs.cfb_tables.Tables.{AreSizes, HasTaken, TableState, first_or_end, sizes_of}
+use Rattle.cfb_mini_sectors.proofs.cfb_tables.ChainLemmas.{members-busy}
+use Rattle.cfb_mini_sectors.specs.cfb_alloc.Agreement.{HasSectors, KeepsSectors, word_of}
+use Rattle.cfb_mini_sectors.specs.cfb_alloc.Alloc.{AllocatorState, HoldsTables, IsAsFilled, OthersStay}
+use Rattle.cfb_mini_sectors.specs.cfb_alloc.Frame.{IsFixedHeaderByte, Spares, table_sectors}
+use Rattle.cfb_mini_sectors.proofs.cfb_alloc.DifatWords.{fresh_fat_words}
+use Rattle.cfb_mini_sectors.proofs.cfb_alloc.Frames.{other-chains-spared, spares-then}
+use Rattle.cfb_mini_sectors.proofs.cfb_alloc.HeldLemmas.{filled_fat}
+use Rattle.cfb_mini_sectors.proofs.cfb_alloc.TableWords.{home_sector, kept_word, some_words}
 use Rattle.cfb_directory.proofs.HeldDirectory.{directory-stays-held}
 use Rattle.cfb_directory.proofs.InsertGrow.{ends-among}
 use Rattle.cfb_directory.proofs.Placed.{header_there}
 use Rattle.cfb_mini_sectors.specs.State.{MiniState, HoldWordsBut, bytes_of, mini_stream_of, table_of, tables_in, version_of}
 use Rattle.cfb_mini_sectors.specs.Held.{Grows, HasMiniPlaces, HoldsMiniBut, IsFreeBehind, with_minifat_sectors, with_mini_stream, with_table}
-use Rattle.cfb_mini_sectors.proofs.HeldMini.{if-strict, no-tables}
+use Rattle.cfb_mini_sectors.proofs.HeldMini.{no-tables}
 use Rattle.cfb_mini_sectors.proofs.HeldSteps.{directory-minifat, front-stream, spared-with}
+use Rattle.cfb_format.proofs.Members.{distinct-join, distinct-left, distinct-right, Contains-nil}
+use Rattle.cfb_format.proofs.Tests.{if_strict}
 
 -- ---- the words of the header on the MiniFAT
 
@@ -82,7 +82,7 @@ pub header-kept : (v : Version) (list old new : List ℕ) → ChangesOnlyBytes 6
 header-kept v list old new change i m = after_header v i 60 8 old new change (omega arith)
 
 -- a filled sector stays so
-filled-stays : (v : Version) (a b : List ℕ) (x : ℕ) → ChangesOnlyBytes 60 8 a b → IsFilled v Fat a x → IsFilled v Fat b x
+filled-stays : (v : Version) (a b : List ℕ) (x : ℕ) → ChangesOnlyBytes 60 8 a b → IsAsFilled v Fat a x → IsAsFilled v Fat b x
 filled-stays v a b x change f = record {
   whole = let w = f.whole in let l = change.no_shorter in omega (arith, w, l);
   filled = part_apart 60 8 (sector_start v x) (sector_len v) a b change f.whole (λ low. behind v x) ∙ f.filled;
@@ -93,7 +93,7 @@ filled-stays v a b x change f = record {
     behind V4 x = omega arith
 
 -- a word of a fresh sector is FREE
-fresh_word : (v : Version) (bytes list more : List ℕ) (m : ℕ) → ((i : ℕ) → Contains more i → IsFilled v Fat bytes i)
+fresh_word : (v : Version) (bytes list more : List ℕ) (m : ℕ) → ((i : ℕ) → Contains more i → IsAsFilled v Fat bytes i)
     → length list * words_per_sector v ≤ m → m < length (list ++ more) * words_per_sector v → word_of v bytes (list ++ more) m ≡ free_sector
 fresh_word v bytes list more m filled low high =
     let k = m / words_per_sector v in
@@ -161,7 +161,7 @@ module _ (validation : Validation) (late : List ℕ) (s : MiniState) (h : HoldsM
   stream-kept a others i m =
       let stream = mini_stream_of s in
       others.sectors i (members-busy (tables_in s).fat (first_or_end stream) stream stream_chain i m).0
-      (no-tables validation (table_of s) (first_or_end stream) stream h.directory.tables stream_chain i m) (not_in_nil i)
+      (no-tables validation (table_of s) (first_or_end stream) stream h.directory.tables stream_chain i m) (Contains-nil i)
 
   -- and through changes that spare them
   pub stream-spared : (own : List ℕ) (a : AllocatorState) → Spares own (table_of s) a → AreDisjoint (mini_stream_of s) own
@@ -211,7 +211,7 @@ module _ (validation : Validation) (late : List ℕ) (s : MiniState) (h : HoldsM
       let listed : after ≡ before ++ more = grows.lengthened.listed in
       let taken = grows.lengthened.taken in
       let spares : Spares (ends_of before) (table_of s) a =
-      spares-then (ends_of before) [] (table_of s) b a (λ i m. absurd (not_in_nil i m)) grows.spares (header-spares b a same change) in
+      spares-then (ends_of before) [] (table_of s) b a (λ i m. absurd (Contains-nil i m)) grows.spares (header-spares b a same change) in
       let version : version_of s ≡ a.tables.version = sym spares.same_version in
       let version_b : version_of s ≡ b.tables.version = sym grows.spares.same_version in
       let longer = spares.no_shorter in
@@ -226,10 +226,10 @@ module _ (validation : Validation) (late : List ℕ) (s : MiniState) (h : HoldsM
       let none = no-tables validation (table_of s) (first_or_end before) before h.directory.tables h.chain in
       let keeps : KeepsSectors (version_of s) before bytes now = λ i m.
       SectorStays_next (version_of s) (version_of s) i bytes b.file.bytes now refl
-      (grows.others.sectors i (members-busy (tables_in s).fat (first_or_end before) before h.chain i m).0 (none i m) (not_in_nil i))
+      (grows.others.sectors i (members-busy (tables_in s).fat (first_or_end before) before h.chain i m).0 (none i m) (Contains-nil i))
       (after_header (version_of s) i 60 8 b.file.bytes now change (omega arith)) in
-      let filled : (i : ℕ) → Contains more i → IsFilled (version_of s) Fat now i = λ i m.
-      filled-stays (version_of s) b.file.bytes now i change (subst (λ w. IsFilled w Fat b.file.bytes i) (sym version_b) (grows.filled i m)) in
+      let filled : (i : ℕ) → Contains more i → IsAsFilled (version_of s) Fat now i = λ i m.
+      filled-stays (version_of s) b.file.bytes now i change (subst (λ w. IsAsFilled w Fat b.file.bytes i) (sym version_b) (grows.filled i m)) in
       let whole : HasSectors (version_of s) now after = λ i m. elim (Contains-append_cases before more i (subst (λ (l : List ℕ). Contains l i) listed m)) [
         | inl old ↦ let w = h.whole i old in omega (arith, w, longer)
         | inr new ↦ (filled i new).whole
@@ -277,8 +277,8 @@ module _ (validation : Validation) (late : List ℕ) (s : MiniState) (h : HoldsM
         };
         apart = distinct-join (directory ++ after) stream (distinct-join directory after once_directory chain.distinct directory_after)
             (distinct-right (directory ++ before) stream h.apart) front_stream;
-        count = if-strict validation (word_at bytes 64 ≡ length before) (word_at now 64 ≡ length after) (λ e. w64) h.count;
-        behind = if-strict validation (IsFreeBehind late s) (IsFreeBehind late (with_minifat_sectors (with_table s a) after))
+        count = if_strict validation (word_at bytes 64 ≡ length before) (word_at now 64 ≡ length after) (λ e. w64) h.count;
+        behind = if_strict validation (IsFreeBehind late s) (IsFreeBehind late (with_minifat_sectors (with_table s a) after))
             (λ free m ge. subst (λ w. m < length after * words_per_sector w → (Contains late m → ⊥) → word_of w now after m ≡ free_sector) version
             (λ lt out. elim (cases_lt m (length before * words_per_sector (version_of s))) [
               | inl inside ↦ old_word m inside ∙ free m ge inside out

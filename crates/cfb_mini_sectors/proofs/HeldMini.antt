@@ -1,10 +1,10 @@
 -- Mini sectors that the bytes hold are those that opening reads, and what it reads of a sound file is held.
-use Rattle.std.proofs.Common.{◌≡◌, ◌≢◌, ◌≤◌, ◌<◌, ◌+◌, ◌*◌, ◌/◌, inl, inr, ℕ, List, [], ◌∷◌, ◌++◌, Bool, true, false, refl, sym, ◌∙◌, ap, subst, length, take, arith, le-leb, lt-ltb}
+use Rattle.std.proofs.Common.{◌≡◌, ◌≢◌, ◌≤◌, ◌<◌, ◌+◌, ◌*◌, ◌/◌, inl, inr, ℕ, List, [], ◌∷◌, ◌++◌, Bool, true, false, refl, sym, ◌∙◌, ap, subst, length, take, arith, lt-ltb}
 use Rattle.std.specs.Prelude.{IsTrue, Contains, nat_eq, nat_lt, not, ◌||◌, ◌==◌, Option, slice_index, unwrap_or}
 use Rattle.std.specs.List.{AllZip, IsDistinct, list_all}
 use Rattle.std.proofs.lemmas.Bool.{leb-true}
 use Rattle.std.proofs.lemmas.List.{append_assoc}
-use Rattle.std.proofs.lemmas.List.Elements.{Contains-append_cases, Contains-append_left, Contains-append_right, Contains-get_or}
+use Rattle.std.proofs.lemmas.List.Elements.{Contains-append_cases, Contains-append_left, Contains-append_right}
 use Rattle.cfb_format.specs.declared.version.Version.{Version}
 use Rattle.cfb_format.specs.declared.version.Version.TheVariants.{V3, V4}
 use Rattle.cfb_format.specs.declared.validate.Validation.{Validation}
@@ -21,28 +21,28 @@ use Rattle.cfb_format.specs.Reading.{HasLength, IsDirectory, IsMinifat, IsStrict
 use Rattle.cfb_format.specs.Siblings.{entry_at}
 use Rattle.cfb_format.specs.Soundness.{IsSound, mini_sectors_of, small_streams, used_mini_sectors}
 use Rattle.cfb_format.proofs.Unique.{IsHeader-unique}
-use Rattle.cfb_tables.specs.Changes.{AreDisjoint, PointsWithin}
-use Rattle.cfb_tables.specs.Tables.{first_or_end}
-use Rattle.cfb_tables.proofs.ChainLemmas.{regular-le}
-use Rattle.cfb_tables.proofs.Members.{Contains-here, Contains-or, distinct-left, distinct-right, value-at, value-below}
-use Rattle.cfb_alloc.specs.Agreement.{HasSectors, KeepsSectors}
-use Rattle.cfb_alloc.specs.Alloc.{AllocatorState, HoldsTables, IsMeasured}
-use Rattle.cfb_alloc.specs.Frame.{table_sectors}
-use Rattle.cfb_alloc.proofs.AgreementLemmas.{agreeing_fat, every}
-use Rattle.cfb_alloc.proofs.Frames.{other-chains-spared}
-use Rattle.cfb_alloc.proofs.HeldLemmas.{every_member}
-use Rattle.cfb_alloc.proofs.HeldOrder.{members-no_table}
-use Rattle.cfb_alloc.proofs.SoundTables.{NamesBusy, held-strict, maybe-names_busy, sound-held, strict-held}
-use Rattle.cfb_soundness.proofs.Members.{flat-Contains}
+use Rattle.cfb_mini_sectors.specs.cfb_tables.Changes.{AreDisjoint, PointsWithin}
+use Rattle.cfb_mini_sectors.specs.cfb_tables.Tables.{first_or_end}
+use Rattle.cfb_mini_sectors.specs.cfb_alloc.Agreement.{HasSectors, KeepsSectors}
+use Rattle.cfb_mini_sectors.specs.cfb_alloc.Alloc.{AllocatorState, HoldsTables, IsMeasured}
+use Rattle.cfb_mini_sectors.specs.cfb_alloc.Frame.{table_sectors}
+use Rattle.cfb_mini_sectors.proofs.cfb_alloc.AgreementLemmas.{agreeing_fat, every}
+use Rattle.cfb_mini_sectors.proofs.cfb_alloc.Frames.{other-chains-spared}
+use Rattle.cfb_mini_sectors.proofs.cfb_alloc.HeldOrder.{members-no_table}
+use Rattle.cfb_mini_sectors.proofs.cfb_alloc.SoundTables.{NamesBusy, held-strict, maybe-names_busy, sound-held, strict-held}
 use Rattle.cfb_directory.specs.State.{HoldsDirectory}
-use Rattle.cfb_directory.proofs.HeldDirectory.{directory-stays-held, held-directory-is-read, held-directory-is-strict}
-use Rattle.cfb_directory.proofs.SlotLists.{at-places, by-place}
+use Rattle.cfb_directory.proofs.HeldDirectory.{directory-stays-held, held-directory-is-read, held-directory-is-strict, all_whole}
+use Rattle.cfb_mini_sectors.proofs.cfb_slots.SlotLists.{at-places, by-place}
 use Rattle.cfb_mini_sectors.specs.State.{MiniState, HoldWordsBut, IsMiniClean, IsStrictMini, bytes_of, cases_of, entries_of, mini_stream_of, minifat_words_of, parts_of, reading_of, root_len_of, table_of, tables_in, version_of}
 use Rattle.cfb_mini_sectors.specs.Steps.{system_sectors}
 use Rattle.cfb_mini_sectors.specs.Held.{IsMiniStream, with_table}
 use Rattle.cfb_mini_sectors.specs.Laws.{HeldMiniIsRead, HeldMiniIsStrict, MiniStaysHeld, SoundMiniIsHeld}
-use Rattle.cfb_mini_sectors.proofs.MiniStreams.{begins, chain-is-stream, some_of, stream-is-chain}
+use Rattle.cfb_mini_sectors.proofs.MiniStreams.{begins, chain-is-stream, stream-is-chain}
 use Rattle.cfb_mini_sectors.proofs.MiniWords.{held-words-kept, minifat-kept, read-words}
+use Rattle.cfb_format.proofs.Walks.{regular-le, value-at, value-below}
+use Rattle.cfb_format.proofs.Members.{Contains-here, Contains-or, distinct-left, distinct-right, flat-Contains, every_member}
+use Rattle.cfb_soundness.proofs.Others.{some_of}
+use Rattle.cfb_format.proofs.Tests.{if_strict}
 
 -- ---- opening reads what is held
 
@@ -54,10 +54,6 @@ long_enough V3 bytes (x ∷ list) n some whole count short =
 long_enough V4 bytes (x ∷ list) n some whole count short =
     let w : (x + 1) * 4096 + 4096 ≤ length bytes = whole x (Contains-here x list) in
     record { header = omega (arith, w); sector = omega (arith, w); most = omega (arith, count, short) }
-
-all_whole : (v : Version) (bytes list : List ℕ) → HasSectors v bytes list → list_all (is_whole_sector v bytes) list ≡ true
-all_whole v bytes list whole = every (is_whole_sector v bytes) list
-    (λ i lt. le-leb (sector_start v (slice_index list i) + sector_len v) (length bytes) (whole (slice_index list i) (Contains-get_or list i 0 lt)))
 
 whole_all : (v : Version) (bytes list : List ℕ) → list_all (is_whole_sector v bytes) list ≡ true → HasSectors v bytes list
 whole_all v bytes list all i m = leb-true (sector_start v i + sector_len v) (length bytes) (every_member (is_whole_sector v bytes) list all i m)
@@ -125,11 +121,6 @@ held-mini-is-strict s h o held is_header outline apart =
 
 -- ---- what is read of a sound file is held
 
--- a demand of strict opening that follows from another one
-pub if-strict : (validation : Validation) (A B : Type 0) → (A → B) → IfStrict validation A → IfStrict validation B
-if-strict Permissive A B f a = tt
-if-strict Strict A B f a = f a
-
 counted_in : (v : Version) (number word n : ℕ) → number ≡ dir_sectors_of v word → IsStrictCount v number n → IsStrictCount v word n
 counted_in V3 number word n e c = tt
 counted_in V4 number word n e c = subst (λ x. n ≤ x) e c
@@ -151,7 +142,7 @@ sound-mini-is-held validation s h o reads sound strict measured version sizes li
     let mini_first = begins (tables_in s).fat h.first_minifat_sector s.minifat_sectors minifat.chain.follows in
     let root = some_of (mini_stream_chain (parts_of s)) sound.mini_stream in
     let here = at-places validation (version_of s) (bytes_of s) s.directory.sectors (entries_of s) directory.slots
-    (if-strict validation (IsStrict (bytes_of s) (reading_of h s o)) (AllZip (IsStrictEntry (version_of s)) (slots (version_of s) (bytes_of s) s.directory.sectors) (entries_of s))
+    (if_strict validation (IsStrict (bytes_of s) (reading_of h s o)) (AllZip (IsStrictEntry (version_of s)) (slots (version_of s) (bytes_of s) s.directory.sectors) (entries_of s))
     (λ t. subst (λ w. AllZip (IsStrictEntry w) (slots w (bytes_of s) s.directory.sectors) (entries_of s)) version t.entries) strict) in
     let stream_is : mini_stream_of s ≡ root.0 = ap (λ (w : Option (List ℕ)). unwrap_or w []) (kept ∙ root.1) in
     record {
@@ -166,11 +157,11 @@ sound-mini-is-held validation s h o reads sound strict measured version sizes li
         writable = writable;
         most = (let all = (by-place Permissive (version_of s) (bytes_of s) s.directory.sectors (entries_of s) (record { count = here.count; each = λ k lt out. record { entry = (here.each k lt out).entry; strict = tt } })).2 in
             let few = directory.most in omega (arith, all, few));
-        counted = if-strict validation (IsStrict (bytes_of s) (reading_of h s o)) (IsStrictCount (version_of s) (word_at (bytes_of s) 40) (length s.directory.sectors))
+        counted = if_strict validation (IsStrict (bytes_of s) (reading_of h s o)) (IsStrictCount (version_of s) (word_at (bytes_of s) 40) (length s.directory.sectors))
             (λ t. counted_in (version_of s) h.num_dir_sectors (word_at (bytes_of s) 40) (length s.directory.sectors)
             (subst (λ w. h.num_dir_sectors ≡ dir_sectors_of w (word_at (bytes_of s) 40)) version reads.header.num_dir_sectors)
             (subst (λ w. IsStrictCount w h.num_dir_sectors (length s.directory.sectors)) version t.directory_count)) strict;
-        strict_header = if-strict validation (IsStrict (bytes_of s) (reading_of h s o)) (IsStrictHeader (version_of s) (bytes_of s))
+        strict_header = if_strict validation (IsStrict (bytes_of s) (reading_of h s o)) (IsStrictHeader (version_of s) (bytes_of s))
             (λ t. subst (λ w. IsStrictHeader w (bytes_of s)) version t.header) strict;
       };
       limit = limit;
@@ -194,7 +185,7 @@ sound-mini-is-held validation s h o reads sound strict measured version sizes li
             (subst (λ w. length s.minifat * mini_sector_len ≤ length (unwrap_or (mini_stream_chain (parts_of s)) []) * sector_len w) version sound.mini_room);
       };
       apart = subst (λ (l : List ℕ). IsDistinct nat_eq (s.directory.sectors ++ s.minifat_sectors ++ l)) (ap (λ (w : Option (List ℕ)). unwrap_or w []) (sym kept)) apart;
-      strict = if-strict validation (IsStrict (bytes_of s) (reading_of h s o)) (IsStrictMini s)
+      strict = if_strict validation (IsStrict (bytes_of s) (reading_of h s o)) (IsStrictMini s)
           (λ t. record {
             minifat_len = subst (λ w. length (minifat_words w (bytes_of s) s.minifat_sectors) ≤ root_len_of s / mini_sector_len) version t.minifat_len;
             minifat_count = sym reads.header.num_minifat_sectors ∙ t.minifat_count;
@@ -275,7 +266,7 @@ mini-stays-held validation own s a held tables sizes spares apart w40 w48 w60 w6
         room = subst (λ w. length s.minifat * mini_sector_len ≤ length held.mini_stream.sectors * sector_len w) version held.mini_stream.room;
       };
       apart = held.apart;
-      strict = if-strict validation (IsStrictMini s) (IsStrictMini (with_table s a))
+      strict = if_strict validation (IsStrictMini s) (IsStrictMini (with_table s a))
           (λ t. record {
             minifat_len = subst (λ w. length (minifat_words w bytes sectors) ≤ root_len_of s / mini_sector_len) version
                 (subst (λ (l : List ℕ). length l ≤ root_len_of s / mini_sector_len) (sym words) t.minifat_len);

@@ -20,22 +20,20 @@ use Rattle.cfb_format.specs.Refused.{AfterMedium}
 use Rattle.cfb_sectors.specs.Sectors.{IsMediumError, IsRaised}
 use Rattle.cfb_sectors.proofs.SectorLemmas.{SectorStays_next, SectorStays_refl, after_header}
 use Rattle.cfb_sectors.proofs.WordLemmas.{word_stays}
-use Rattle.cfb_tables.specs.Changes.{AreDisjoint}
-use Rattle.cfb_tables.specs.Clean.{IsUnnamed}
-use Rattle.cfb_tables.specs.Listed.{ends_of}
-use Rattle.cfb_tables.specs.Refused.{ChangeRefused}
-use Rattle.cfb_tables.specs.Tables.{AreSizes, TableState, TablesGiveBack, first_or_end, sizes_of}
-use Rattle.cfb_tables.proofs.CleanLemmas.{regular-busy, regular-goes_on}
-use Rattle.cfb_tables.proofs.ListedLemmas.{what_is_left-is-chain}
-use Rattle.cfb_tables.proofs.Members.{Contains-or, distinct-join, distinct-left, distinct-right}
-use Rattle.cfb_alloc.specs.Agreement.{HasSectors, KeepsSectors, word_of}
-use Rattle.cfb_alloc.specs.Alloc.{AllocatorState, ChangesSectors, HoldsTables, IsUsable}
-use Rattle.cfb_alloc.specs.Frame.{Spares}
-use Rattle.cfb_alloc.specs.ListedChain.{CanShorten, ListBreaksOff, Shortens}
-use Rattle.cfb_alloc.proofs.Frames.{other-chains-spared, spares-less, spares-then}
-use Rattle.cfb_alloc.proofs.HeldOrder.{held-usable}
-use Rattle.cfb_alloc.proofs.Listed.{not_in_nil}
-use Rattle.cfb_alloc.proofs.TableWords.{kept_word}
+use Rattle.cfb_mini_sectors.specs.cfb_tables.Changes.{AreDisjoint}
+use Rattle.cfb_mini_sectors.specs.cfb_tables.Clean.{IsUnnamed}
+use Rattle.cfb_mini_sectors.specs.cfb_tables.Listed.{ends_of}
+use Rattle.cfb_mini_sectors.specs.cfb_tables.Refused.{ChangeRefused}
+use Rattle.cfb_mini_sectors.specs.cfb_tables.Tables.{AreSizes, TableState, TablesGiveBack, first_or_end, sizes_of}
+use Rattle.cfb_mini_sectors.proofs.cfb_tables.CleanLemmas.{regular-busy, regular-goes_on}
+use Rattle.cfb_mini_sectors.proofs.cfb_tables.ListedLemmas.{what_is_left-is-chain}
+use Rattle.cfb_mini_sectors.specs.cfb_alloc.Agreement.{HasSectors, KeepsSectors, word_of}
+use Rattle.cfb_mini_sectors.specs.cfb_alloc.Alloc.{AllocatorState, ChangesSectors, HoldsTables, IsUsable}
+use Rattle.cfb_mini_sectors.specs.cfb_alloc.Frame.{Spares}
+use Rattle.cfb_mini_sectors.specs.cfb_alloc.ListedChain.{CanShorten, ListBreaksOff, Shortens}
+use Rattle.cfb_mini_sectors.proofs.cfb_alloc.Frames.{other-chains-spared, spares-less, spares-then}
+use Rattle.cfb_mini_sectors.proofs.cfb_alloc.HeldOrder.{held-usable}
+use Rattle.cfb_mini_sectors.proofs.cfb_alloc.TableWords.{kept_word}
 use Rattle.cfb_directory.specs.Growing.{IsListedChain}
 use Rattle.cfb_directory.proofs.HeldDirectory.{directory-stays-held}
 use Rattle.cfb_mini_sectors.specs.State.{HoldWordsBut, MiniState, bytes_of, mini_stream_of, table_of, tables_in, version_of}
@@ -43,10 +41,12 @@ use Rattle.cfb_mini_sectors.specs.Growing.{KeepsOutsideMini}
 use Rattle.cfb_mini_sectors.specs.Steps.{CanGiveRoomBack, KeepsSizes}
 use Rattle.cfb_mini_sectors.specs.Held.{HoldsMiniBut, IsFreeBehind, with_minifat_sectors, with_mini_stream, with_table}
 use Rattle.cfb_mini_sectors.proofs.HeldGrown.{but-long, header-spares}
-use Rattle.cfb_mini_sectors.proofs.HeldMini.{if-strict, no-tables}
+use Rattle.cfb_mini_sectors.proofs.HeldMini.{no-tables}
 use Rattle.cfb_mini_sectors.proofs.HeldSteps.{directory-minifat, front-stream, spared-with}
 use Rattle.cfb_mini_sectors.proofs.ListedChains.{given-busy}
 use Rattle.cfb_mini_sectors.proofs.MiniWords.{words-kept}
+use Rattle.cfb_format.proofs.Members.{Contains-or, distinct-join, distinct-left, distinct-right, Contains-nil}
+use Rattle.cfb_format.proofs.Tests.{if_strict}
 
 -- ---- lists that get shorter
 
@@ -116,7 +116,7 @@ given-free : (ends gone : List ℕ) (t t' : TableState) → ((i : ℕ) → Conta
 given-free ends gone t t' busy given = more-free t.fat t'.fat given.given.same_length
     (λ i free. elim (Contains-or (ends ++ gone) i) [ inl m ↦ absurd (busy i m free) | inr out ↦ given.given.only i out ∙ free ])
 
-sizes-refl : (t : TableState) → KeepsSizes t t
+pub sizes-refl : (t : TableState) → KeepsSizes t t
 sizes-refl t = record { sectors = refl; free = omega arith; rest = refl }
 
 pub sizes-then : (a b c : TableState) → KeepsSizes a b → KeepsSizes b c → KeepsSizes a c
@@ -283,7 +283,7 @@ module _ (validation : Validation) (late : List ℕ) (s : MiniState) (h : HoldsM
       let long = but-long validation late s h in
       let more = named.no_shorter in
       let spares : Spares sectors (table_of s) a = spares-then sectors sectors (table_of s) b a (λ i m. inr m)
-      (spares-less [] sectors (table_of s) b (λ i m. absurd (not_in_nil i m)) (header-spares (table_of s) b same named)) cut in
+      (spares-less [] sectors (table_of s) b (λ i m. absurd (Contains-nil i m)) (header-spares (table_of s) b same named)) cut in
       let version : v ≡ a.tables.version = sym spares.same_version in
       let longer = spares.no_shorter in
       let sizes = given-sizes (ends_of (take n sectors)) (drop n sectors) (tables_in s) a.tables shorter.given_back h.directory.sizes in
@@ -332,8 +332,8 @@ module _ (validation : Validation) (late : List ℕ) (s : MiniState) (h : HoldsM
           room = subst (λ w. length s.minifat * mini_sector_len ≤ length h.mini_stream.sectors * sector_len w) version h.mini_stream.room;
         };
         apart = distinct-join (directory ++ after) stream once_front (distinct-right front stream h.apart) apart;
-        count = if-strict validation (word_at bytes 64 ≡ length sectors) (word_at now 64 ≡ length after) (λ e. still 64 (omega arith) (omega arith) ∙ w64) h.count;
-        behind = if-strict validation (IsFreeBehind late s) (IsFreeBehind late (with_minifat_sectors (with_table s a) after))
+        count = if_strict validation (word_at bytes 64 ≡ length sectors) (word_at now 64 ≡ length after) (λ e. still 64 (omega arith) (omega arith) ∙ w64) h.count;
+        behind = if_strict validation (IsFreeBehind late s) (IsFreeBehind late (with_minifat_sectors (with_table s a) after))
             (λ free m ge. subst (λ w. m < length after * words_per_sector w → (Contains late m → ⊥) → word_of w now after m ≡ free_sector) version
             (λ lt out. word m lt ∙ free m ge (wider-words v n sectors m (subst (λ (l : List ℕ). m < length l * words_per_sector v) listed lt)) out)) h.behind;
       }

@@ -21,17 +21,16 @@ use Rattle.cfb_format.specs.Siblings.{entry_at}
 use Rattle.cfb_format.proofs.ByteLemmas.{ChangesOnly-written}
 use Rattle.cfb_sectors.specs.Words.{with_word}
 use Rattle.cfb_sectors.proofs.WordLemmas.{word_stays, word_with_word, word_with_word_apart}
-use Rattle.cfb_tables.specs.Changes.{AreDisjoint, ChangesOnlyValues, NoneFree}
-use Rattle.cfb_tables.specs.Tables.{AreSizes, TableState, first_or_end, sizes_of}
-use Rattle.cfb_tables.proofs.ChainLemmas.{members-busy}
-use Rattle.cfb_tables.proofs.Members.{Contains-one, distinct-apart, distinct-join, distinct-left, distinct-right, value-past}
-use Rattle.cfb_alloc.specs.Agreement.{HasSectors, KeepsSectors, word_home, word_of}
-use Rattle.cfb_alloc.specs.Alloc.{AllocatorState, HoldsTables}
-use Rattle.cfb_alloc.specs.Frame.{Spares}
-use Rattle.cfb_alloc.proofs.Frames.{other-chains-spared}
-use Rattle.cfb_alloc.proofs.Listed.{in_cons, not_in_nil}
-use Rattle.cfb_alloc.proofs.Spared.{lie_in_one, written_spares}
-use Rattle.cfb_alloc.proofs.TableWords.{home_fits, home_sector, other_word}
+use Rattle.cfb_mini_sectors.specs.cfb_tables.Changes.{AreDisjoint, ChangesOnlyValues, NoneFree}
+use Rattle.cfb_mini_sectors.specs.cfb_tables.Tables.{AreSizes, TableState, first_or_end, sizes_of}
+use Rattle.cfb_mini_sectors.proofs.cfb_tables.ChainLemmas.{members-busy}
+use Rattle.cfb_mini_sectors.proofs.cfb_tables.Members.{value-past}
+use Rattle.cfb_mini_sectors.specs.cfb_alloc.Agreement.{HasSectors, KeepsSectors, word_home, word_of}
+use Rattle.cfb_mini_sectors.specs.cfb_alloc.Alloc.{AllocatorState, HoldsTables}
+use Rattle.cfb_mini_sectors.specs.cfb_alloc.Frame.{Spares}
+use Rattle.cfb_mini_sectors.proofs.cfb_alloc.Frames.{other-chains-spared}
+use Rattle.cfb_mini_sectors.proofs.cfb_alloc.Spared.{lie_in_one, written_spares}
+use Rattle.cfb_mini_sectors.proofs.cfb_alloc.TableWords.{home_fits, home_sector, other_word}
 use Rattle.cfb_directory.specs.State.{DirectoryState, HoldsDirectory, IsKeptHeaderByte, KeepsDirectoryHeader}
 use Rattle.cfb_directory.specs.Steps.{KeepsWholeHeader}
 use Rattle.cfb_directory.proofs.HeldDirectory.{directory-stays-held}
@@ -45,7 +44,9 @@ use Rattle.cfb_mini_sectors.specs.Laws.{DirectoryChangeKeepsMini}
 use Rattle.cfb_mini_sectors.proofs.MiniClean.{taken-mini-clean}
 use Rattle.cfb_mini_sectors.proofs.MiniStreams.{begins, chain-is-stream, stream-chain, stream-is-chain}
 use Rattle.cfb_mini_sectors.proofs.MiniWords.{held-words-kept, minifat-kept, words-behind, words-kept, words-read, words-short}
-use Rattle.cfb_mini_sectors.proofs.HeldMini.{if-strict, no-tables}
+use Rattle.cfb_mini_sectors.proofs.HeldMini.{no-tables}
+use Rattle.cfb_format.proofs.Members.{Contains-one, distinct-apart, distinct-join, distinct-left, distinct-right, Contains-cases, Contains-nil}
+use Rattle.cfb_format.proofs.Tests.{if_strict}
 
 -- ---- before the first step and after the last
 
@@ -66,8 +67,8 @@ held-but validation s h = record {
     room = h.mini_stream.room;
   };
   apart = h.apart;
-  count = if-strict validation (IsStrictMini s) (word_at (bytes_of s) 64 ≡ length s.minifat_sectors) (λ t. t.minifat_count) h.strict;
-  behind = if-strict validation (IsStrictMini s) (IsFreeBehind [] s) (λ t m ge lt out.
+  count = if_strict validation (IsStrictMini s) (word_at (bytes_of s) 64 ≡ length s.minifat_sectors) (λ t. t.minifat_count) h.strict;
+  behind = if_strict validation (IsStrictMini s) (IsFreeBehind [] s) (λ t m ge lt out.
       let n = root_len_of s / mini_sector_len in
       let few = t.minifat_len in
       let len = ap (λ (l : List ℕ). length l) h.values ∙ length-take n (minifat_words_of s) in
@@ -109,7 +110,7 @@ but-held validation s h busy measured names =
         → root_len_of s / mini_sector_len ≡ length s.minifat → IfStrict w (IsStrictMini s)
     strict-of Permissive c b e = tt
     strict-of Strict c b e = record {
-      minifat_len = let short = words-short (version_of s) (bytes_of s) s.minifat_sectors (length s.minifat) (λ m ge lt. b m ge lt (not_in_nil m)) in omega (arith, short, e);
+      minifat_len = let short = words-short (version_of s) (bytes_of s) s.minifat_sectors (length s.minifat) (λ m ge lt. b m ge lt (Contains-nil m)) in omega (arith, short, e);
       minifat_count = c;
     }
 
@@ -196,7 +197,7 @@ directory-change-keeps validation s d h held spares fresh start len header =
       };
       apart = subst (IsDistinct nat_eq) (sym (append_assoc d.sectors list (mini_stream_of s)))
           (distinct-join d.sectors (list ++ mini_stream_of s) held.chain.distinct (distinct-right s.directory.sectors (list ++ mini_stream_of s) once) apart);
-      strict = if-strict validation (IsStrictMini s) (IsStrictMini (with_directory s d))
+      strict = if_strict validation (IsStrictMini s) (IsStrictMini (with_directory s d))
           (λ t. record {
             minifat_len = subst (λ n. length (minifat_words d.table.tables.version now list) ≤ n / mini_sector_len) (sym len)
                 (subst (λ w. length (minifat_words w now list) ≤ root_len_of s / mini_sector_len) version
@@ -235,8 +236,8 @@ module _ (validation : Validation) (late own : List ℕ) (s : MiniState) (a : Al
         clean = h.clean;
         mini_stream = record { sectors = list; kept = refl; chain = chain; room = subst (λ w. length s.minifat * mini_sector_len ≤ length list * sector_len w) version room };
         apart = once;
-        count = if-strict validation (word_at (bytes_of s) 64 ≡ length sectors) (word_at a.file.bytes 64 ≡ length sectors) (λ e. w64 ∙ e) h.count;
-        behind = if-strict validation (IsFreeBehind late s) (IsFreeBehind late (with_mini_stream (with_table s a) list))
+        count = if_strict validation (word_at (bytes_of s) 64 ≡ length sectors) (word_at a.file.bytes 64 ≡ length sectors) (λ e. w64 ∙ e) h.count;
+        behind = if_strict validation (IsFreeBehind late s) (IsFreeBehind late (with_mini_stream (with_table s a) list))
             (λ b m ge. subst (λ w. m < length sectors * words_per_sector w → (Contains late m → ⊥) → word_of w a.file.bytes sectors m ≡ free_sector) version
             (λ lt out. words-kept v (bytes_of s) a.file.bytes sectors m h.whole keeps lt ∙ b m ge lt out)) h.behind;
       }
@@ -291,7 +292,7 @@ but-changed validation late touched minifat s h only full clean covers room = re
   };
   apart = h.apart;
   count = h.count;
-  behind = if-strict validation (IsFreeBehind late s) (IsFreeBehind (touched ++ late) (with_minifat s minifat)) (λ b m ge lt out. elim (cases_lt m (length s.minifat)) [
+  behind = if_strict validation (IsFreeBehind late s) (IsFreeBehind (touched ++ late) (with_minifat s minifat)) (λ b m ge lt out. elim (cases_lt m (length s.minifat)) [
     | inl low ↦ h.words.words m low (λ l. out (Contains-append_right touched late m l)) ∙ sym (only m (λ t. out (Contains-append_left touched late m t))) ∙ value-past minifat m ge
     | inr past ↦ b m past lt (λ l. out (Contains-append_right touched late m l))
   ]) h.behind;
@@ -361,7 +362,7 @@ but-word validation late x s a h lt fits same tables is =
     let mine : word_of v a.file.bytes sectors x ≡ w = ap (λ (b : List ℕ). word_of v b sectors x) is ∙ word_with_word bytes home w fits in
     let other : (m : ℕ) → m ≢ x → m < length sectors * words_per_sector v → word_of v a.file.bytes sectors m ≡ word_of v bytes sectors m = λ m ne inside.
     ap (λ (b : List ℕ). word_of v b sectors m) is ∙ other_word v bytes sectors x m w once (λ e. ne (sym e)) lt inside in
-    let early : (m : ℕ) → m ≢ x → (Contains late m → ⊥) → Contains (x ∷ late) m → ⊥ = λ m ne out l. elim (in_cons x late m l) [ inl e ↦ ne (sym e) | inr r ↦ out r ] in
+    let early : (m : ℕ) → m ≢ x → (Contains late m → ⊥) → Contains (x ∷ late) m → ⊥ = λ m ne out l. elim (Contains-cases x late m l) [ inl e ↦ ne (sym e) | inr r ↦ out r ] in
     let whole : HasSectors v a.file.bytes sectors = λ i m. (let t = h.whole i m in omega (arith, t, longer)) in
     let covers = h.words.covers in
     let words : HoldWordsBut late v a.file.bytes sectors s.minifat = record {
@@ -386,8 +387,8 @@ but-word validation late x s a h lt fits same tables is =
         room = subst (λ u. length s.minifat * mini_sector_len ≤ length h.mini_stream.sectors * sector_len u) version h.mini_stream.room;
       };
       apart = h.apart;
-      count = if-strict validation (word_at bytes 64 ≡ length sectors) (word_at a.file.bytes 64 ≡ length sectors) (λ e. header 64 (omega arith) ∙ e) h.count;
-      behind = if-strict validation (IsFreeBehind (x ∷ late) s) (IsFreeBehind late (with_table s a))
+      count = if_strict validation (word_at bytes 64 ≡ length sectors) (word_at a.file.bytes 64 ≡ length sectors) (λ e. header 64 (omega arith) ∙ e) h.count;
+      behind = if_strict validation (IsFreeBehind (x ∷ late) s) (IsFreeBehind late (with_table s a))
           (λ b m ge. subst (λ u. m < length sectors * words_per_sector u → (Contains late m → ⊥) → word_of u a.file.bytes sectors m ≡ free_sector) version
           (λ inside out. elim (cases_eq m x) [
             | inl e ↦ ap (λ k. word_of v a.file.bytes sectors k) e ∙ mine ∙ ap (value s.minifat) (sym e) ∙ value-past s.minifat m ge
@@ -427,8 +428,8 @@ but-root validation late s d h held same sectors spares header =
         room = subst (λ u. length s.minifat * mini_sector_len ≤ length h.mini_stream.sectors * sector_len u) version h.mini_stream.room;
       };
       apart = subst (λ (l : List ℕ). IsDistinct nat_eq (l ++ s.minifat_sectors ++ mini_stream_of s)) (sym sectors) h.apart;
-      count = if-strict validation (word_at (bytes_of s) 64 ≡ length list) (word_at d.table.file.bytes 64 ≡ length list) (λ e. word 64 (omega arith) ∙ e) h.count;
-      behind = if-strict validation (IsFreeBehind late s) (IsFreeBehind late (with_directory s d))
+      count = if_strict validation (word_at (bytes_of s) 64 ≡ length list) (word_at d.table.file.bytes 64 ≡ length list) (λ e. word 64 (omega arith) ∙ e) h.count;
+      behind = if_strict validation (IsFreeBehind late s) (IsFreeBehind late (with_directory s d))
           (λ b m ge. subst (λ u. m < length list * words_per_sector u → (Contains late m → ⊥) → word_of u d.table.file.bytes list m ≡ free_sector) version
           (λ lt out. words-kept (version_of s) (bytes_of s) d.table.file.bytes list m h.whole keeps lt ∙ b m ge lt out)) h.behind;
     }

@@ -8,17 +8,18 @@ use Rattle.std.proofs.lemmas.List.Elements.{Contains-append_cases, Contains-appe
 use Rattle.cfb_format.specs.Bytes.{end_of_chain, free_sector, max_regular_sector}
 use Rattle.cfb_format.specs.Chain.{Follows, IsChain, value}
 use Rattle.cfb_format.proofs.Unique.{IsChain-unique}
-use Rattle.cfb_tables.specs.Changes.{AreDisjoint}
-use Rattle.cfb_tables.specs.Listed.{EndsChain, ends_of, last_or_end}
-use Rattle.cfb_tables.specs.Tables.{TableState, ending, first_or_end}
-use Rattle.cfb_tables.proofs.ChainLemmas.{chain-rest, chain_of, le-regular, members-busy, other-chains-stay, regular-le}
-use Rattle.cfb_tables.proofs.ListedLemmas.{chain_ends, end_chain, ended_alone, ended_regular, last_alone}
-use Rattle.cfb_tables.proofs.Members.{Contains-here, Contains-nil, Contains-split}
-use Rattle.cfb_tables.proofs.PreparedLemmas.{chain-one}
-use Rattle.cfb_alloc.specs.ListedChain.{CanShorten, Shortens, from_last_of}
-use Rattle.cfb_alloc.proofs.ListedLemmas.{tail_parts}
+use Rattle.cfb_mini_sectors.specs.cfb_tables.Changes.{AreDisjoint}
+use Rattle.cfb_mini_sectors.specs.cfb_tables.Listed.{EndsChain, ends_of, last_or_end}
+use Rattle.cfb_mini_sectors.specs.cfb_tables.Tables.{TableState, ending, first_or_end}
+use Rattle.cfb_mini_sectors.proofs.cfb_tables.ChainLemmas.{chain-rest, members-busy, other-chains-stay}
+use Rattle.cfb_mini_sectors.proofs.cfb_tables.ListedLemmas.{chain_ends, end_chain, ended_alone, ended_regular, last_alone}
+use Rattle.cfb_mini_sectors.proofs.cfb_tables.PreparedLemmas.{chain-one}
+use Rattle.cfb_mini_sectors.specs.cfb_alloc.ListedChain.{CanShorten, Shortens, from_last_of}
+use Rattle.cfb_mini_sectors.proofs.cfb_alloc.ListedLemmas.{tail_parts}
 use Rattle.cfb_directory.proofs.InsertGrow.{ends-among}
 use Rattle.cfb_mini_sectors.proofs.BothGrown.{last_rest, of_ends, some_end}
+use Rattle.cfb_format.proofs.Walks.{chain_of, le-regular, regular-le}
+use Rattle.cfb_format.proofs.Members.{Contains-here, Contains-nil, Contains-split}
 
 -- ---- one by one
 
@@ -95,7 +96,7 @@ record IsTail (n : ℕ) (table list part : List ℕ) : Type 0 where
   pub behind : n < length list → part ≡ from_last_of n list
 
 -- what is given back of a list, and where it ends then, are among it
-given-among : (n : ℕ) (list : List ℕ) (i : ℕ) → Contains (ends_of (take n list) ++ drop n list) i → Contains list i
+pub given-among : (n : ℕ) (list : List ℕ) (i : ℕ) → Contains (ends_of (take n list) ++ drop n list) i → Contains list i
 given-among n list i m =
     let whole = take-append-drop n list in
     subst (λ (l : List ℕ). Contains l i) whole (elim (Contains-append_cases (ends_of (take n list)) (drop n list) i m) [

@@ -4,12 +4,13 @@ use Rattle.std.specs.Prelude.{Contains}
 use Rattle.std.proofs.lemmas.List.Elements.{Contains-append_right}
 use Rattle.cfb_format.specs.Bytes.{end_of_chain, free_sector}
 use Rattle.cfb_format.specs.Chain.{IsChain, value}
-use Rattle.cfb_tables.specs.Clean.{IsUnnamed}
-use Rattle.cfb_tables.proofs.ChainLemmas.{members-busy}
-use Rattle.cfb_tables.proofs.CleanLemmas.{NamesOnce, Regular, distinct-once, follows-named, follows-once, next-added, once-distinct, regular-busy, regular-goes_on}
-use Rattle.cfb_tables.proofs.Members.{Contains-cases, Contains-here, Contains-or, Contains-there, value-below}
+use Rattle.cfb_mini_sectors.specs.cfb_tables.Clean.{IsUnnamed}
+use Rattle.cfb_mini_sectors.proofs.cfb_tables.ChainLemmas.{members-busy}
+use Rattle.cfb_mini_sectors.proofs.cfb_tables.CleanLemmas.{NamesOnce, Regular, distinct-once, follows-named, follows-once, next-added, once-distinct, regular-busy, regular-goes_on}
 use Rattle.cfb_mini_table.specs.MiniTable.{MiniGivesBack, TakesMini}
 use Rattle.cfb_mini_sectors.specs.State.{IsMiniClean}
+use Rattle.cfb_format.proofs.Members.{Contains-cases, Contains-here, Contains-or, Contains-there}
+use Rattle.cfb_format.proofs.Walks.{value-below}
 
 -- the same facts of each number
 record IsMiniCleanAt (table : List ℕ) : Type 0 where

@@ -9,17 +9,19 @@ use Rattle.cfb_format.specs.Content.{in_file, mini_sector_len, place_in_mini_cha
 use Rattle.cfb_format.specs.Full.{rounded_up}
 use Rattle.cfb_sectors.specs.Words.{RangeStays}
 use Rattle.cfb_sectors.proofs.SectorLemmas.{Stays_apart, Stays_refl, Stays_trans}
-use Rattle.cfb_tables.specs.Listed.{gained}
-use Rattle.cfb_tables.proofs.ChainLemmas.{chain-stays, members-busy}
-use Rattle.cfb_tables.proofs.Members.{Contains-here, value-below}
+use Rattle.cfb_mini_sectors.specs.cfb_tables.Listed.{gained}
+use Rattle.cfb_mini_sectors.proofs.cfb_tables.ChainLemmas.{chain-stays, members-busy}
 use Rattle.cfb_soundness.specs.Places.{mini_start}
 use Rattle.cfb_mini_sectors.specs.State.{HoldsMiniStream, MiniState, bytes_of, mini_place, mini_stream_of, parts_of, version_of}
 use Rattle.cfb_mini_sectors.specs.Steps.{mini_stream_needs}
 use Rattle.cfb_mini_sectors.specs.Held.{HasMiniPlaces}
 use Rattle.cfb_mini_sectors.specs.Laws.{MiniBytesStayInPlace, NoMiniSectorIsTouched, OtherMiniChainsAreSpared, SectorsSpareMini, SparesMiniInTurn, SparesMiniLess, TableChangeSparesMini, WritingSparesMini}
-use Rattle.cfb_mini_sectors.proofs.MiniPlaces.{mini-placed, mini_below, mini_room, mini_start-left, mini_start-shorter, mini_stays, minis_apart, needed_room}
+use Rattle.cfb_mini_sectors.proofs.MiniPlaces.{mini-placed, mini_room, mini_start-left, mini_start-shorter, mini_stays, minis_apart, needed_room}
+use Rattle.cfb_format.proofs.Members.{Contains-here}
+use Rattle.cfb_format.proofs.Walks.{value-below}
+use Rattle.cfb_format.proofs.MiniPlaces.{mini_below}
 
-same-stream : (old new : MiniState) → new.mini_stream ≡ old.mini_stream → mini_stream_of new ≡ mini_stream_of old
+pub same-stream : (old new : MiniState) → new.mini_stream ≡ old.mini_stream → mini_stream_of new ≡ mini_stream_of old
 same-stream old new e = ap (λ (w : Option (List ℕ)). unwrap_or w []) e
 
 same-bytes : (from to : ℕ) (a b : List ℕ) → b ≡ a → RangeStays from to a b

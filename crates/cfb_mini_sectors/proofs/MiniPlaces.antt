@@ -12,19 +12,11 @@ use Rattle.cfb_format.specs.Content.{in_file, mini_sector_len, place_in_chain, p
 use Rattle.cfb_format.specs.Full.{rounded_up}
 use Rattle.cfb_sectors.specs.Sectors.{SectorStays}
 use Rattle.cfb_sectors.specs.Words.{RangeStays}
-use Rattle.cfb_alloc.proofs.Listed.{place_once}
+use Rattle.cfb_mini_sectors.proofs.cfb_alloc.Listed.{place_once}
 use Rattle.cfb_soundness.specs.Places.{mini_start}
 use Rattle.cfb_mini_sectors.specs.State.{HoldsMiniStream, MiniState, bytes_of, mini_place, parts_of, version_of}
-
--- which of the sectors has the mini sector
-pub mini_below : (v : Version) (m n : ℕ) → 64 * m < n * sector_len v → 64 * m / sector_len v < n
-mini_below V3 m n h = omega (arith, h)
-mini_below V4 m n h = omega (arith, h)
-
--- that one has all of it
-pub mini_inside : (v : Version) (m : ℕ) → 64 * m % sector_len v + 64 ≤ sector_len v
-mini_inside V3 m = omega arith
-mini_inside V4 m = omega arith
+use Rattle.cfb_format.proofs.MiniPlaces.{mini_below, mini_inside, mini_quotient, mini_rest}
+use Rattle.cfb_soundness.proofs.SegmentLemmas.{mini_order}
 
 -- of so many mini sectors, each begins within so many sectors
 pub mini_room : (v : Version) (m count n : ℕ) → m < count → count * mini_sector_len ≤ n * sector_len v → 64 * m < n * sector_len v
@@ -68,10 +60,6 @@ sector_before : (v : Version) (a b x y : ℕ) → a < b → sector_start v a + 6
 sector_before V3 a b x y h = omega (arith, h)
 sector_before V4 a b x y h = omega (arith, h)
 
-same_sector : (v : Version) (x y : ℕ) → x < y → 64 * x / sector_len v ≡ 64 * y / sector_len v → 64 * x % sector_len v + 64 ≤ 64 * y % sector_len v
-same_sector V3 x y lt same = omega (arith, lt, same)
-same_sector V4 x y lt same = omega (arith, lt, same)
-
 pub minis_apart : (v : Version) (list : List ℕ) → IsDistinct nat_eq list → (x y : ℕ) → x ≢ y → 64 * x < length list * sector_len v → 64 * y < length list * sector_len v
     → (mini_start v list x + 64 ≤ mini_start v list y) ⊎ (mini_start v list y + 64 ≤ mini_start v list x)
 minis_apart v list d x y ne lx ly = elim (cases_eq (64 * x / sector_len v) (64 * y / sector_len v)) [
@@ -79,8 +67,8 @@ minis_apart v list d x y ne lx ly = elim (cases_eq (64 * x / sector_len v) (64 *
       let base : sector_start v (slice_index list (64 * x / sector_len v)) ≡ sector_start v (slice_index list (64 * y / sector_len v)) =
       ap (λ q. sector_start v (slice_index list q)) same in
       elim (cases_lt x y) [
-        | inl less ↦ inl (let low = same_sector v x y less same in omega (arith, base, low))
-        | inr ge ↦ inr (let low = same_sector v y x (omega (arith, ge, ne)) (sym same) in omega (arith, base, low))
+        | inl less ↦ inl (let low = mini_order v x y less same in omega (arith, base, low))
+        | inr ge ↦ inr (let low = mini_order v y x (omega (arith, ge, ne)) (sym same) in omega (arith, base, low))
       ]
   | inr other ↦
       let differ : slice_index list (64 * x / sector_len v) ≢ slice_index list (64 * y / sector_len v) = λ s.
@@ -92,14 +80,6 @@ minis_apart v list d x y ne lx ly = elim (cases_eq (64 * x / sector_len v) (64 *
 ]
 
 -- ---- bytes of mini chains
-
-mini_quotient : (v : Version) (m o : ℕ) → o < 64 → (64 * m + o) / sector_len v ≡ 64 * m / sector_len v
-mini_quotient V3 m o h = omega arith
-mini_quotient V4 m o h = omega arith
-
-mini_rest : (v : Version) (m o : ℕ) → o < 64 → (64 * m + o) % sector_len v ≡ 64 * m % sector_len v + o
-mini_rest V3 m o h = omega arith
-mini_rest V4 m o h = omega arith
 
 -- byte o of mini sector m in the chain of the mini stream's sectors
 pub mini_at : (v : Version) (bytes list : List ℕ) (m o : ℕ) → o < 64 → 64 * m < length list * sector_len v

@@ -7,14 +7,13 @@ use Rattle.std.proofs.lemmas.List.Elements.{Contains-get_or}
 use Rattle.cfb_format.specs.declared.version.Version.{Version}
 use Rattle.cfb_format.specs.declared.version.Version.TheVariants.{V3, V4}
 use Rattle.cfb_format.specs.Bytes.{byte_at, sector_len, sector_start}
-use Rattle.cfb_format.specs.Content.{mini_sector_len}
 use Rattle.cfb_format.specs.Medium.{ChangesOnlyBytes, written}
 use Rattle.cfb_format.proofs.ByteLemmas.{length-written, written_above, written_at, written_below}
 use Rattle.cfb_sectors.proofs.SectorLemmas.{sector_apart}
-use Rattle.cfb_tables.specs.Consecutive.{FollowOn}
-use Rattle.cfb_alloc.specs.Alloc.{AllocatorState}
-use Rattle.cfb_alloc.specs.Frame.{Spares}
-use Rattle.cfb_alloc.proofs.Spared.{start_past}
+use Rattle.cfb_mini_sectors.specs.cfb_tables.Consecutive.{FollowOn}
+use Rattle.cfb_mini_sectors.specs.cfb_alloc.Alloc.{AllocatorState}
+use Rattle.cfb_mini_sectors.specs.cfb_alloc.Frame.{Spares}
+use Rattle.cfb_mini_sectors.proofs.cfb_alloc.Spared.{start_past}
 use Rattle.cfb_runs.specs.Along.{ChangesOnlyRun}
 use Rattle.cfb_runs.specs.Runs.{IsLongestRun, IsRun, place_along}
 use Rattle.cfb_runs.proofs.Runs.{run_among, run_some, shorter_run}
@@ -27,7 +26,7 @@ pub same_index : (v : Version) (m r : ℕ) → (64 * m + r) / sector_len v ≡ 6
 same_index V3 m r = omega arith
 same_index V4 m r = omega arith
 
-same_rest : (v : Version) (m r : ℕ) → (64 * m + r) % sector_len v ≡ 64 * (m + r / 64) % sector_len v + r % 64
+pub same_rest : (v : Version) (m r : ℕ) → (64 * m + r) % sector_len v ≡ 64 * (m + r / 64) % sector_len v + r % 64
 same_rest V3 m r = omega arith
 same_rest V4 m r = omega arith
 

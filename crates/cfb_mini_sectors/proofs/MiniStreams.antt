@@ -1,23 +1,19 @@
 -- The mini stream's chain, and how the root's entry names it.
 use Rattle.std.proofs.Common.{◌≡◌, inl, inr, ℕ, List, [], ◌∷◌, Bool, true, false, refl, sym, ◌∙◌, ap, subst}
-use Rattle.std.specs.Prelude.{IsSome, Option, Some, None, if◌then◌else◌, not, ◌&&◌, ◌==◌}
+use Rattle.std.specs.Prelude.{Option, Some, if◌then◌else◌, not, ◌&&◌, ◌==◌}
 use Rattle.std.proofs.lemmas.Bool.{eqb-true}
 use Rattle.std.proofs.lemmas.Option.{same_Some}
 use Rattle.cfb_format.specs.Bytes.{is_regular}
 use Rattle.cfb_format.specs.Chain.{IsChain, Follows, chain_from}
 use Rattle.cfb_format.specs.DirectoryEntry.{Entry}
 use Rattle.cfb_format.proofs.Chains.{chain_from-IsChain}
-use Rattle.cfb_tables.specs.Tables.{first_or_end}
-use Rattle.cfb_tables.proofs.ChainLemmas.{chain_of}
+use Rattle.cfb_mini_sectors.specs.cfb_tables.Tables.{first_or_end}
 use Rattle.cfb_mini_sectors.specs.Held.{IsMiniStream}
+use Rattle.cfb_format.proofs.Walks.{chain_of}
 
 -- the chain from a root
 abbrev pub stream_chain : List ℕ → Entry → Option (List ℕ)
 stream_chain fat root = if root.stream_len == 0 && not (is_regular root.start_sector) then Some [] else chain_from fat root.start_sector
-
-pub some_of : (o : Option (List ℕ)) → IsSome o → (list : List ℕ) × (o ≡ Some list)
-some_of None h = absurd (let f : false ≡ true = h in cc)
-some_of (Some list) h = (list, refl)
 
 -- a chain begins at its first member, or at the end
 pub begins : (table : List ℕ) (s : ℕ) (list : List ℕ) → Follows table s list → s ≡ first_or_end list

@@ -10,12 +10,12 @@ use Rattle.cfb_format.specs.Bytes.{words_per_sector, free_sector}
 use Rattle.cfb_format.specs.Chain.{value}
 use Rattle.cfb_format.specs.Fat.{fat_words}
 use Rattle.cfb_format.specs.Reading.{minifat_words}
-use Rattle.cfb_alloc.specs.Agreement.{HasSectors, KeepsSectors, word_of}
-use Rattle.cfb_alloc.proofs.DifatEntries.{ends_at}
-use Rattle.cfb_alloc.proofs.TableWords.{fat_words-at, kept_word, length-fat_words}
-use Rattle.cfb_alloc.proofs.Listed.{not_in_nil}
-use Rattle.cfb_tables.proofs.Members.{value-at}
+use Rattle.cfb_mini_sectors.specs.cfb_alloc.Agreement.{HasSectors, KeepsSectors, word_of}
+use Rattle.cfb_mini_sectors.proofs.cfb_alloc.DifatEntries.{ends_at}
+use Rattle.cfb_mini_sectors.proofs.cfb_alloc.TableWords.{fat_words-at, kept_word, length-fat_words}
 use Rattle.cfb_mini_sectors.specs.State.{HoldWordsBut}
+use Rattle.cfb_format.proofs.Members.{Contains-nil}
+use Rattle.cfb_format.proofs.Walks.{value-at}
 
 free_is : (w : ℕ) → (w == free_sector) ≡ true → w ≡ free_sector
 free_is w e = grind (arith, nat_tests)
@@ -74,14 +74,14 @@ module _ (v : Version) (bytes sectors : List ℕ) where
         | inr none ↦ omega (arith, none)
         | inl some ↦
             let last : length table - 1 < length table = omega (arith, some) in
-            let far = words-end (length table - 1) (omega (arith, last, covers)) (λ e. busy some (sym (h.words (length table - 1) last (not_in_nil (length table - 1))) ∙ e)) in
+            let far = words-end (length table - 1) (omega (arith, last, covers)) (λ e. busy some (sym (h.words (length table - 1) last (Contains-nil (length table - 1))) ∙ e)) in
             omega (arith, far)
       ] in
       let len : length (take n (minifat_words v bytes sectors)) ≡ length table =
       length-take n (minifat_words v bytes sectors) ∙ (let m : min n (length (minifat_words v bytes sectors)) ≡ length table = omega (arith, reaches, is) in m) in
       same_number_lists table (take n (minifat_words v bytes sectors)) (sym len)
       (λ m lt. sym (get_or-take n (minifat_words v bytes sectors) m 0 (omega (arith, lt, is)) ∙ words-at m (omega (arith, lt, reaches))
-      ∙ h.words m lt (not_in_nil m) ∙ value-at table m lt))
+      ∙ h.words m lt (Contains-nil m) ∙ value-at table m lt))
 
   -- and what is read out of them, they hold
   pub read-words : (table : List ℕ) (n : ℕ) → table ≡ take n (minifat_words v bytes sectors) → HoldWordsBut [] v bytes sectors table

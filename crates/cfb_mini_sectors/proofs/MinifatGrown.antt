@@ -14,21 +14,20 @@ use Rattle.cfb_sectors.specs.declared.sector.SectorInit.{SectorInit}
 use Rattle.cfb_sectors.specs.Sectors.{IsMediumError}
 use Rattle.cfb_sectors.proofs.SectorLemmas.{SectorStays_next, SectorStays_refl, after_header}
 use Rattle.cfb_sectors.proofs.WordLemmas.{word_stays}
-use Rattle.cfb_tables.specs.Changes.{AreDisjoint}
-use Rattle.cfb_tables.specs.Listed.{ends_of, gained, last_or_end}
-use Rattle.cfb_tables.specs.Refused.{ChangeRefused}
-use Rattle.cfb_tables.specs.Tables.{TableState, HasTaken, ending, first_or_end}
-use Rattle.cfb_tables.proofs.ListedLemmas.{ending_other, gained_listed}
-use Rattle.cfb_tables.proofs.Members.{Contains-one}
-use Rattle.cfb_tables.proofs.TakenLemmas.{taken-busy}
-use Rattle.cfb_alloc.specs.Alloc.{AllocatorState, OthersStay}
-use Rattle.cfb_alloc.specs.Frame.{table_sectors}
-use Rattle.cfb_alloc.specs.ListedChain.{Lengthens}
-use Rattle.cfb_alloc.proofs.HeldLemmas.{stays_filled}
-use Rattle.cfb_alloc.proofs.Listed.{among-Contains, among-not, not_in_nil}
+use Rattle.cfb_mini_sectors.specs.cfb_tables.Changes.{AreDisjoint}
+use Rattle.cfb_mini_sectors.specs.cfb_tables.Listed.{ends_of, gained, last_or_end}
+use Rattle.cfb_mini_sectors.specs.cfb_tables.Refused.{ChangeRefused}
+use Rattle.cfb_mini_sectors.specs.cfb_tables.Tables.{TableState, HasTaken, ending, first_or_end}
+use Rattle.cfb_mini_sectors.proofs.cfb_tables.ListedLemmas.{ending_other, gained_listed}
+use Rattle.cfb_mini_sectors.proofs.cfb_tables.TakenLemmas.{taken-busy}
+use Rattle.cfb_mini_sectors.specs.cfb_alloc.Alloc.{AllocatorState, OthersStay}
+use Rattle.cfb_mini_sectors.specs.cfb_alloc.Frame.{table_sectors}
+use Rattle.cfb_mini_sectors.specs.cfb_alloc.ListedChain.{Lengthens}
+use Rattle.cfb_mini_sectors.proofs.cfb_alloc.HeldLemmas.{stays_filled}
 use Rattle.cfb_directory.specs.Growing.{KeepsBounds}
 use Rattle.cfb_mini_sectors.specs.Growing.{GainsFilled, KeepsInUse, KeepsOutsideMini}
 use Rattle.cfb_mini_sectors.specs.Steps.{IsOutsideMini}
+use Rattle.cfb_format.proofs.Members.{Contains-one, among-Contains, among-not, Contains-nil}
 
 -- ---- sectors in use
 
@@ -36,7 +35,7 @@ pub in_use_refl : (a : AllocatorState) → KeepsInUse a a
 in_use_refl a = record { no_shorter = omega arith; sectors = λ i busy free. SectorStays_refl a.tables.version i a.file.bytes }
 
 pub in_use_others : (a b : AllocatorState) → OthersStay a b → KeepsInUse a b
-in_use_others a b o = record { no_shorter = o.no_shorter; sectors = λ i busy free. o.sectors i busy free (not_in_nil i) }
+in_use_others a b o = record { no_shorter = o.no_shorter; sectors = λ i busy free. o.sectors i busy free (Contains-nil i) }
 
 -- the words on the MiniFAT were written then
 pub in_use_named : (a b c : AllocatorState) → KeepsInUse a b → ChangesOnlyBytes 60 8 b.file.bytes c.file.bytes → KeepsInUse a c
@@ -92,7 +91,7 @@ pub outside_others : (a b : AllocatorState) → OthersStay a b → KeepsOutsideM
 outside_others a b o i lt (inl low) = o.header i lt (inl low)
 outside_others a b o i lt (inr mid) = o.header i lt (inr (inl (mid.0, (let to = mid.1 in omega (arith, to)))))
 
-below_words : (i : ℕ) → IsOutsideMini i → i < 60
+pub below_words : (i : ℕ) → IsOutsideMini i → i < 60
 below_words i (inl low) = omega (arith, low)
 below_words i (inr mid) = mid.1
 
@@ -144,11 +143,11 @@ medium_changed invalid memory full Failed m = absurd (omega (arith, m))
 -- the last ones of the lists are not the same
 pub ends_apart : (xs ys : List ℕ) → (last_or_end ys ≢ end_of_chain → last_or_end ys ≢ last_or_end xs) → AreDisjoint (ends_of xs) (ends_of ys)
 ends_apart xs ys other i mx my = elim (cases_eq (last_or_end ys) end_of_chain) [
-  | inl none ↦ absurd (not_in_nil i (subst (λ k. Contains (ending k) i) none my))
+  | inl none ↦ absurd (Contains-nil i (subst (λ k. Contains (ending k) i) none my))
   | inr some ↦
       let here : last_or_end ys ≡ i = Contains-one (last_or_end ys) i (subst (λ (l : List ℕ). Contains l i) (ending_other (last_or_end ys) some) my) in
       elim (cases_eq (last_or_end xs) end_of_chain) [
-        | inl none ↦ absurd (not_in_nil i (subst (λ k. Contains (ending k) i) none mx))
+        | inl none ↦ absurd (Contains-nil i (subst (λ k. Contains (ending k) i) none mx))
         | inr more ↦ other some (here ∙ sym (Contains-one (last_or_end xs) i (subst (λ (l : List ℕ). Contains l i) (ending_other (last_or_end xs) more) mx)))
       ]
 ]

@@ -9,13 +9,13 @@ use Rattle.cfb_format.specs.declared.version.Version.TheVariants.{V3, V4}
 use Rattle.cfb_format.specs.Bytes.{sector_len, sector_start, words_per_sector}
 use Rattle.cfb_format.specs.Content.{mini_sector_len}
 use Rattle.cfb_sectors.specs.Sectors.{SectorFile, place_in_sector, sectors_end}
-use Rattle.cfb_tables.specs.Tables.{TableState}
-use Rattle.cfb_alloc.specs.Alloc.{AllocatorState, IsPlaced}
-use Rattle.cfb_alloc.specs.Frame.{LieOutside, table_sectors}
-use Rattle.cfb_alloc.specs.InSector.{IsNoTableSector, LiesIn}
-use Rattle.cfb_alloc.proofs.Listed.{place_once}
-use Rattle.cfb_alloc.proofs.SeekLemmas.{sector_inside}
-use Rattle.cfb_alloc.proofs.Spared.{apart_from}
+use Rattle.cfb_mini_sectors.specs.cfb_tables.Tables.{TableState}
+use Rattle.cfb_mini_sectors.specs.cfb_alloc.Alloc.{AllocatorState, IsPlaced}
+use Rattle.cfb_mini_sectors.specs.cfb_alloc.Frame.{LieOutside, table_sectors}
+use Rattle.cfb_mini_sectors.specs.cfb_alloc.InSector.{IsNoTableSector, LiesIn}
+use Rattle.cfb_mini_sectors.proofs.cfb_alloc.Listed.{place_once}
+use Rattle.cfb_mini_sectors.proofs.cfb_alloc.SeekLemmas.{sector_inside}
+use Rattle.cfb_mini_sectors.proofs.cfb_alloc.Spared.{apart_from}
 use Rattle.cfb_soundness.specs.Places.{mini_start}
 
 -- the sectors have the word

@@ -6,24 +6,18 @@ use Rattle.cfb_format.specs.declared.version.Version.{Version}
 use Rattle.cfb_format.specs.Bytes.{sector_len, words_per_sector}
 use Rattle.cfb_format.specs.Chain.{value}
 use Rattle.cfb_format.specs.Content.{mini_sector_len}
-use Rattle.cfb_sectors.specs.Sectors.{SectorFile}
 use Rattle.cfb_sectors.specs.Words.{RangeStays}
 use Rattle.cfb_sectors.proofs.SectorLemmas.{SectorStays_next, SectorStays_refl}
 use Rattle.cfb_sectors.proofs.WordLemmas.{word_same}
-use Rattle.cfb_tables.specs.Tables.{TableState}
-use Rattle.cfb_alloc.specs.Agreement.{word_home, word_of}
-use Rattle.cfb_alloc.specs.Alloc.{AllocatorState}
-use Rattle.cfb_alloc.proofs.Frames.{spares-then}
-use Rattle.cfb_alloc.proofs.Spared.{spares_refl}
-use Rattle.cfb_alloc.proofs.TableWords.{homes_apart}
+use Rattle.cfb_mini_sectors.specs.cfb_tables.Tables.{TableState}
+use Rattle.cfb_mini_sectors.specs.cfb_alloc.Agreement.{word_home, word_of}
+use Rattle.cfb_mini_sectors.specs.cfb_alloc.Alloc.{AllocatorState}
+use Rattle.cfb_mini_sectors.proofs.cfb_alloc.Frames.{spares-then}
+use Rattle.cfb_mini_sectors.proofs.cfb_alloc.Spared.{spares_refl}
+use Rattle.cfb_mini_sectors.proofs.cfb_alloc.TableWords.{homes_apart}
 use Rattle.cfb_mini_sectors.specs.Pieces.{ChangesMinis, ChangesPieces, ChangesWords, HaveMinis, HaveWords, WritesAmong}
 use Rattle.cfb_soundness.specs.Places.{mini_start}
 use Rattle.cfb_mini_sectors.proofs.PiecePlaces.{minis_apart, word_below}
-
--- all that a write leaves of a file, over two of them
-pub kept_after : (c b a : SectorFile) → c ≡ record b { len = c.len; bytes = c.bytes; failures = c.failures; begun = c.begun }
-    → b ≡ record a { len = b.len; bytes = b.bytes; failures = b.failures; begun = b.begun } → c ≡ record a { len = c.len; bytes = c.bytes; failures = c.failures; begun = c.begun }
-kept_after c b a second first = second ∙ ap (λ (f : SectorFile). record f { len = c.len; bytes = c.bytes; failures = c.failures; begun = c.begun }) first
 
 -- ---- pieces
 

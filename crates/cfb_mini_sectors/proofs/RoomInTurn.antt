@@ -6,13 +6,14 @@ use Rattle.cfb_format.specs.declared.version.Version.TheVariants.{V3, V4}
 use Rattle.cfb_format.specs.Bytes.{sector_len, words_per_sector}
 use Rattle.cfb_format.specs.Content.{mini_sector_len}
 use Rattle.cfb_format.specs.Full.{free_count, rounded_up}
-use Rattle.cfb_tables.specs.Listed.{ends_of, gained}
-use Rattle.cfb_tables.specs.Tables.{TableState, IsTooFew}
-use Rattle.cfb_tables.proofs.RoomLemmas.{more-is-too-few, room-in-turn}
-use Rattle.cfb_alloc.specs.ListedChain.{Lengthens}
+use Rattle.cfb_mini_sectors.specs.cfb_tables.Listed.{ends_of, gained}
+use Rattle.cfb_mini_sectors.specs.cfb_tables.Tables.{TableState, IsTooFew}
+use Rattle.cfb_mini_sectors.proofs.cfb_tables.RoomLemmas.{more-is-too-few, room-in-turn}
+use Rattle.cfb_mini_sectors.specs.cfb_alloc.ListedChain.{Lengthens}
 use Rattle.cfb_mini_sectors.specs.Laws.{MiniSectorsInTurn, MiniSectorsTakeFew}
 use Rattle.cfb_mini_sectors.specs.State.{MiniState, mini_stream_of, tables_in, version_of}
 use Rattle.cfb_mini_sectors.specs.Steps.{GrowsFor, minifat_len_with, minifat_lacks, mini_stream_lacks}
+use Rattle.cfb_mini_sectors.proofs.cfb_tables.TableCounts.{fats-rise}
 
 -- a list that was lengthened
 longer : (n : ℕ) (xs ys : List ℕ) (a b : TableState) → Lengthens n xs ys a b → length ys ≡ length xs + n
@@ -35,10 +36,6 @@ one r1 r2 have have' n le is sum = omega (arith, le, is, sum)
 both : (a b x y p q : ℕ) → a + x ≤ p → b + y ≤ q → a + (b + (x + y)) ≤ p + q
 both a b x y p q first second = omega (arith, first, second)
 
-up-words : (v : Version) (x y : ℕ) → x ≤ y → rounded_up x (words_per_sector v) ≤ rounded_up y (words_per_sector v)
-up-words V3 x y le = omega (arith, le)
-up-words V4 x y le = omega (arith, le)
-
 up-minis : (v : Version) (x y : ℕ) → x ≤ y → rounded_up (x * mini_sector_len) (sector_len v) ≤ rounded_up (y * mini_sector_len) (sector_len v)
 up-minis V3 x y le = omega (arith, le)
 up-minis V4 x y le = omega (arith, le)
@@ -57,7 +54,7 @@ sums v m g c rest m' g' mf mf' ms ms' n1 n2 len left first second words minis =
     let le : m + (c - g) ≤ m' + (rest - g') = omega (arith, len) in
     let w = subst (λ k. n1 + (rounded_up (m' + (rest - g')) (words_per_sector v) - mf') ≤ rounded_up k (words_per_sector v) - mf) e
     (one (rounded_up (m + (c - g)) (words_per_sector v)) (rounded_up (m' + (rest - g')) (words_per_sector v)) mf mf' n1
-    (up-words v (m + (c - g)) (m' + (rest - g')) le) first words) in
+    (fats-rise v (m + (c - g)) (m' + (rest - g')) le) first words) in
     let s = subst (λ k. n2 + (rounded_up ((m' + (rest - g')) * mini_sector_len) (sector_len v) - ms') ≤ rounded_up (k * mini_sector_len) (sector_len v) - ms) e
     (one (rounded_up ((m + (c - g)) * mini_sector_len) (sector_len v)) (rounded_up ((m' + (rest - g')) * mini_sector_len) (sector_len v)) ms ms' n2
     (up-minis v (m + (c - g)) (m' + (rest - g')) le) second minis) in

@@ -11,12 +11,13 @@ use Rattle.cfb_format.specs.Medium.{ChangesOnlyBytes, written}
 use Rattle.cfb_format.proofs.ByteLemmas.{ChangesOnly-written, length-written}
 use Rattle.cfb_sectors.specs.Words.{with_word}
 use Rattle.cfb_sectors.proofs.WordLemmas.{length-with_word, word_apart, word_same, word_with_word}
-use Rattle.cfb_alloc.specs.Agreement.{word_home}
-use Rattle.cfb_table_words.proofs.RunWords.{length-word_bytes, more_words}
-use Rattle.cfb_alloc.proofs.TableWords.{homes_apart}
+use Rattle.cfb_mini_sectors.specs.cfb_alloc.Agreement.{word_home}
+use Rattle.cfb_mini_sectors.proofs.cfb_table_words.RunWords.{more_words}
+use Rattle.cfb_mini_sectors.proofs.cfb_alloc.TableWords.{homes_apart}
 use Rattle.cfb_mini_sectors.specs.Pieces.{ChangesWords}
 use Rattle.cfb_mini_sectors.proofs.PiecePlaces.{word_below}
 use Rattle.cfb_mini_sectors.proofs.PieceWrites.{WordStands}
+use Rattle.cfb_mini_sectors.proofs.cfb_table_words.DifatWords.{length-word_bytes}
 
 -- each of the words that were written is there
 word_in_run : (ws b : List ℕ) (at k p : ℕ) → p ≡ at + 4 * k → k < length ws → ((j : ℕ) → j < length ws → slice_index ws j < 2 ^ 32) → word_at (written b at (word_bytes ws)) p ≡ slice_index ws k

@@ -1,10 +1,10 @@
 -- How the MiniFAT and the mini stream become shorter (MS-CFB 2.4).
 use Rattle.std.specs.Prelude.{ℕ, List}
-use Rattle.cfb_tables.specs.Changes.{AreDisjoint}
-use Rattle.cfb_tables.specs.Listed.{ends_of}
-use Rattle.cfb_tables.specs.Tables.{TableState}
-use Rattle.cfb_alloc.specs.Alloc.{IsUsable}
-use Rattle.cfb_alloc.specs.ListedChain.{CanShorten, Shortens}
+use Rattle.cfb_mini_sectors.specs.cfb_tables.Changes.{AreDisjoint}
+use Rattle.cfb_mini_sectors.specs.cfb_tables.Listed.{ends_of}
+use Rattle.cfb_mini_sectors.specs.cfb_tables.Tables.{TableState}
+use Rattle.cfb_mini_sectors.specs.cfb_alloc.Alloc.{IsUsable}
+use Rattle.cfb_mini_sectors.specs.cfb_alloc.ListedChain.{CanShorten, Shortens}
 
 -- so many sectors of each list can be left: the tables can be changed, each list is a chain from the last of these on if it gets shorter, and
 -- a chain ends at the last of each, but not at the same sector

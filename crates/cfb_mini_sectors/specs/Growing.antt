@@ -5,14 +5,14 @@ use Rattle.cfb_format.specs.declared.version.Version.{Version}
 use Rattle.cfb_format.specs.Bytes.{free_sector}
 use Rattle.cfb_format.specs.Chain.{value}
 use Rattle.cfb_format.specs.Refused.{HasReason, at_every_error, no_error}
-use Rattle.cfb_tables.specs.Changes.{AreDisjoint}
-use Rattle.cfb_tables.specs.Listed.{EndsChain, ends_of, gained}
-use Rattle.cfb_tables.specs.Tables.{TableState, AreFullTables}
+use Rattle.cfb_mini_sectors.specs.cfb_tables.Changes.{AreDisjoint}
+use Rattle.cfb_mini_sectors.specs.cfb_tables.Listed.{EndsChain, ends_of, gained}
+use Rattle.cfb_mini_sectors.specs.cfb_tables.Tables.{TableState, AreFullTables}
 use Rattle.cfb_sectors.specs.Sectors.{SectorStays}
 use Rattle.cfb_sectors.specs.declared.sector.SectorInit.{SectorInit}
-use Rattle.cfb_alloc.specs.Alloc.{AllocatorState, IsFilled}
-use Rattle.cfb_alloc.specs.Frame.{table_sectors}
-use Rattle.cfb_alloc.specs.ListedChain.{Lengthens}
+use Rattle.cfb_mini_sectors.specs.cfb_alloc.Alloc.{AllocatorState, IsAsFilled}
+use Rattle.cfb_mini_sectors.specs.cfb_alloc.Frame.{table_sectors}
+use Rattle.cfb_mini_sectors.specs.cfb_alloc.ListedChain.{Lengthens}
 use Rattle.cfb_mini_sectors.specs.Steps.{IsOutsideMini}
 
 -- a chain ends at the last of each list, if it has any, and not at the same sector
@@ -29,7 +29,7 @@ pub record GrowsBoth (minifat mini_stream : ℕ) (sectors sectors' stream stream
 
 -- of a list that became longer, the new sectors hold what `init` says
 abbrev pub GainsFilled : SectorInit → List ℕ → List ℕ → Version → List ℕ → Type 0
-GainsFilled init before after version bytes = (i : ℕ) → Contains (gained before after) i → IsFilled version init bytes i
+GainsFilled init before after version bytes = (i : ℕ) → Contains (gained before after) i → IsAsFilled version init bytes i
 
 -- every sector in use stays, but for the table sectors
 pub record KeepsInUse (old new : AllocatorState) : Type 0 where

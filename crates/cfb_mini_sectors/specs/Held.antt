@@ -10,12 +10,12 @@ use Rattle.cfb_format.specs.Full.{max_mini_sectors}
 use Rattle.cfb_format.specs.Header.{IfStrict}
 use Rattle.cfb_format.specs.Siblings.{entry_at}
 use Rattle.cfb_sectors.specs.declared.sector.SectorInit.{SectorInit}
-use Rattle.cfb_tables.specs.Listed.{ends_of, gained}
-use Rattle.cfb_tables.specs.Tables.{first_or_end}
-use Rattle.cfb_alloc.specs.Agreement.{HasSectors, word_of}
-use Rattle.cfb_alloc.specs.Alloc.{AllocatorState, IsFilled, OthersStay}
-use Rattle.cfb_alloc.specs.Frame.{Spares}
-use Rattle.cfb_alloc.specs.ListedChain.{Lengthens}
+use Rattle.cfb_mini_sectors.specs.cfb_tables.Listed.{ends_of, gained}
+use Rattle.cfb_mini_sectors.specs.cfb_tables.Tables.{first_or_end}
+use Rattle.cfb_mini_sectors.specs.cfb_alloc.Agreement.{HasSectors, word_of}
+use Rattle.cfb_mini_sectors.specs.cfb_alloc.Alloc.{AllocatorState, IsAsFilled, OthersStay}
+use Rattle.cfb_mini_sectors.specs.cfb_alloc.Frame.{Spares}
+use Rattle.cfb_mini_sectors.specs.cfb_alloc.ListedChain.{Lengthens}
 use Rattle.cfb_directory.specs.State.{DirectoryState, HoldsDirectory}
 use Rattle.cfb_mini_sectors.specs.State.{MiniState, HoldWordsBut, IsMiniClean, bytes_of, entries_of, mini_stream_of, root_len_of, tables_in, version_of}
 use Rattle.cfb_mini_sectors.specs.Steps.{system_sectors}
@@ -85,6 +85,6 @@ pub record Grows (init : SectorInit) (before after : List ℕ) (old new : Alloca
   pub count : ℕ
   pub lengthened : Lengthens count before after old.tables new.tables
   pub chain : IsChain new.tables.fat (first_or_end after) after
-  pub filled : (i : ℕ) → Contains (gained before after) i → IsFilled new.tables.version init new.file.bytes i
+  pub filled : (i : ℕ) → Contains (gained before after) i → IsAsFilled new.tables.version init new.file.bytes i
   pub others : OthersStay old new
   pub spares : Spares (ends_of before) old new

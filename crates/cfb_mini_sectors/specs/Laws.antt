@@ -14,13 +14,13 @@ use Rattle.cfb_format.specs.Reading.{IsOutline, IsStrict, Outline, Reads, number
 use Rattle.cfb_format.specs.Siblings.{entry_at, is_red_apart}
 use Rattle.cfb_format.specs.Soundness.{IsSound}
 use Rattle.cfb_sectors.specs.Words.{RangeStays}
-use Rattle.cfb_tables.specs.Changes.{AreDisjoint, ChangesOnlyValues}
-use Rattle.cfb_tables.specs.Listed.{gained}
-use Rattle.cfb_tables.specs.Tables.{AreSizes, IsTooFew, sizes_of}
+use Rattle.cfb_mini_sectors.specs.cfb_tables.Changes.{AreDisjoint, ChangesOnlyValues}
+use Rattle.cfb_mini_sectors.specs.cfb_tables.Listed.{gained}
+use Rattle.cfb_mini_sectors.specs.cfb_tables.Tables.{AreSizes, IsTooFew, sizes_of}
 use Rattle.cfb_mini_table.specs.MiniTable.{TakesMini}
-use Rattle.cfb_alloc.specs.Agreement.{KeepsSectors}
-use Rattle.cfb_alloc.specs.Alloc.{AllocatorState, HoldsTables, IsMeasured}
-use Rattle.cfb_alloc.specs.Frame.{Spares}
+use Rattle.cfb_mini_sectors.specs.cfb_alloc.Agreement.{KeepsSectors}
+use Rattle.cfb_mini_sectors.specs.cfb_alloc.Alloc.{AllocatorState, HoldsTables, IsMeasured}
+use Rattle.cfb_mini_sectors.specs.cfb_alloc.Frame.{Spares}
 use Rattle.cfb_directory.specs.State.{AreWritable, DirectoryState, HoldsDirectory, KeepsDirectoryHeader}
 use Rattle.cfb_mini_sectors.specs.State.{MiniState, HoldsMini, HoldsMiniStream, bytes_of, cases_of, entries_of, mini_place, mini_stream_of, parts_of, reading_of, root_len_of, table_of, tables_in, version_of}
 use Rattle.cfb_mini_sectors.specs.Steps.{GrowsFor, IsTooFewFor, KeepsLimits, SparesMini, system_sectors}

@@ -4,10 +4,10 @@ use Rattle.cfb_format.specs.declared.version.Version.{Version}
 use Rattle.cfb_format.specs.Bytes.{byte_at, sector_len, words_per_sector}
 use Rattle.cfb_format.specs.Content.{mini_sector_len}
 use Rattle.cfb_sectors.specs.Sectors.{SectorStays}
-use Rattle.cfb_tables.specs.Consecutive.{FollowOn}
-use Rattle.cfb_alloc.specs.Agreement.{word_home}
-use Rattle.cfb_alloc.specs.Alloc.{AllocatorState}
-use Rattle.cfb_alloc.specs.Frame.{Spares}
+use Rattle.cfb_mini_sectors.specs.cfb_tables.Consecutive.{FollowOn}
+use Rattle.cfb_mini_sectors.specs.cfb_alloc.Agreement.{word_home}
+use Rattle.cfb_mini_sectors.specs.cfb_alloc.Alloc.{AllocatorState}
+use Rattle.cfb_mini_sectors.specs.cfb_alloc.Frame.{Spares}
 use Rattle.cfb_soundness.specs.Places.{mini_start}
 
 -- ---- which of them there are

@@ -15,9 +15,9 @@ use Rattle.cfb_format.specs.Names.{Cases}
 use Rattle.cfb_format.specs.Reading.{Outline, IsOutline, Reading, minifat_words, no_more}
 use Rattle.cfb_format.specs.Siblings.{entry_at}
 use Rattle.cfb_format.specs.Soundness.{IsSound}
-use Rattle.cfb_tables.specs.Tables.{TableState, first_or_end}
-use Rattle.cfb_alloc.specs.Agreement.{HasSectors, word_of}
-use Rattle.cfb_alloc.specs.Alloc.{AllocatorState}
+use Rattle.cfb_mini_sectors.specs.cfb_tables.Tables.{TableState, first_or_end}
+use Rattle.cfb_mini_sectors.specs.cfb_alloc.Agreement.{HasSectors, word_of}
+use Rattle.cfb_mini_sectors.specs.cfb_alloc.Alloc.{AllocatorState}
 use Rattle.cfb_directory.specs.State.{DirectoryState, HoldsDirectory}
 use Rattle.cfb_soundness.specs.Places.{mini_start}
 

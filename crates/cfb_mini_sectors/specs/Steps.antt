@@ -8,14 +8,14 @@ use Rattle.cfb_format.specs.Content.{mini_sector_len}
 use Rattle.cfb_format.specs.Full.{free_count, rounded_up}
 use Rattle.cfb_format.specs.Refused.{HasReason, AfterMedium, at_every_error}
 use Rattle.cfb_format.specs.Siblings.{entry_at}
-use Rattle.cfb_tables.specs.Changes.{AreDisjoint}
-use Rattle.cfb_tables.specs.Clean.{IsUnnamed}
-use Rattle.cfb_tables.specs.Listed.{last_or_end}
-use Rattle.cfb_tables.specs.Tables.{TableState, AreFullTables, IsTooFew, first_or_end}
-use Rattle.cfb_tables.specs.Room.{IsTooFewAfter}
+use Rattle.cfb_mini_sectors.specs.cfb_tables.Changes.{AreDisjoint}
+use Rattle.cfb_mini_sectors.specs.cfb_tables.Clean.{IsUnnamed}
+use Rattle.cfb_mini_sectors.specs.cfb_tables.Listed.{last_or_end}
+use Rattle.cfb_mini_sectors.specs.cfb_tables.Tables.{TableState, AreFullTables, IsTooFew, first_or_end}
+use Rattle.cfb_mini_sectors.specs.cfb_tables.Room.{IsTooFewAfter}
 use Rattle.cfb_sectors.specs.Words.{RangeStays}
-use Rattle.cfb_alloc.specs.Alloc.{IsUsable}
-use Rattle.cfb_alloc.specs.ListedChain.{Lengthens, Shortens}
+use Rattle.cfb_mini_sectors.specs.cfb_alloc.Alloc.{IsUsable}
+use Rattle.cfb_mini_sectors.specs.cfb_alloc.ListedChain.{Lengthens, Shortens}
 use Rattle.cfb_directory.specs.Growing.{IsListedChain}
 use Rattle.cfb_soundness.specs.Places.{mini_start}
 use Rattle.cfb_mini_table.specs.MiniTable.{IsTooFewMini}

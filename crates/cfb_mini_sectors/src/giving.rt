@@ -8,11 +8,11 @@ ghost use Rattle.cfb_format.specs.Content.{mini_sector_len};
 ghost use Rattle.cfb_format.specs.Full.{rounded_up};
 ghost use Rattle.cfb_format.specs.Refused.{CountsFailure};
 ghost use Rattle.cfb_sectors.specs.Sectors.{IsMediumError, SectorStays};
-ghost use Rattle.cfb_tables.specs.Tables.{first_or_end};
-ghost use Rattle.cfb_tables.specs.Clean.{IsUnnamed};
-ghost use Rattle.cfb_alloc.specs.Alloc.{ChangesSectors, HoldsTables, IsUsable};
-ghost use Rattle.cfb_alloc.specs.Frame.{Spares, table_sectors};
-ghost use Rattle.cfb_alloc.specs.ListedChain.{CanShorten, Shortens, from_last_of};
+ghost use Rattle.cfb_mini_sectors.specs.cfb_tables.Tables.{first_or_end};
+ghost use Rattle.cfb_mini_sectors.specs.cfb_tables.Clean.{IsUnnamed};
+ghost use Rattle.cfb_mini_sectors.specs.cfb_alloc.Alloc.{ChangesSectors, HoldsTables, IsUsable};
+ghost use Rattle.cfb_mini_sectors.specs.cfb_alloc.Frame.{Spares, table_sectors};
+ghost use Rattle.cfb_mini_sectors.specs.cfb_alloc.ListedChain.{CanShorten, Shortens, from_last_of};
 ghost use Rattle.cfb_mini_sectors.specs.State.{MiniState, mini_stream_of, table_of, version_of};
 ghost use Rattle.cfb_mini_sectors.specs.Steps.{KeepsSizes};
 ghost use Rattle.cfb_mini_sectors.specs.Held.{HoldsMiniBut, with_mini_stream, with_minifat_sectors, with_table};
@@ -20,12 +20,12 @@ ghost use Rattle.cfb_mini_sectors.specs.Giving.{CanGiveBack, ShortensBoth};
 ghost use Rattle.cfb_mini_sectors.specs.Growing.{KeepsOutsideMini};
 
 use crate::growing::{check_ends, name_minifat};
-use cfb_alloc::alloc::Allocator;
+use cfb_directory::Allocator;
 use cfb_format::consts::{END_OF_CHAIN, MAX_REGULAR_SECTOR, MINI_SECTOR_LEN};
 use cfb_format::error::Error;
 use cfb_format::medium::{Medium, ReadMedium};
 use cfb_format::version::Version;
-use cfb_tables::ends::first_number;
+use cfb_mini_table::first_number;
 use std::alloc::Allocator as Heap;
 
 /// How many sectors the MiniFAT and the mini stream need.

@@ -10,24 +10,24 @@ ghost use Rattle.cfb_format.specs.Refused.{CountsFailure};
 ghost use Rattle.cfb_sectors.specs.Words.{with_word};
 ghost use Rattle.cfb_sectors.specs.Sectors.{IsMediumError, IsRaised};
 ghost use Rattle.cfb_sectors.specs.declared.sector.SectorInit.TheVariants.{Fat, Zero};
-ghost use Rattle.cfb_tables.specs.Listed.{EndsChain, ends_of, gained};
-ghost use Rattle.cfb_tables.specs.Refused.{ChangeRefused};
-ghost use Rattle.cfb_tables.specs.Tables.{AreFullTables, AreSizes, IsTooFew, first_or_end, sizes_of};
-ghost use Rattle.cfb_alloc.specs.Alloc.{HoldsTables, IsUsable};
-ghost use Rattle.cfb_alloc.specs.Frame.{Spares};
-ghost use Rattle.cfb_alloc.specs.ListedChain.{Lengthens, ListBreaksOff};
+ghost use Rattle.cfb_mini_sectors.specs.cfb_tables.Listed.{EndsChain, ends_of, gained};
+ghost use Rattle.cfb_mini_sectors.specs.cfb_tables.Refused.{ChangeRefused};
+ghost use Rattle.cfb_mini_sectors.specs.cfb_tables.Tables.{AreFullTables, AreSizes, IsTooFew, first_or_end, sizes_of};
+ghost use Rattle.cfb_mini_sectors.specs.cfb_alloc.Alloc.{HoldsTables, IsUsable};
+ghost use Rattle.cfb_mini_sectors.specs.cfb_alloc.Frame.{Spares};
+ghost use Rattle.cfb_mini_sectors.specs.cfb_alloc.ListedChain.{Lengthens, ListBreaksOff};
 ghost use Rattle.cfb_directory.specs.Growing.{IsListedChain, KeepsBounds};
 ghost use Rattle.cfb_mini_sectors.specs.State.{MiniState, table_of};
 ghost use Rattle.cfb_mini_sectors.specs.Held.{HoldsMiniBut, with_mini_stream, with_minifat_sectors, with_table};
 ghost use Rattle.cfb_mini_sectors.specs.Growing.{BothBreakOff, BreaksOffBegun, EndApart, GainsFilled, GrowsBoth, KeepsInUse, KeepsOutsideMini};
 
-use cfb_alloc::alloc::{Allocator, HeaderWord};
+use cfb_directory::{Allocator, HeaderWord};
 use cfb_format::consts::{END_OF_CHAIN, MINI_SECTOR_LEN};
 use cfb_format::error::{Detail, Error};
 use cfb_format::medium::{Medium, ReadMedium};
 use cfb_format::version::Version;
+use cfb_mini_table::{first_number, last_number};
 use cfb_sectors::sector::SectorInit;
-use cfb_tables::ends::{first_number, last_number};
 use std::alloc::Allocator as Heap;
 
 /// How many sectors the MiniFAT and the mini stream lack.

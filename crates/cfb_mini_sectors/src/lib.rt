@@ -6,3 +6,9 @@ pub mod giving;
 pub mod growing;
 pub mod laws;
 pub mod pieces;
+
+// What crates above name of those below.
+pub use cfb_directory::directory::Directory;
+pub use cfb_directory::{Fields, fresh_entries, least_above};
+pub use cfb_mini_table::first_number;
+pub use cfb_mini_table::mini_table::MiniTable;

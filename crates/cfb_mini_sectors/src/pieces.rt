@@ -9,22 +9,21 @@ ghost use Rattle.cfb_format.specs.Medium.{ChangesOnlyBytes, part, written};
 ghost use Rattle.cfb_format.specs.Refused.{CountsFailure, IsInvalidData};
 ghost use Rattle.cfb_sectors.specs.Words.{RangeStays};
 ghost use Rattle.cfb_sectors.specs.Sectors.{IsMediumError, IsRaised, SectorStays};
-ghost use Rattle.cfb_alloc.specs.Agreement.{word_home, word_of};
-ghost use Rattle.cfb_alloc.specs.Alloc.{HoldsTables};
-ghost use Rattle.cfb_alloc.specs.Frame.{Spares};
-ghost use Rattle.cfb_alloc.specs.InSector.{IsNoTableSector};
+ghost use Rattle.cfb_mini_sectors.specs.cfb_alloc.Agreement.{word_home, word_of};
+ghost use Rattle.cfb_mini_sectors.specs.cfb_alloc.Alloc.{HoldsTables};
+ghost use Rattle.cfb_mini_sectors.specs.cfb_alloc.Frame.{Spares};
+ghost use Rattle.cfb_mini_sectors.specs.cfb_alloc.InSector.{IsNoTableSector};
 ghost use Rattle.cfb_mini_sectors.specs.Pieces.{AreInARow, AreZeros, ChangesMinis, ChangesWords, HasMini, HasWord, HaveMinis, HaveWords, WritesAmong};
 ghost use Rattle.cfb_soundness.specs.Places.{mini_start};
 
-use cfb_alloc::alloc::Allocator;
+use cfb_directory::{Allocator, stretch_at};
 use cfb_format::bytes::put_words;
 use cfb_format::consts::{FREE_SECTOR, MINI_SECTOR_LEN};
 use cfb_format::error::{Detail, Error};
 use cfb_format::medium::{Medium, ReadMedium};
 use cfb_format::version::Version;
+use cfb_mini_table::count_consecutive;
 use cfb_runs::writing::zero_run;
-use cfb_table_words::stretch::stretch_at;
-use cfb_tables::consecutive::count_consecutive;
 use std::alloc::Allocator as Heap;
 
 /// How many bytes a sector has at most, and how many words (MS-CFB 2.2).

@@ -8,15 +8,17 @@ use Rattle.cfb_format.specs.Bytes.{end_of_chain, free_sector, max_regular_sector
 use Rattle.cfb_format.specs.Chain.{value, IsChain}
 use Rattle.cfb_format.specs.Full.{free_count}
 use Rattle.cfb_tables.specs.Tables.{wiped}
-use Rattle.cfb_tables.proofs.Members.{Contains-nil, Contains-one, distinct-left, value-below, value-past}
+use Rattle.cfb_tables.proofs.Members.{value-past}
 use Rattle.cfb_tables.proofs.ChainLemmas.{members-busy}
-use Rattle.cfb_mini_table.proofs.CountLemmas.{count-cons, bit_yes, bit_no}
-use Rattle.cfb_tables.proofs.FreeLemmas.{count-busy}
+use Rattle.cfb_mini_table.proofs.CountLemmas.{bit_yes, bit_no}
+use Rattle.cfb_tables.proofs.FreeLemmas.{count-busy, count-cons}
 use Rattle.cfb_tables.proofs.AttachLemmas.{wiped-freed, wiped-push, wiped-busy, behind-busy, start-busy, cut-freed}
 use Rattle.cfb_mini_table.specs.MiniTable.{trimmed, AreBusy, MiniGivesBack, ListsMiniFree, IsMini, EndsBusy}
 use Rattle.cfb_mini_table.specs.Steps.{Freeing}
 use Rattle.cfb_mini_table.proofs.EndLemmas.{trimmed-values, trimmed-busy, trimmed-shorter}
 use Rattle.cfb_mini_table.proofs.MiniFreeLemmas.{mini-push, mini-link}
+use Rattle.cfb_format.proofs.Members.{Contains-nil, Contains-one, distinct-left}
+use Rattle.cfb_format.proofs.Walks.{value-below}
 
 -- the members of a chain can be freed
 pub chain-busy : (table : List ℕ) (start : ℕ) (list : List ℕ) → IsChain table start list → AreBusy table list

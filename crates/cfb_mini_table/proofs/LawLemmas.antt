@@ -10,14 +10,15 @@ use Rattle.cfb_format.specs.Chain.{value, IsChain}
 use Rattle.cfb_format.specs.Full.{free_count}
 use Rattle.cfb_tables.specs.Changes.{AreDisjoint}
 use Rattle.cfb_tables.specs.Owners.{Takes, Frees}
-use Rattle.cfb_tables.proofs.Members.{Contains-here, distinct-apart, value-at, value-below}
-use Rattle.cfb_tables.proofs.ChainLemmas.{members-busy, chain-stays, other-chains-stay, chain-turn, chain-rest, chain_of}
+use Rattle.cfb_tables.proofs.ChainLemmas.{members-busy, chain-stays, other-chains-stay, chain-turn, chain-rest}
 use Rattle.cfb_tables.specs.Listed.{last_or_end, ends_of}
 use Rattle.cfb_tables.specs.Tables.{first_or_end}
 use Rattle.cfb_tables.proofs.ListedLemmas.{end_chain, last_split, what_is_left-ends}
 use Rattle.cfb_mini_table.specs.MiniTable.{MiniTableState, trimmed, EndsBusy, IsTooFewMini, IsPreparedMini, TakesMini, MiniGivesBack}
 use Rattle.cfb_mini_table.specs.Laws.{IsTrimmed, AgreesWithWords}
 use Rattle.cfb_mini_table.proofs.EndLemmas.{is_free, ends_at, trimmed-values, trimmed-busy, trimmed-shorter}
+use Rattle.cfb_format.proofs.Members.{Contains-here, distinct-apart}
+use Rattle.cfb_format.proofs.Walks.{value-at, value-below, chain_of}
 
 pub is-trimmed : (table : List ℕ) → IsTrimmed table (trimmed table)
 is-trimmed table = record { values = trimmed-values table; busy = trimmed-busy table; shorter = trimmed-shorter table }

@@ -1,3 +1,4 @@
+pub use Rattle.cfb_tables.proofs as cfb_tables
 pub mod CountLemmas
 pub mod EndLemmas
 pub mod MiniFreeLemmas

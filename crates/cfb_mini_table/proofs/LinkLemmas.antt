@@ -1,20 +1,24 @@
 -- Numbers that were taken are linked to a chain.
-use Rattle.std.proofs.Common.{◌≡◌, ◌≢◌, ℕ, ◌+◌, ◌-◌, ◌<◌, ◌≤◌, inl, inr, List, [], ◌∷◌, ◌++◌, length, set, take, drop, get_or, refl, sym, ◌∙◌, ap, subst, arith, length-set, length-append, length-drop, append_assoc, take-append-drop}
+use Rattle.std.proofs.Common.{◌≡◌, ◌≢◌, ℕ, ◌+◌, ◌-◌, ◌<◌, ◌≤◌, inl, inr, List, [], ◌∷◌, ◌++◌, length, set, take, drop, get_or, refl, sym, ◌∙◌, ap, subst, arith, length-set, length-append, append_assoc, take-append-drop}
 use Rattle.std.specs.Prelude.{Contains, nat_eq}
 use Rattle.std.specs.List.{IsDistinct}
-use Rattle.std.proofs.lemmas.List.{take_more, take_all}
+use Rattle.std.proofs.lemmas.List.{take_more}
 use Rattle.std.proofs.lemmas.List.Elements.{Contains-append_left, Contains-push}
 use Rattle.cfb_format.specs.Bytes.{end_of_chain, free_sector, max_regular_sector}
 use Rattle.cfb_format.specs.Chain.{value, IsChain}
 use Rattle.cfb_format.specs.Full.{free_count}
 use Rattle.std.proofs.lemmas.Bool.{cases_eq, cases_lt}
-use Rattle.cfb_tables.proofs.Members.{Contains-nil, Contains-here, Contains-there, Contains-cases, Contains-one, one_distinct, distinct-join, value-at, distinct-left, distinct-apart, value-below, value-set, value-set_other}
-use Rattle.cfb_tables.proofs.ChainLemmas.{chain_of, le-regular, members-busy, chain-turn, chain-rest, follows-values}
+use Rattle.cfb_tables.proofs.Members.{value-set, value-set_other}
+use Rattle.cfb_tables.proofs.ChainLemmas.{members-busy, chain-turn, chain-rest, follows-values}
 use Rattle.cfb_tables.proofs.FreeLemmas.{count-busy}
 use Rattle.cfb_mini_table.specs.MiniTable.{TakesMini, EndsBusy, TakesEndFirst}
 use Rattle.cfb_mini_table.proofs.MiniFreeLemmas.{mini-link}
 use Rattle.cfb_mini_table.specs.Steps.{Taking, CanLink, Links}
 use Rattle.cfb_mini_table.proofs.TakenLemmas.{none-left, taking-stays}
+use Rattle.cfb_format.proofs.Members.{Contains-nil, Contains-here, Contains-there, Contains-cases, Contains-one, one_distinct, distinct-join, distinct-left, distinct-apart}
+use Rattle.cfb_format.proofs.Walks.{value-below}
+use Rattle.cfb_tables.proofs.PreparedLemmas.{chain-one}
+use Rattle.cfb_tables.proofs.ListedLemmas.{rest-is}
 
 -- and this is the last of them
 pub record Linking (old new : List ℕ) (last : ℕ) (list : List ℕ) (end : ℕ) : Type 0 where
@@ -22,19 +26,10 @@ pub record Linking (old new : List ℕ) (last : ℕ) (list : List ℕ) (end : �
   pub front : List ℕ
   pub end_is : last ∷ list ≡ front ++ end ∷ []
 
-one-chain : (table : List ℕ) (x : ℕ) → value table x ≡ end_of_chain → x ≤ max_regular_sector → IsChain table x (x ∷ [])
-one-chain table x ended regular =
-    let below = value-below table x (λ e. omega (arith, e, ended)) in
-    let at : value table x ≡ end_of_chain = ended in
-    chain_of table x (x ∷ []) (refl, (λ e. omega (arith, e, regular)), below, sym (at_index below) ∙ at, le-regular x regular)
-  where
-    at_index : x < length table → value table x ≡ get_or table x 0
-    at_index lt = value-at table x lt
-
 pub linking-none : (table : List ℕ) (last : ℕ) → value table last ≡ end_of_chain → last ≤ max_regular_sector → Linking table table last [] last
 linking-none table last ended regular = record {
   links = record {
-    chain = one-chain table last ended regular;
+    chain = chain-one table last ended regular;
     only = λ i out. refl;
     same_length = refl;
     left = refl;
@@ -85,7 +80,7 @@ module _ (old mid : List ℕ) (last : ℕ) (done : List ℕ) (end x : ℕ) (so_f
       let below = value-below mid end end_busy in
       let len = length-set mid end x in
       let at_end : value new end ≡ x = value-set mid end x below in
-      let tail : IsChain new (value new end) (x ∷ []) = subst (λ k. IsChain new k (x ∷ [])) (sym at_end) (one-chain new x x_ends regular) in
+      let tail : IsChain new (value new end) (x ∷ []) = subst (λ k. IsChain new k (x ∷ [])) (sym at_end) (chain-one new x x_ends regular) in
       let turned : IsChain new last (front ++ end ∷ x ∷ []) = chain-turn mid new last front end [] (x ∷ [])
       (λ i m. value-set_other mid end i x (λ e. distinct-apart front (end ∷ []) whole.distinct i m (subst (Contains (end ∷ [])) (sym e) (Contains-here end []))))
       (omega (arith, below, len)) whole tail in
@@ -138,10 +133,6 @@ module _ (table : List ℕ) (last : ℕ) (list : List ℕ) (can : CanLink table 
       (linking-more table mid last done end this so_far (can.ends this this_in) (can.regular this this_in) apart)
 
 -- ---- what was taken is linked
-
--- the rest of a list, as it is sliced
-pub rest-is : (xs : List ℕ) (n : ℕ) → take (length xs - n) (drop n xs) ≡ drop n xs
-rest-is xs n = take_all (length xs - n) (drop n xs) (omega (arith, length-drop n xs))
 
 pub linked-trimmed : (mid new list : List ℕ) (last : ℕ) → EndsBusy mid → Links mid new last list → EndsBusy new
 linked-trimmed mid new list last busy l some e =

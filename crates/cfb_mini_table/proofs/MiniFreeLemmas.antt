@@ -6,12 +6,14 @@ use Rattle.std.proofs.lemmas.Bool.{cases_eq, cases_lt, eqb-true}
 use Rattle.cfb_format.specs.Bytes.{free_sector}
 use Rattle.cfb_format.specs.Chain.{value}
 use Rattle.cfb_tables.specs.Changes.{NoneFree}
-use Rattle.cfb_tables.proofs.Members.{Contains-nil, Contains-here, none_distinct, distinct-left, distinct-apart, distinct-join, distinct-push, value-below, value-set, value-set_other, value-left, value-right}
+use Rattle.cfb_tables.proofs.Members.{value-set, value-set_other, value-left, value-right}
 use Rattle.std.proofs.lemmas.Map.Steps.{length-le_from_distinct_below}
 use Rattle.std.proofs.lemmas.Map.Views.{Contains-from_any}
 use Rattle.cfb_tables.proofs.ListedLemmas.{last_pushed}
 use Rattle.cfb_tables.specs.Listed.{last_or_end}
 use Rattle.cfb_mini_table.specs.MiniTable.{ListsMiniFree, SameValues, EndsBusy, TakesEndFirst, AreBusy}
+use Rattle.cfb_format.proofs.Members.{Contains-nil, Contains-here, none_distinct, distinct-left, distinct-apart, distinct-join, distinct-push}
+use Rattle.cfb_format.proofs.Walks.{value-below}
 
 -- a number past the end is skipped
 pub mini-skip : (free table : List ℕ) (x : ℕ) → length table ≤ x → ListsMiniFree (free ++ x ∷ []) table → ListsMiniFree free table

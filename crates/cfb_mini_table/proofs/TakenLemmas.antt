@@ -8,10 +8,11 @@ use Rattle.cfb_format.specs.Bytes.{end_of_chain, free_sector}
 use Rattle.cfb_format.specs.Chain.{value}
 use Rattle.cfb_format.specs.Full.{free_count}
 use Rattle.cfb_tables.specs.Changes.{NoneFree}
-use Rattle.cfb_tables.proofs.Members.{Contains-nil, Contains-one, none_distinct, distinct-push, value-past, value-set, value-set_other, value-left, value-right}
+use Rattle.cfb_tables.proofs.Members.{value-past, value-set, value-set_other, value-left, value-right}
 use Rattle.cfb_tables.proofs.FreeLemmas.{count-set, count-none, count-zero}
 use Rattle.cfb_mini_table.specs.MiniTable.{TakesMini, EndsBusy}
 use Rattle.cfb_mini_table.specs.Steps.{TakesOne, Taking}
+use Rattle.cfb_format.proofs.Members.{Contains-nil, Contains-one, none_distinct, distinct-push}
 
 -- a free one
 pub one-set : (old : List ℕ) (x : ℕ) → x < length old → value old x ≡ free_sector → EndsBusy (set old x end_of_chain) → TakesOne old (set old x end_of_chain) x

@@ -4,3 +4,7 @@
 pub mod laws;
 pub mod mini_table;
 mod words;
+
+// What crates above name of those below.
+pub use cfb_tables::consecutive::count_consecutive;
+pub use cfb_tables::ends::{first_number, last_number};

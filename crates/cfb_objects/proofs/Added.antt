@@ -12,11 +12,11 @@ use Rattle.cfb_format.specs.Tree.{Objects, nothing, storage, stream, put_in_orde
 use Rattle.cfb_format.proofs.Unique.{Below-unique}
 use Rattle.cfb_rules.specs.CallChanges.{new_storage, new_stream, storage_added_at, stream_added_at, tree_changed_at}
 use Rattle.cfb_rules.specs.Finding.{last_name, parent_names}
-use Rattle.cfb_siblings.specs.Painted.{times_in}
-use Rattle.cfb_siblings.specs.Children.{HasInserted}
-use Rattle.cfb_siblings.specs.Laws.{IgnoresLinks, SameObject, StandsFor}
-use Rattle.cfb_siblings.proofs.Objects.{storage-is-put, stream-is-put}
-use Rattle.cfb_siblings.proofs.Tallies.{hit-cases, hit-small, once-distinct, outside}
+use Rattle.cfb_objects.specs.cfb_siblings.Painted.{times_in}
+use Rattle.cfb_objects.specs.cfb_siblings.Children.{HasInserted}
+use Rattle.cfb_objects.specs.cfb_siblings.Laws.{IgnoresLinks, SameObject, StandForObjects}
+use Rattle.cfb_objects.proofs.cfb_siblings.Objects.{storage-is-put, stream-is-put}
+use Rattle.cfb_objects.proofs.cfb_siblings.Tallies.{hit-cases, hit-small, once-distinct, outside}
 use Rattle.cfb_trees.proofs.Members.{free-is-apart, reached-once}
 use Rattle.cfb_trees.proofs.Parents.{parent-links}
 use Rattle.cfb_trees.proofs.Standing.{StandsAt, at-inner, at-held}
@@ -65,7 +65,7 @@ module _ (cases : Cases) (old new : List Entry) (c : Entry → List ℕ) (o o' x
   }
 
   -- what stands for the children now is in the tree
-  pub put-at : (F : Objects → Objects) → StandsFor cases new c (xs ++ n ∷ ys) (F (objects_from old c x)) → tree_from new c o' ≡ tree_changed_at cases F names (tree_from old c o)
+  pub put-at : (F : Objects → Objects) → StandForObjects cases new c (xs ++ n ∷ ys) (F (objects_from old c x)) → tree_from new c o' ≡ tree_changed_at cases F names (tree_from old c o)
   put-at F s = replaced-tree cases old new c c parent o x s.inside o' F is new_is ne kept
       (subst (λ (l : List ℕ). Below cases new (entry_at new parent).child l) (sym s.siblings_are) ins.now.below) s.contents s.objects_are names at
 
@@ -77,8 +77,8 @@ storage-is-added cases old new before after o o' names parent n entry xs ys mome
     (apart cases old new after o o' x (parent_names names) parent n entry xs ys is new_is at ne free ins ignores) ignores kind none in
     put-at cases old new after o o' x (parent_names names) parent n entry xs ys is new_is at ne free ins ignores
     (put_in_order cases (last_name names) (storage (last_name names) (new_storage moment) nothing))
-    (subst (λ (p : List ℕ). StandsFor cases new after (xs ++ n ∷ ys) (put_in_order cases p (storage p (new_storage moment) nothing) (objects_from old after x))) name
-    (subst (λ i. StandsFor cases new after (xs ++ n ∷ ys) (put_in_order cases entry.name (storage entry.name i nothing) (objects_from old after x))) info s))
+    (subst (λ (p : List ℕ). StandForObjects cases new after (xs ++ n ∷ ys) (put_in_order cases p (storage p (new_storage moment) nothing) (objects_from old after x))) name
+    (subst (λ i. StandForObjects cases new after (xs ++ n ∷ ys) (put_in_order cases entry.name (storage entry.name i nothing) (objects_from old after x))) info s))
     ∙ ap (storage_added_at cases moment names) (tree-stays old before after o contents)
 
 pub stream-is-added : StreamIsAdded
@@ -89,6 +89,6 @@ stream-is-added cases old new before after o o' names parent n entry xs ys is ne
     (apart cases old new after o o' x (parent_names names) parent n entry xs ys is new_is at ne free ins ignores) ignores kind in
     put-at cases old new after o o' x (parent_names names) parent n entry xs ys is new_is at ne free ins ignores
     (put_in_order cases (last_name names) (stream (last_name names) new_stream))
-    (subst (λ (p : List ℕ). StandsFor cases new after (xs ++ n ∷ ys) (put_in_order cases p (stream p new_stream) (objects_from old after x))) name
-    (subst (λ i. StandsFor cases new after (xs ++ n ∷ ys) (put_in_order cases entry.name (stream entry.name i) (objects_from old after x))) info s))
+    (subst (λ (p : List ℕ). StandForObjects cases new after (xs ++ n ∷ ys) (put_in_order cases p (stream p new_stream) (objects_from old after x))) name
+    (subst (λ i. StandForObjects cases new after (xs ++ n ∷ ys) (put_in_order cases entry.name (stream entry.name i) (objects_from old after x))) info s))
     ∙ ap (stream_added_at cases names) (tree-stays old before after o contents)

@@ -10,14 +10,14 @@ use Rattle.cfb_format.specs.Reading.{IsOutline, Outline, numbers}
 use Rattle.cfb_format.specs.Siblings.{Balanced, HangsAt, SiblingTree, black_counts, entry_at, in_order, is_red_apart, is_red_at, is_red_color, leaf, node}
 use Rattle.cfb_format.proofs.Balance.{Balanced-low}
 use Rattle.cfb_format.proofs.Unique.{HangsAt-unique}
-use Rattle.cfb_siblings.specs.Painted.{hit, times_in}
-use Rattle.cfb_siblings.proofs.Tallies.{hit-cases, hit-same, present, tally-append}
+use Rattle.cfb_objects.specs.cfb_siblings.Painted.{hit, times_in}
+use Rattle.cfb_objects.proofs.cfb_siblings.Tallies.{hit-cases, hit-same, present, tally-append}
 use Rattle.cfb_trees.specs.Balance.{AreAllBalanced, IsBalanced, StayBalanced}
-use Rattle.cfb_trees.specs.Changes.{ButFields}
 use Rattle.cfb_trees.specs.Reached.{IsReached}
 use Rattle.cfb_trees.proofs.Colored.{SamePaint, all-true, apart-kept, none-is-red, red-at-kept, true-all}
 use Rattle.cfb_trees.proofs.Standing.{at-held, at-inner, at-kind, owned-at}
 use Rattle.cfb_objects.specs.Balance.{BalancedIsRedApart, BalancedStoragesAreLow, FieldsKeepBalance}
+use Rattle.cfb_trees.proofs.Kept.{but-fields}
 
 -- ---- one sibling tree
 
@@ -99,17 +99,6 @@ fields-keep-balance old new k longer same was = (
 -- a storage with nothing in it
 pub nothing-hangs : (es : List Entry) (k : ℕ) → (entry_at es k).child ≡ no_stream → IsBalanced es k
 nothing-hangs es k none = (0, record { tree = leaf; hangs = none; black_top = none-is-red es (entry_at es k).child none; red_apart = refl; counts = (refl, tt) })
-
--- where contents alone changed
-but-fields : (a b : Entry) → ButContent a b → ButFields a b
-but-fields a b e = record {
-  name = ap (λ (x : Entry). x.name) e;
-  obj_type = ap (λ (x : Entry). x.obj_type) e;
-  color = ap (λ (x : Entry). x.color) e;
-  left_sibling = ap (λ (x : Entry). x.left_sibling) e;
-  right_sibling = ap (λ (x : Entry). x.right_sibling) e;
-  child = ap (λ (x : Entry). x.child) e;
-}
 
 pub content-keeps-balance : (old new : List Entry) (k : ℕ) → length new ≡ length old → ((j : ℕ) → ButContent (entry_at old j) (entry_at new j)) → IsBalanced old k → IsBalanced new k
 content-keeps-balance old new k longer same was = fields-keep-balance old new k (omega (arith, longer)) (λ j. but-fields (entry_at old j) (entry_at new j) (same j)) was

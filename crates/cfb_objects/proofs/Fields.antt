@@ -11,13 +11,12 @@ use Rattle.cfb_format.specs.Meaning.{objects_from, storage_info, stream_info}
 use Rattle.cfb_format.specs.Tree.{StorageInfo, StreamInfo, storage, stream, is_same_name}
 use Rattle.cfb_rules.specs.CallChanges.{with_fields, fields_changed_at, with_content, same_storage}
 use Rattle.cfb_rules.specs.Finding.{last_name, parent_names}
-use Rattle.cfb_siblings.specs.Painted.{hit, times_in}
-use Rattle.cfb_siblings.specs.Laws.{SameObject, SameLinks}
-use Rattle.cfb_siblings.specs.Paths.{number_named}
-use Rattle.cfb_siblings.proofs.Tallies.{hit-same, hit-cases, tally-append, counted, present}
-use Rattle.cfb_siblings.proofs.Outlines.{siblings-numbers, if-true, if-false}
-use Rattle.cfb_siblings.proofs.Kept.{objects-kept}
-use Rattle.cfb_trees.specs.Changes.{ButFields}
+use Rattle.cfb_objects.specs.cfb_siblings.Painted.{hit, times_in}
+use Rattle.cfb_objects.specs.cfb_siblings.Laws.{SameObject, SameLinks}
+use Rattle.cfb_objects.specs.cfb_siblings.Paths.{number_named}
+use Rattle.cfb_objects.proofs.cfb_siblings.Tallies.{hit-same, hit-cases, tally-append, counted, present}
+use Rattle.cfb_objects.proofs.cfb_siblings.Outlines.{siblings-numbers}
+use Rattle.cfb_objects.proofs.cfb_siblings.Kept.{objects-kept}
 use Rattle.cfb_trees.proofs.Members.{of-stream-kind, reached-once, root-is-no-stream, storage-is-no-stream}
 use Rattle.cfb_trees.proofs.Same.{outline-kept}
 use Rattle.cfb_trees.proofs.Standing.{StandsAt, at-inner, at-within, at-held}
@@ -26,6 +25,8 @@ use Rattle.cfb_objects.specs.Changes.{ChangesFields, MovesContentOf, OtherConten
 use Rattle.cfb_objects.specs.Laws.{FieldsChangeInPlace, ContentChangesInPlace}
 use Rattle.cfb_objects.proofs.Places.{place_from, place-of, no-place, same-place, leads-at, place-split, place-fits, leads-on, named-in}
 use Rattle.cfb_objects.proofs.Level.{KeptBeside, replaced-tree}
+use Rattle.cfb_format.proofs.Tests.{if-true, if-false}
+use Rattle.cfb_trees.proofs.Kept.{but-fields}
 
 module _ (cases : Cases) (old new : List Entry) (longer : length old ≤ length new) (before after : Entry → List ℕ) (i : ℕ) (name : List ℕ) (f : StorageInfo → StorageInfo) (g : StreamInfo → StreamInfo)
     (same-name : (entry_at new i).name ≡ (entry_at old i).name)
@@ -152,16 +153,6 @@ fields-change-in-place cases old new before after o names i f g is e did =
 
 -- ---- content
 
-content-fields : (a b : Entry) → ButContent a b → ButFields a b
-content-fields a b e = record {
-  name = ap (λ (x : Entry). x.name) e;
-  obj_type = ap (λ (x : Entry). x.obj_type) e;
-  color = ap (λ (x : Entry). x.color) e;
-  left_sibling = ap (λ (x : Entry). x.left_sibling) e;
-  right_sibling = ap (λ (x : Entry). x.right_sibling) e;
-  child = ap (λ (x : Entry). x.child) e;
-}
-
 module _ (cases : Cases) (old new : List Entry) (before after : Entry → List ℕ) (o : Outline) (i : ℕ) (xs : List ℕ) (is : IsOutline cases old o) (kind : (entry_at old i).obj_type ≡ Stream)
     (moves : MovesContentOf old new i) (content : after (entry_at new i) ≡ xs) (len : length xs ≡ (entry_at new i).stream_len) (others : OtherContentsStay old new before after o i) where
   -- start and length alone may differ, whichever entry it is
@@ -206,7 +197,7 @@ module _ (cases : Cases) (old new : List Entry) (before after : Entry → List �
   content-changes = record {
     same_length = moves.same_length;
     root_len = root-len-is;
-    kept = λ k. content-fields (entry_at old k) (entry_at new k) (entry-is k).0;
+    kept = λ k. but-fields (entry_at old k) (entry_at new k) (entry-is k).0;
     storage = λ ne. absurd (ne kind);
     stream = λ s d. record { state_bits = (moves.own d).state_bits; len = sym len d; content = content d };
     others = same-beside;

@@ -15,19 +15,19 @@ use Rattle.cfb_format.specs.Reading.{Outline, no_more, storage_at, stream_at, si
 use Rattle.cfb_format.specs.Meaning.{objects_from, storage_info, stream_info}
 use Rattle.cfb_format.specs.Tree.{Object, a_storage, a_stream, Found, is_same_name, object_named}
 use Rattle.cfb_outline.specs.Outlines.{HasInside}
-use Rattle.cfb_siblings.specs.Painted.{times_in}
-use Rattle.cfb_siblings.specs.Paths.{number_named, number_from}
-use Rattle.cfb_siblings.proofs.Outlines.{if-true, if-false}
-use Rattle.cfb_siblings.proofs.Put.{nothing-below}
-use Rattle.cfb_siblings.proofs.Tallies.{hit-same, hit-none, tally-append, counted}
+use Rattle.cfb_objects.specs.cfb_siblings.Painted.{times_in}
+use Rattle.cfb_objects.specs.cfb_siblings.Paths.{number_named, number_from}
+use Rattle.cfb_objects.proofs.cfb_siblings.Put.{nothing-below}
+use Rattle.cfb_objects.proofs.cfb_siblings.Tallies.{hit-same, hit-none, tally-append, counted}
 use Rattle.cfb_trees.proofs.Members.{storage-is-no-stream, root-is-no-stream, below-once, no-root}
-use Rattle.cfb_trees.proofs.PathDown.{is-stream}
 use Rattle.cfb_trees.proofs.Standing.{Stands, StandsAt, stands-inner, at-held, stands-at}
 use Rattle.cfb_rules.specs.Finding.{child_named, found_from, found_at, object_at}
 use Rattle.cfb_rules.specs.CallRefusals.{is_empty_storage}
 use Rattle.cfb_objects.specs.Objects.{found_inside, inside_of, object_of, found_of, tree_from}
 use Rattle.cfb_objects.specs.Laws.{ObjectIsAtItsEntry, ObjectIsAtItsPath, FoundIsAtItsEntry, StreamIsByKind, StorageIsByKind, InsideIsBelow, EmptyIsByChild}
 use Rattle.cfb_objects.proofs.Places.{place_from, Fits, named-fits, number-is, leads-at}
+use Rattle.cfb_format.proofs.Tests.{if-true, if-false}
+use Rattle.cfb_objects.proofs.cfb_siblings.PathWalk.{is-stream-or}
 
 -- ---- by kind
 
@@ -121,7 +121,7 @@ module _ (cases : Cases) (es : List Entry) (c : Entry → List ℕ) where
       go false next = next
 
   child-found : (name : List ℕ) (p : ℕ × Outline) → Fits cases es p → child_named cases name (object_with p) ≡ option_map found_with (number_named cases es name p.1)
-  child-found name p fits = elim (is-stream (entry_at es p.0).obj_type) [
+  child-found name p fits = elim (is-stream-or (entry_at es p.0).obj_type) [
     | inl s ↦
         ap (child_named cases name) (stream-kind (entry_at es p.0).obj_type (a_stream (stream_info c (entry_at es p.0))) (a_storage (storage_info (entry_at es p.0)) (objects_from es c p.1)) s)
         ∙ ap (λ (x : Outline). option_map found_with (number_named cases es name x)) (sym (fits.1 s))
@@ -157,7 +157,7 @@ module _ (cases : Cases) (es : List Entry) (c : Entry → List ℕ) where
 
     -- the object by its number alone
     by-number : (names : List (List ℕ)) (p : ℕ × Outline) → place_from cases es (0, o) names ≡ Some p → object_with p ≡ object_of es c o p.0
-    by-number names p e = elim (is-stream (entry_at es p.0).obj_type) [
+    by-number names p e = elim (is-stream-or (entry_at es p.0).obj_type) [
       | inl s ↦ stream-kind (entry_at es p.0).obj_type (a_stream (stream_info c (entry_at es p.0))) (a_storage (storage_info (entry_at es p.0)) (objects_from es c p.1)) s ∙ sym (stream-by-kind es c o p.0 s)
       | inr ne ↦ ap (λ (x : Outline). object_with (p.0, x)) (sym (inside-is cases es o is p.0 p.1 (leads-at cases es p.0 p.1 ne o names is.contents e)))
     ]

@@ -9,9 +9,9 @@ use Rattle.cfb_format.specs.Reading.{Outline, no_more, storage_at, stream_at, si
 use Rattle.cfb_format.specs.Tree.{is_same_name}
 use Rattle.cfb_format.proofs.Unique.{Below-unique}
 use Rattle.cfb_rules.specs.Finding.{last_name, parent_names}
-use Rattle.cfb_siblings.specs.Children.{HasChildren, IsAbsent, IsChildNamed}
-use Rattle.cfb_siblings.specs.Paths.{number_named, number_from, LeadsOn}
-use Rattle.cfb_siblings.proofs.Tallies.{present}
+use Rattle.cfb_objects.specs.cfb_siblings.Children.{HasChildren, IsAbsent, IsChildNamed}
+use Rattle.cfb_objects.specs.cfb_siblings.Paths.{number_named, number_from, LeadsOn}
+use Rattle.cfb_objects.proofs.cfb_siblings.Tallies.{present}
 use Rattle.cfb_trees.proofs.Members.{root-is-no-stream}
 use Rattle.cfb_trees.proofs.Standing.{at-held}
 use Rattle.cfb_objects.specs.Laws.{LastNameLeadsOn, FoundHasParent}

@@ -8,19 +8,19 @@ use Rattle.cfb_format.specs.Siblings.{entry_at, Below}
 use Rattle.cfb_format.specs.Reading.{Outline, no_more, storage_at, stream_at, siblings, numbers, HasContents, IsOutline}
 use Rattle.cfb_format.specs.Meaning.{objects_from, storage_info}
 use Rattle.cfb_format.specs.Tree.{Objects, storage, stream, is_same_name}
-use Rattle.cfb_format.proofs.Unique.{Below-unique}
+use Rattle.cfb_format.proofs.Unique.{Below-unique, outline-unique}
 use Rattle.cfb_rules.specs.CallChanges.{inside_changed, changed_at, tree_changed_at}
-use Rattle.cfb_siblings.specs.Painted.{hit, times_in}
-use Rattle.cfb_siblings.specs.Laws.{SameObject, SameLinks, SameEntry}
-use Rattle.cfb_siblings.specs.Paths.{number_named}
-use Rattle.cfb_siblings.proofs.Tallies.{hit-same, hit-cases, hit-none, tally-append}
-use Rattle.cfb_siblings.proofs.Outlines.{siblings-numbers, if-true, if-false}
-use Rattle.cfb_siblings.proofs.Kept.{below-kept, contents-kept, objects-kept}
+use Rattle.cfb_objects.specs.cfb_siblings.Painted.{hit, times_in}
+use Rattle.cfb_objects.specs.cfb_siblings.Laws.{SameObject, SameLinks, SameEntry}
+use Rattle.cfb_objects.specs.cfb_siblings.Paths.{number_named}
+use Rattle.cfb_objects.proofs.cfb_siblings.Tallies.{hit-same, hit-cases, hit-none, tally-append}
+use Rattle.cfb_objects.proofs.cfb_siblings.Outlines.{siblings-numbers}
+use Rattle.cfb_objects.proofs.cfb_siblings.Kept.{below-kept, contents-kept, objects-kept}
 use Rattle.cfb_trees.proofs.Members.{reached-once}
 use Rattle.cfb_trees.proofs.Standing.{Stands, stands-inner, stands-beside}
 use Rattle.cfb_objects.specs.Objects.{tree_from}
 use Rattle.cfb_objects.proofs.Places.{place_from, no-place, same-place, leads}
-use Rattle.cfb_objects.proofs.Same.{same-outline}
+use Rattle.cfb_format.proofs.Tests.{if-true, if-false}
 
 -- the other outline: the same first level, and the objects with that change
 pub record Replaced (cases : Cases) (old new : List Entry) (before after : Entry → List ℕ) (o o' : Outline) (G : Objects → Objects) : Type 0 where
@@ -197,7 +197,7 @@ module _ (cases : Cases) (old new : List Entry) (before after : Entry → List �
     (objects : objects_from new after x' ≡ F (objects_from old before x)) where
   -- the outline of the new entries is told by its first level
   outline-is : (o' : Outline) → Below cases new (entry_at new 0).child (siblings o') → HasContents cases new o' → p ≡ o'
-  outline-is o' b h = same-outline cases new p o' (Below-unique cases new (entry_at new 0).child (siblings p) (siblings o') new_is.children b) new_is.contents h
+  outline-is o' b h = outline-unique cases new p o' (Below-unique cases new (entry_at new 0).child (siblings p) (siblings o') new_is.children b) new_is.contents h
 
   pub replaced-tree : (names : List (List ℕ)) → place_from cases old (0, o) names ≡ Some (q, x) → tree_from new after p ≡ tree_changed_at cases F names (tree_from old before o)
   unfolding times_in

@@ -8,9 +8,9 @@ use Rattle.cfb_format.specs.DirectoryEntry.{Entry}
 use Rattle.cfb_format.specs.Siblings.{entry_at}
 use Rattle.cfb_format.specs.Reading.{Outline, no_more, storage_at, stream_at, siblings, HasContents}
 use Rattle.cfb_format.specs.Tree.{is_same_name}
-use Rattle.cfb_siblings.specs.Painted.{hit, times_in}
-use Rattle.cfb_siblings.specs.Paths.{number_named, number_from}
-use Rattle.cfb_siblings.proofs.Tallies.{hit-same}
+use Rattle.cfb_objects.specs.cfb_siblings.Painted.{hit, times_in}
+use Rattle.cfb_objects.specs.cfb_siblings.Paths.{number_named, number_from}
+use Rattle.cfb_objects.proofs.cfb_siblings.Tallies.{hit-same}
 use Rattle.cfb_trees.proofs.Members.{storage-is-no-stream}
 use Rattle.cfb_trees.proofs.Standing.{Stands, StandsAt}
 use Rattle.cfb_rules.specs.Finding.{last_name, parent_names}

@@ -1,46 +1,20 @@
 -- Where entries, contents and outlines are the same.
-use Rattle.std.proofs.Common.{◌≡◌, ℕ, ◌≤◌, List, refl, ap, subst, arith}
-use Rattle.cfb_format.specs.declared.objtype.ObjType.TheVariants.{Storage, Stream}
+use Rattle.std.proofs.Common.{◌≡◌, ℕ, ◌≤◌, List, refl, ap, arith}
 use Rattle.cfb_format.specs.Content.{readable}
-use Rattle.cfb_format.specs.Names.{Cases}
 use Rattle.cfb_format.specs.DirectoryEntry.{Entry}
-use Rattle.cfb_format.specs.Siblings.{entry_at, Below}
-use Rattle.cfb_format.specs.Reading.{Outline, no_more, storage_at, stream_at, siblings, stream_numbers, HasContents}
+use Rattle.cfb_format.specs.Siblings.{entry_at}
+use Rattle.cfb_format.specs.Reading.{Outline, no_more, storage_at, stream_at, stream_numbers}
 use Rattle.cfb_format.specs.Meaning.{objects_from, storage_info, stream_info}
 use Rattle.cfb_format.specs.Tree.{storage, stream}
-use Rattle.cfb_format.proofs.Unique.{Below-unique}
-use Rattle.cfb_siblings.specs.Children.{ButLinks}
-use Rattle.cfb_siblings.specs.Laws.{SameObject, SameEntry, IgnoresLinks, grown_by}
-use Rattle.cfb_siblings.specs.Painted.{times_in}
-use Rattle.cfb_siblings.specs.Way.{unlinked}
-use Rattle.cfb_siblings.proofs.Put.{same-head, same-tail}
-use Rattle.cfb_siblings.proofs.Tallies.{hit-same, present, tally-append}
-use Rattle.cfb_trees.proofs.Members.{storage-is-no-stream}
+use Rattle.cfb_objects.specs.cfb_siblings.Children.{ButLinks}
+use Rattle.cfb_objects.specs.cfb_siblings.Laws.{SameObject, SameEntry, IgnoresLinks, grown_by}
+use Rattle.cfb_objects.specs.cfb_siblings.Painted.{times_in}
+use Rattle.cfb_objects.specs.cfb_siblings.Way.{unlinked}
+use Rattle.cfb_objects.proofs.cfb_siblings.Tallies.{hit-same, present, tally-append}
 use Rattle.cfb_trees.proofs.Same.{grown-at}
 use Rattle.cfb_objects.specs.Objects.{tree_from}
 use Rattle.cfb_objects.specs.Changes.{ContentsStay}
 use Rattle.cfb_objects.specs.Laws.{GrowthKeepsTree, ReadableIgnoresLinks}
-
--- ---- outlines
-
--- what is below a list of siblings is one outline
-pub same-outline : (cases : Cases) (es : List Entry) (o p : Outline) → siblings o ≡ siblings p → HasContents cases es o → HasContents cases es p → o ≡ p
-same-outline cases es no_more no_more e a b = refl
-same-outline cases es no_more (storage_at j inside rest) e a b = cc
-same-outline cases es no_more (stream_at j rest) e a b = cc
-same-outline cases es (storage_at i inside rest) no_more e a b = cc
-same-outline cases es (stream_at i rest) no_more e a b = cc
-same-outline cases es (storage_at i inside rest) (stream_at j rest') e a b =
-    absurd (storage-is-no-stream (entry_at es j).obj_type (subst (λ (n : ℕ). (entry_at es n).obj_type ≡ Storage) (same-head i j (siblings rest) (siblings rest') e) a.0) b.0)
-same-outline cases es (stream_at i rest) (storage_at j inside rest') e a b =
-    absurd (storage-is-no-stream (entry_at es j).obj_type b.0 (subst (λ (n : ℕ). (entry_at es n).obj_type ≡ Stream) (same-head i j (siblings rest) (siblings rest') e) a.0))
-same-outline cases es (storage_at i inside rest) (storage_at j inside' rest') e a b =
-    let s : i ≡ j = same-head i j (siblings rest) (siblings rest') e in
-    let same : siblings inside ≡ siblings inside' =
-    Below-unique cases es (entry_at es j).child (siblings inside) (siblings inside') (subst (λ (n : ℕ). Below cases es (entry_at es n).child (siblings inside)) s a.1) b.1 in
-    λ d. storage_at (s d) (same-outline cases es inside inside' same a.2 b.2 d) (same-outline cases es rest rest' (same-tail i j (siblings rest) (siblings rest') e) a.3 b.3 d)
-same-outline cases es (stream_at i rest) (stream_at j rest') e a b =
-    λ d. stream_at (same-head i j (siblings rest) (siblings rest') e d) (same-outline cases es rest rest' (same-tail i j (siblings rest) (siblings rest') e) a.1 b.1 d)
 
 -- ---- contents
 

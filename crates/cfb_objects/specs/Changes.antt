@@ -7,7 +7,7 @@ use Rattle.cfb_format.specs.Siblings.{entry_at}
 use Rattle.cfb_format.specs.Reading.{Outline, stream_numbers}
 use Rattle.cfb_format.specs.Meaning.{storage_info, stream_info}
 use Rattle.cfb_format.specs.Tree.{StorageInfo, StreamInfo}
-use Rattle.cfb_siblings.specs.Laws.{SameObject}
+use Rattle.cfb_objects.specs.cfb_siblings.Laws.{SameObject}
 use Rattle.cfb_trees.specs.Changes.{ButFields}
 use Rattle.cfb_trees.specs.Reached.{IsReached}
 use Rattle.cfb_format.specs.DirectoryEntry.{ButContent}

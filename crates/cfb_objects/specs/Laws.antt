@@ -11,9 +11,9 @@ use Rattle.cfb_format.specs.Reading.{Outline, IsOutline, Reading, Reads}
 use Rattle.cfb_format.specs.Meaning.{Means, objects_from, storage_info, stream_info, tree_of}
 use Rattle.cfb_format.specs.Tree.{Tree, StorageInfo, StreamInfo, a_storage, a_stream}
 use Rattle.cfb_outline.specs.Outlines.{HasInside}
-use Rattle.cfb_siblings.specs.Children.{HasInserted}
-use Rattle.cfb_siblings.specs.Laws.{IgnoresLinks, grown_by}
-use Rattle.cfb_siblings.specs.Paths.{LeadsOn, number_at_path, number_from}
+use Rattle.cfb_objects.specs.cfb_siblings.Children.{HasInserted}
+use Rattle.cfb_objects.specs.cfb_siblings.Laws.{IgnoresLinks, grown_by}
+use Rattle.cfb_objects.specs.cfb_siblings.Paths.{LeadsOn, number_at_path, number_from}
 use Rattle.cfb_trees.specs.Reached.{IsReached}
 use Rattle.cfb_rules.specs.CallChanges.{content_changed_at, fields_changed_at, new_storage, new_stream, storage_added_at, stream_added_at}
 use Rattle.cfb_rules.specs.CallRefusals.{is_empty_storage}

@@ -13,16 +13,16 @@ use Rattle.cfb_format.specs.Names.{Cases}
 use Rattle.cfb_format.specs.Reading.{IsStrict, IsStrictCount, Outline, Reading, root_entry}
 use Rattle.cfb_format.specs.Siblings.{entry_at}
 use Rattle.cfb_format.proofs.Unique.{IsChain-unique, IsDirectory-unique}
-use Rattle.cfb_tables.specs.Tables.{AreSizes, TableState, sizes_of}
+use Rattle.cfb_opening.specs.cfb_tables.Tables.{AreSizes, TableState, sizes_of}
 use Rattle.cfb_alloc.specs.Alloc.{AllocatorState}
-use Rattle.cfb_entries.specs.EntryList.{HaveShortNames}
+use Rattle.cfb_opening.specs.cfb_entries.EntryList.{HaveShortNames}
 use Rattle.cfb_outline.specs.Outlines.{AcceptsOutline}
 use Rattle.cfb_reading.specs.ReadDirectory.{AcceptsDirectory}
 use Rattle.cfb_reading.specs.ReadMinifat.{AcceptsMinifat, MinifatIsMadeOfWords, WordsMakeTheMinifat}
-use Rattle.cfb_directory.specs.State.{DirectoryState}
-use Rattle.cfb_mini_table.specs.MiniTable.{AcceptsMini, read_entries}
-use Rattle.cfb_mini_sectors.specs.State.{MiniState, parts_of}
-use Rattle.cfb_mini.specs.Changing.{AreMinifatSectors, root_len_in}
+use Rattle.cfb_opening.specs.cfb_directory.State.{DirectoryState}
+use Rattle.cfb_opening.specs.cfb_mini_table.MiniTable.{AcceptsMini, read_entries}
+use Rattle.cfb_opening.specs.cfb_mini_sectors.State.{MiniState, parts_of}
+use Rattle.cfb_opening.specs.cfb_mini.Changing.{AreMinifatSectors, root_len_in}
 use Rattle.cfb_opening.specs.Acceptable.{IsAcceptable, IsRefused}
 use Rattle.cfb_opening.specs.Known.{KnowsDirectory, KnowsParts, KnowsTables, KnowsWords}
 use Rattle.cfb_opening.specs.KnownMinis.{KnowsMinis}

@@ -12,7 +12,7 @@ use Rattle.cfb_format.specs.Names.{Cases}
 use Rattle.cfb_format.specs.Reading.{IsStrict, Reading}
 use Rattle.cfb_sectors.specs.Sectors.{SectorFile}
 use Rattle.cfb_alloc.specs.Alloc.{AllocatorState, IsMeasured}
-use Rattle.cfb_entries.specs.EntryList.{HaveShortNames}
+use Rattle.cfb_opening.specs.cfb_entries.EntryList.{HaveShortNames}
 use Rattle.cfb_reading.specs.ReadDirectory.{AcceptsDirectory, AreFromSlots, FillsSlots, NoDirectory}
 use Rattle.cfb_reading.specs.ReadMinifat.{HasMinifatWords, NoMinifatWords}
 use Rattle.cfb_opening.specs.Acceptable.{IsAcceptable, IsRefused}

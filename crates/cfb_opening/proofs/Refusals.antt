@@ -5,7 +5,7 @@ use Rattle.cfb_format.specs.Refused.{CountsError, IsInvalidOrMemory}
 use Rattle.cfb_format.specs.declared.error.Error.{Error}
 use Rattle.cfb_format.specs.declared.error.Error.TheVariants.{NotFound, AlreadyExists, InvalidInput, InvalidData, Medium, Memory, Full, Unsound, Failed}
 use Rattle.cfb_format.specs.declared.medium.MediumFault.{MediumFault}
-use Rattle.cfb_tables.specs.Refused.{ChangeRefused, TableRefused}
+use Rattle.cfb_opening.specs.cfb_tables.Refused.{ChangeRefused, TableRefused}
 use Rattle.cfb_reading.specs.PartRefused.{PartRefused}
 
 module _ (tells : Bool) (can_give : MediumFault → Bool) (P Q : Type 0) (turn : IsTrue tells → P → Q) where

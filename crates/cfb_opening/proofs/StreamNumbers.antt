@@ -7,9 +7,7 @@ use Rattle.cfb_format.specs.Names.{Cases}
 use Rattle.cfb_format.specs.Reading.{HasContents, Outline, no_more, numbers, storage_at, stream_at, stream_numbers}
 use Rattle.cfb_outline.specs.Families.{is_stream_kind}
 use Rattle.cfb_opening.specs.Streams.{is_stream_at}
-
-left-out : (p : ℕ → Bool) (i : ℕ) (rest : List ℕ) → p i ≡ false → filter p (i ∷ rest) ≡ filter p rest
-left-out p i rest e = rw e refl
+use Rattle.cfb_opening.proofs.cfb_content.Owned.{filter-no}
 
 taken : (p : ℕ → Bool) (i : ℕ) (rest : List ℕ) → p i ≡ true → filter p (i ∷ rest) ≡ i ∷ filter p rest
 taken p i rest e = rw e refl
@@ -18,7 +16,7 @@ module _ (cases : Cases) (entries : List Entry) where
   pub streams-among : (o : Outline) → HasContents cases entries o → filter (is_stream_at entries) (numbers o) ≡ stream_numbers o
   streams-among no_more h = refl
   streams-among (storage_at i inside rest) h =
-      left-out (is_stream_at entries) i (numbers inside ++ numbers rest) (ap is_stream_kind h.0) ∙ filter-append (is_stream_at entries) (numbers inside) (numbers rest)
+      filter-no (is_stream_at entries) i (numbers inside ++ numbers rest) (ap is_stream_kind h.0) ∙ filter-append (is_stream_at entries) (numbers inside) (numbers rest)
       ∙ ap (λ xs. xs ++ filter (is_stream_at entries) (numbers rest)) (streams-among inside h.2) ∙ ap (λ xs. stream_numbers inside ++ xs) (streams-among rest h.3)
   streams-among (stream_at i rest) h =
       taken (is_stream_at entries) i (numbers rest) (ap is_stream_kind h.0) ∙ ap (λ xs. i ∷ xs) (streams-among rest h.1)

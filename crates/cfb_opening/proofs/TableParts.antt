@@ -11,8 +11,8 @@ use Rattle.cfb_format.specs.Names.{Cases}
 use Rattle.cfb_format.specs.Reading.{IsStrict, Reading}
 use Rattle.cfb_format.specs.Soundness.{PointsIntoFile}
 use Rattle.cfb_format.proofs.Unique.{IsDifat-unique, IsFat-unique, IsHeader-unique}
-use Rattle.cfb_tables.specs.ReadFat.{AcceptsFat, AcceptsNoFat}
-use Rattle.cfb_tables.specs.Tables.{TableState, tables_of}
+use Rattle.cfb_opening.specs.cfb_tables.ReadFat.{AcceptsFat, AcceptsNoFat}
+use Rattle.cfb_opening.specs.cfb_tables.Tables.{TableState, tables_of}
 use Rattle.cfb_sectors.specs.Sectors.{SectorFile}
 use Rattle.cfb_alloc.specs.Alloc.{AllocatorState, AreListed, IsMeasured}
 use Rattle.cfb_reading.specs.Difat.{AcceptsDifat, AcceptsNoDifat}

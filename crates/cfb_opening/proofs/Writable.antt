@@ -1,5 +1,5 @@
 -- An entry that was read from a slot and is in use can be written into a slot.
-use Rattle.std.proofs.Common.{◌≡◌, ◌≢◌, ℕ, ◌<◌, ◌≤◌, List, false, length, refl, arith, subst, sym}
+use Rattle.std.proofs.Common.{◌≡◌, ◌≢◌, ℕ, ◌≤◌, List, false, length, refl, subst, sym}
 use Rattle.std.specs.Prelude.{IsTrue}
 use Rattle.std.specs.List.{list_any}
 use Rattle.std.proofs.lemmas.Bool.{le-leb}
@@ -7,13 +7,13 @@ use Rattle.cfb_format.specs.declared.objtype.ObjType.{ObjType}
 use Rattle.cfb_format.specs.declared.objtype.ObjType.TheVariants.{Root, Storage, Stream, Unallocated}
 use Rattle.cfb_format.specs.declared.validate.Validation.{Validation}
 use Rattle.cfb_format.specs.declared.version.Version.{Version}
-use Rattle.cfb_format.specs.declared.version.Version.TheVariants.{V3, V4}
-use Rattle.cfb_format.specs.Bytes.{max_stream_len, stream_len_modulus}
+use Rattle.cfb_format.specs.Bytes.{max_stream_len}
 use Rattle.cfb_format.specs.DirectoryEntry.{Entry, IsAllowedChild, IsAllowedName, IsEntry, IsNameFor, IsValidEntry, is_entry_link, name_for, nil_clsid, stored_name, unless_storage, unless_stream}
 use Rattle.cfb_format.specs.Names.{is_forbidden_character, is_valid_name, max_name_len, utf16_units}
 use Rattle.cfb_format.specs.Siblings.{entry_at}
-use Rattle.cfb_directory.specs.State.{AreWritable}
+use Rattle.cfb_opening.specs.cfb_directory.State.{AreWritable}
 use Rattle.cfb_reading.specs.ReadDirectory.{AreFromSlots}
+use Rattle.cfb_format.proofs.Slots.{in-version}
 
 valid-name : (name : List ℕ) → length (utf16_units name) ≤ max_name_len → list_any is_forbidden_character name ≡ false → IsTrue (is_valid_name name)
 valid-name name short allowed = rw (le-leb (length (utf16_units name)) max_name_len short, allowed) refl
@@ -36,10 +36,6 @@ storage-kept Unallocated x y is = refl
 storage-kept Storage x y is = is
 storage-kept Stream x y is = refl
 storage-kept Root x y is = refl
-
-in-version : (version : Version) (n : ℕ) → n ≤ max_stream_len version → n < stream_len_modulus version
-in-version V3 n most = omega (arith, most)
-in-version V4 n most = omega (arith, most)
 
 valid : (version : Version) (slot : List ℕ) (e : Entry) → IsEntry version slot e → length (utf16_units e.name) ≤ max_name_len
     → e.stream_len ≤ max_stream_len version → e.obj_type ≢ Unallocated → IsValidEntry version e

@@ -12,14 +12,14 @@ use Rattle.cfb_format.specs.Names.{Cases}
 use Rattle.cfb_format.specs.Reading.{HasLength, IsStrictCount, Outline, Reading, no_more}
 use Rattle.cfb_format.specs.Soundness.{PointsIntoFile}
 use Rattle.cfb_sectors.specs.Sectors.{SectorFile}
-use Rattle.cfb_tables.specs.Tables.{TableState}
+use Rattle.cfb_opening.specs.cfb_tables.Tables.{TableState}
 use Rattle.cfb_alloc.specs.Alloc.{AllocatorState}
-use Rattle.cfb_entries.specs.EntryList.{HaveShortNames}
+use Rattle.cfb_opening.specs.cfb_entries.EntryList.{HaveShortNames}
 use Rattle.cfb_outline.specs.Outlines.{AcceptsOutline}
 use Rattle.cfb_reading.specs.Difat.{AcceptsDifat}
 use Rattle.cfb_reading.specs.ReadDirectory.{AcceptsDirectory}
 use Rattle.cfb_reading.specs.ReadMinifat.{HasMinifatWords}
-use Rattle.cfb_directory.specs.State.{AreWritable, DirectoryState}
+use Rattle.cfb_opening.specs.cfb_directory.State.{AreWritable, DirectoryState}
 
 -- ---- the header
 

@@ -6,9 +6,9 @@ use Rattle.cfb_format.specs.Content.{mini_stream_chain}
 use Rattle.cfb_format.specs.Full.{max_mini_sectors}
 use Rattle.cfb_format.specs.Header.{IfStrict}
 use Rattle.cfb_format.specs.Names.{Cases}
-use Rattle.cfb_tables.specs.Tables.{AreSizes, sizes_of}
+use Rattle.cfb_opening.specs.cfb_tables.Tables.{AreSizes, sizes_of}
 use Rattle.cfb_reading.specs.ReadMinifat.{AcceptsMinifat}
-use Rattle.cfb_mini_sectors.specs.State.{MiniState, parts_of, root_len_of, tables_in, version_of}
+use Rattle.cfb_opening.specs.cfb_mini_sectors.State.{MiniState, parts_of, root_len_of, tables_in, version_of}
 use Rattle.cfb_opening.specs.Known.{KnowsDirectory}
 
 -- it takes all parts

@@ -1,3 +1,9 @@
+pub use Rattle.cfb_reading.specs.cfb_entries
+pub use Rattle.cfb_alloc.specs.cfb_tables
+pub use Rattle.cfb_reading.specs.cfb_mini_table
+pub use Rattle.cfb_agreement.specs.cfb_directory
+pub use Rattle.cfb_agreement.specs.cfb_mini_sectors
+pub use Rattle.cfb_agreement.specs.cfb_mini
 pub mod Acceptable
 pub mod Known
 pub mod KnownMinis

@@ -4,21 +4,20 @@ ghost use Rattle.cfb_format.specs.declared.header.Header.{Header as HeaderOf};
 ghost use Rattle.cfb_format.specs.Header.{IfStrict};
 ghost use Rattle.cfb_format.specs.Reading.{IsStrictCount};
 ghost use Rattle.cfb_format.specs.Refused.{IsInvalidData};
-ghost use Rattle.cfb_mini_sectors.specs.State.{cases_of, table_of};
+ghost use Rattle.cfb_opening.specs.cfb_mini_sectors.State.{cases_of, table_of};
 ghost use Rattle.cfb_reading.specs.PartRefused.{PartRefused};
 ghost use Rattle.cfb_opening.specs.Acceptable.{IsRefused};
 ghost use Rattle.cfb_opening.specs.Known.{KnowsDirectory, KnowsWords};
 ghost use Rattle.cfb_opening.specs.KnownMinis.{KnowsMinis};
 
 use crate::parts::{FileParts, read_parts};
+use cfb_agreement::{Directory, MiniAllocator};
 use cfb_codecs::path::CaseMapper;
-use cfb_directory::directory::Directory;
 use cfb_format::error::{Detail, Error};
 use cfb_format::header::Header;
 use cfb_format::medium::ReadMedium;
 use cfb_format::validate::Validation;
 use cfb_format::version::Version;
-use cfb_mini::mini_allocator::MiniAllocator;
 use cfb_reading::laws::words_make_the_minifat;
 use std::alloc::Allocator as Heap;
 

@@ -1,16 +1,16 @@
 //! Opening a compound file of any shape (MS-CFB 2.2 to 2.6).
 ghost use Rattle.std.specs.Prelude.{◌≡◌, false, min, IsTrue, IfErr, IfOk, MatchResult};
 ghost use Rattle.cfb_format.specs.Bytes.{max_regular_sector};
-ghost use Rattle.cfb_mini_sectors.specs.State.{cases_of, table_of, tables_in};
+ghost use Rattle.cfb_opening.specs.cfb_mini_sectors.State.{cases_of, table_of, tables_in};
 ghost use Rattle.cfb_opening.specs.Opened.{IsOfOpening, IsOpened, OpeningRefused};
 
 use crate::minis::{Minis, open_minis};
 use crate::soundness::is_sound;
+use cfb_agreement::MiniAllocator;
 use cfb_codecs::path::CaseMapper;
 use cfb_format::error::Error;
 use cfb_format::medium::ReadMedium;
 use cfb_format::validate::Validation;
-use cfb_mini::mini_allocator::MiniAllocator;
 use std::alloc::{Allocator as Heap, Global};
 
 /// A file that was opened.

@@ -6,13 +6,13 @@ ghost use Rattle.cfb_format.specs.Names.{Cases};
 ghost use Rattle.cfb_format.specs.Reading.{IsOutline, Outline};
 ghost use Rattle.cfb_format.specs.Refused.{IsMemory};
 ghost use Rattle.cfb_format.specs.Soundness.{IsSound};
-ghost use Rattle.cfb_mini_sectors.specs.State.{entries_of, reading_of};
+ghost use Rattle.cfb_opening.specs.cfb_mini_sectors.State.{entries_of, reading_of};
 ghost use Rattle.cfb_opening.specs.KnownMinis.{KnowsMinis};
 
 use crate::streams::stream_numbers;
+use cfb_agreement::MiniAllocator;
 use cfb_format::error::Error;
 use cfb_format::medium::ReadMedium;
-use cfb_mini::mini_allocator::MiniAllocator;
 use cfb_soundness::parts::Parts;
 use cfb_soundness::soundness::is_sound_file;
 use std::alloc::Allocator as Heap;

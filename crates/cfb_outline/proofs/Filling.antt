@@ -9,8 +9,9 @@ use Rattle.cfb_format.specs.Reading.{Outline, no_more, storage_at, stream_at, si
 use Rattle.cfb_outline.specs.Outlines.{HasInside}
 use Rattle.cfb_outline.specs.Families.{is_object_kind, is_storage_kind, AreObjects}
 use Rattle.cfb_outline.proofs.Counts.{tally-length}
-use Rattle.cfb_outline.proofs.Reaching.{joined, siblings-joined, numbers-joined, contents-joined, contents-objects, begins-stream, begins-storage, object-stream, storage-is, not-both, one-more}
+use Rattle.cfb_outline.proofs.Reaching.{joined, siblings-joined, numbers-joined, contents-joined, contents-objects, begins-stream, begins-storage, object-stream, storage-is, one-more}
 use Rattle.cfb_outline.proofs.Insides.{Inside, below-same, contents-past, present, no-storage, no-stream}
+use Rattle.cfb_format.proofs.Unique.{storage_is_no_stream}
 
 -- what is in a storage is the same under all letters
 outline-same : (cases others : Cases) (es : List Entry) (o p : Outline) → siblings o ≡ siblings p → HasContents cases es o → HasContents others es p → o ≡ p
@@ -20,9 +21,9 @@ outline-same cases others es no_more (stream_at j rest) e a b = cc
 outline-same cases others es (storage_at i inside rest) no_more e a b = cc
 outline-same cases others es (stream_at i rest) no_more e a b = cc
 outline-same cases others es (storage_at i inside rest) (stream_at j rest') e a b =
-    let s : i ≡ j = cc in absurd (not-both (entry_at es j).obj_type (subst (λ n. (entry_at es n).obj_type ≡ Storage) s a.0) b.0)
+    let s : i ≡ j = cc in absurd (storage_is_no_stream (entry_at es j).obj_type (subst (λ n. (entry_at es n).obj_type ≡ Storage) s a.0) b.0)
 outline-same cases others es (stream_at i rest) (storage_at j inside rest') e a b =
-    let s : i ≡ j = cc in absurd (not-both (entry_at es j).obj_type b.0 (subst (λ n. (entry_at es n).obj_type ≡ Stream) s a.0))
+    let s : i ≡ j = cc in absurd (storage_is_no_stream (entry_at es j).obj_type b.0 (subst (λ n. (entry_at es n).obj_type ≡ Stream) s a.0))
 outline-same cases others es (storage_at i inside rest) (storage_at j inside' rest') e a b =
     let s : i ≡ j = cc in
     let r : siblings rest ≡ siblings rest' = cc in

@@ -135,7 +135,7 @@ pub record Inside (cases : Cases) (es : List Entry) (k : ℕ) : Type 0 where
   pub once : (n : ℕ) → tally n (numbers outline) ≤ 1
   pub inside : k < length es
 
-first-or-later : (i : ℕ) (xs : List ℕ) (x : ℕ) → Contains (i ∷ xs) x → (x ≡ i) ⊎ Contains xs x
+pub first-or-later : (i : ℕ) (xs : List ℕ) (x : ℕ) → Contains (i ∷ xs) x → (x ≡ i) ⊎ Contains xs x
 first-or-later i xs x (zero, l, e) = inl (sym e)
 first-or-later i xs x (suc k, l, e) = inr (k, omega (arith, l), e)
 

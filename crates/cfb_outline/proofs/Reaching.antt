@@ -11,7 +11,7 @@ use Rattle.cfb_format.specs.Names.{Cases}
 use Rattle.cfb_format.specs.DirectoryEntry.{Entry}
 use Rattle.cfb_format.specs.Siblings.{entry_at, Below}
 use Rattle.cfb_format.specs.Reading.{Outline, no_more, storage_at, stream_at, siblings, numbers, HasContents, IsOutline}
-use Rattle.cfb_format.proofs.Unique.{Below-unique}
+use Rattle.cfb_format.proofs.Unique.{Below-unique, storage_is_no_stream}
 use Rattle.cfb_outline.specs.Families.{is_object_kind, is_marked, AreObjects, Family, is_storage_kind, is_root_kind, is_root_entry}
 use Rattle.cfb_outline.proofs.Counts.{hit, tally, mark_count, hit-same, tally-append, distinct-tally, tally-distinct, tally-length, marked-le, marked-past, marked-set, marked-none, none-marked, marked-once, counts-from-marks}
 use Rattle.cfb_outline.proofs.Walking.{objects-append}
@@ -135,9 +135,6 @@ storage-is Storage e = refl
 storage-is Stream e = cc
 storage-is Root e = cc
 
-pub not-both : (t : ObjType) → t ≡ Storage → t ≡ Stream → ⊥
-not-both t a b = let e : Storage ≡ Stream = sym a ∙ b in cc
-
 pub one-more : (order : List ℕ) (i : ℕ) (xs : List ℕ) → order ++ i ∷ xs ≡ (order ++ i ∷ []) ++ xs
 one-more order i xs = sym (append_assoc order (i ∷ []) xs)
 
@@ -146,7 +143,7 @@ pub begins-stream : (cases : Cases) (es : List Entry) (o : Outline) (i : ℕ) (x
     → (rest : Outline) × (siblings rest ≡ xs) × HasContents cases es rest × (numbers o ≡ i ∷ numbers rest)
 begins-stream cases es no_more i xs e c t = cc
 begins-stream cases es (storage_at k inside rest) i xs e c t =
-    let s : k ≡ i = cc in absurd (not-both (entry_at es i).obj_type (subst (λ n. (entry_at es n).obj_type ≡ Storage) s c.0) t)
+    let s : k ≡ i = cc in absurd (storage_is_no_stream (entry_at es i).obj_type (subst (λ n. (entry_at es n).obj_type ≡ Storage) s c.0) t)
 begins-stream cases es (stream_at k rest) i xs e c t =
     let s : k ≡ i = cc in let r : siblings rest ≡ xs = cc in (rest, r, c.1, ap (λ n. n ∷ numbers rest) s)
 
@@ -155,7 +152,7 @@ pub begins-storage : (cases : Cases) (es : List Entry) (o : Outline) (i : ℕ) (
     × (numbers o ≡ i ∷ numbers inside ++ numbers rest)
 begins-storage cases es no_more i xs e c t = cc
 begins-storage cases es (stream_at k rest) i xs e c t =
-    let s : k ≡ i = cc in absurd (not-both (entry_at es i).obj_type t (subst (λ n. (entry_at es n).obj_type ≡ Stream) s c.0))
+    let s : k ≡ i = cc in absurd (storage_is_no_stream (entry_at es i).obj_type t (subst (λ n. (entry_at es n).obj_type ≡ Stream) s c.0))
 begins-storage cases es (storage_at k inside rest) i xs e c t =
     let s : k ≡ i = cc in let r : siblings rest ≡ xs = cc in
     (inside, rest, r, subst (λ n. Below cases es (entry_at es n).child (siblings inside)) s c.1, c.2, c.3, ap (λ n. n ∷ numbers inside ++ numbers rest) s)

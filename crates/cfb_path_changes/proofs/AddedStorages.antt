@@ -16,37 +16,38 @@ use Rattle.cfb_format.specs.Reading.{IsOutline, Outline, siblings, stream_number
 use Rattle.cfb_format.specs.Siblings.{HangsAt, SiblingTree, entry_at, in_order, leaf, node as branch}
 use Rattle.cfb_format.specs.Tree.{Object, Tree, is_same_name}
 use Rattle.cfb_format.proofs.Unique.{IsOutline-unique, Means-unique}
-use Rattle.cfb_rules.specs.CallChanges.{storage_added_at}
-use Rattle.cfb_rules.specs.Finding.{last_name, object_at, parent_names}
-use Rattle.cfb_outline.specs.Outlines.{IsReachedStorage}
-use Rattle.cfb_siblings.specs.Children.{HasChildren, IsAbsent}
-use Rattle.cfb_siblings.specs.Paths.{number_from, number_named}
-use Rattle.cfb_siblings.proofs.Tallies.{all-at}
-use Rattle.cfb_trees.specs.Reached.{IsReached}
-use Rattle.cfb_trees.proofs.Standing.{at-children}
-use Rattle.cfb_tables.specs.Changes.{NoneFree}
-use Rattle.cfb_tables.specs.Refused.{ChangeRefused}
-use Rattle.cfb_directory.specs.State.{IsFullForEntry}
-use Rattle.cfb_objects.specs.Laws.{BecomesTree}
-use Rattle.cfb_objects.specs.Objects.{object_of, tree_from}
-use Rattle.cfb_objects.proofs.Found.{object-is-at-its-entry}
-use Rattle.cfb_objects.proofs.Places.{leads-at, named-in, place-of, place_from}
-use Rattle.cfb_entries.specs.EntryList.{AreInOrder}
-use Rattle.cfb_mini_sectors.specs.State.{MiniState, bytes_of, cases_of, content_of, entries_of, tables_in}
-use Rattle.cfb_content.specs.Contents.{KeepsFixedHeader, len_of}
-use Rattle.cfb_content.proofs.FixedHeader.{bytes-keep-header, header-then}
-use Rattle.cfb_content.proofs.Kept.{nothing-is-moved}
-use Rattle.cfb_entry_changes.specs.Kept.{AllStayBalanced, KeepsFound}
-use Rattle.cfb_entry_changes.specs.Standing.{StandStill}
-use Rattle.cfb_entry_changes.proofs.Standing.{streams-kept-then}
-use Rattle.cfb_agreement.specs.Changes.{KeepsStreams, StaysOrFails, object_added_at}
-use Rattle.cfb_agreement.specs.Laws.{with_flags}
-use Rattle.cfb_agreement.specs.Files.{Agrees, FileState, Holds, IsAsMade, IsFullFile, GrowsTightly, SameSetting, failures_of, is_failed}
-use Rattle.cfb_agreement.proofs.HeldBytes.{held-means-its-tree}
-use Rattle.cfb_sequences.specs.Laws.{all_added_at}
-use Rattle.cfb_sequences.proofs.Ways.{added-on-the-way, all-is-there}
-use Rattle.cfb_volume.proofs.Settings.{setting-same, setting-then}
+use Rattle.cfb_path_changes.specs.cfb_rules.CallChanges.{storage_added_at}
+use Rattle.cfb_path_changes.specs.cfb_rules.Finding.{last_name, object_at, parent_names}
+use Rattle.cfb_path_changes.specs.cfb_outline.Outlines.{IsReachedStorage}
+use Rattle.cfb_path_changes.specs.cfb_siblings.Children.{HasChildren, IsAbsent}
+use Rattle.cfb_path_changes.specs.cfb_siblings.Paths.{number_from, number_named}
+use Rattle.cfb_path_changes.proofs.cfb_siblings.Tallies.{all-at}
+use Rattle.cfb_path_changes.specs.cfb_trees.Reached.{IsReached}
+use Rattle.cfb_path_changes.proofs.cfb_trees.Standing.{at-children}
+use Rattle.cfb_path_changes.specs.cfb_tables.Changes.{NoneFree}
+use Rattle.cfb_path_changes.specs.cfb_tables.Refused.{ChangeRefused}
+use Rattle.cfb_path_changes.specs.cfb_directory.State.{IsFullForEntry}
+use Rattle.cfb_path_changes.specs.cfb_objects.Laws.{BecomesTree}
+use Rattle.cfb_path_changes.specs.cfb_objects.Objects.{object_of, tree_from}
+use Rattle.cfb_path_changes.proofs.cfb_objects.Found.{object-is-at-its-entry}
+use Rattle.cfb_path_changes.proofs.cfb_objects.Places.{leads-at, named-in, place-of, place_from}
+use Rattle.cfb_path_changes.specs.cfb_entries.EntryList.{AreInOrder}
+use Rattle.cfb_path_changes.specs.cfb_mini_sectors.State.{MiniState, bytes_of, cases_of, content_of, entries_of, tables_in}
+use Rattle.cfb_path_changes.specs.cfb_content.Contents.{KeepsFixedHeader, len_of}
+use Rattle.cfb_path_changes.proofs.cfb_content.FixedHeader.{bytes-keep-header, header-then}
+use Rattle.cfb_path_changes.proofs.cfb_content.Kept.{nothing-is-moved}
+use Rattle.cfb_path_changes.specs.cfb_entry_changes.Kept.{AllStayBalanced, KeepsFound}
+use Rattle.cfb_path_changes.specs.cfb_entry_changes.Standing.{StandStill}
+use Rattle.cfb_path_changes.proofs.cfb_entry_changes.Standing.{streams-kept-then}
+use Rattle.cfb_path_changes.specs.cfb_agreement.Changes.{KeepsStreams, StaysOrFails, object_added_at}
+use Rattle.cfb_path_changes.specs.cfb_agreement.Laws.{with_flags}
+use Rattle.cfb_path_changes.specs.cfb_agreement.Files.{Agrees, FileState, Holds, IsAsMade, IsFullFile, GrowsTightly, SameSetting, failures_of, is_failed}
+use Rattle.cfb_path_changes.proofs.cfb_agreement.HeldBytes.{held-means-its-tree}
+use Rattle.cfb_path_changes.specs.cfb_sequences.Laws.{all_added_at}
+use Rattle.cfb_path_changes.proofs.cfb_sequences.Ways.{added-on-the-way, all-is-there}
+use Rattle.cfb_volume.proofs.Settings.{setting-same}
 use Rattle.cfb_path_changes.specs.AddedStorages.{AddsStorages, IsFirstAbsent}
+use Rattle.cfb_path_changes.proofs.cfb_agreement.InTurn.{setting-then}
 
 -- ---- names
 

@@ -1,6 +1,6 @@
 -- All storages on the way to some names.
 use Rattle.std.proofs.Common.{◌≡◌, ◌≢◌, ◌<◌, ◌+◌, ◌++◌, inl, inr, ℕ, zero, suc, List, [], ◌∷◌, Bool, Bor, chars, map, ◌-◌, true, false, refl, sym, ◌∙◌, ap, subst, length, take, drop, arith}
-use Rattle.std.specs.Prelude.{Option, Some, None, Contains, is_some, option_and_then, if◌then◌else◌, ◌||◌, Result, Ok, Err, OnOk, OnErr, IfErr, ⊤}
+use Rattle.std.specs.Prelude.{Option, Some, None, Contains, is_some, option_and_then, if◌then◌else◌, ◌||◌, ⊤}
 use Rattle.std.specs.List.{list_all}
 use Rattle.std.specs.Option.{option_map_or}
 use Rattle.std.proofs.lemmas.List.{append-nil, drop-map, take-append-drop}
@@ -15,46 +15,43 @@ use Rattle.cfb_format.specs.Meaning.{Means, objects_from, storage_info, stream_i
 use Rattle.cfb_format.specs.Names.{Cases, is_valid_name}
 use Rattle.cfb_format.specs.Path.{names_of_path}
 use Rattle.cfb_format.specs.Reading.{IsOutline, Outline}
-use Rattle.cfb_format.specs.Refused.{AfterMedium, CountsError, CountsFailure, HasReason, IsBreak, at_every_error, no_error}
+use Rattle.cfb_format.specs.Refused.{AfterMedium, CountsError, HasReason, IsBreak, at_every_error, no_error}
 use Rattle.cfb_format.specs.Siblings.{entry_at}
 use Rattle.cfb_format.specs.Tree.{Object, Tree, a_storage}
 use Rattle.cfb_format.proofs.Unique.{Means-unique}
-use Rattle.cfb_rules.specs.CallRefusals.{all_creation_refusal, way_refusal}
-use Rattle.cfb_rules.specs.Calls.{Call, create_storage_all, done}
-use Rattle.cfb_rules.specs.Finding.{object_at, root_of}
-use Rattle.cfb_rules.specs.Refusal.{Refusal, already_exists, invalid_input}
-use Rattle.cfb_rules.specs.Steps.{changing, creating, is_there, kind_on}
-use Rattle.cfb_directory.specs.State.{IsFullForEntry}
-use Rattle.cfb_siblings.specs.Paths.{number_from, number_named}
-use Rattle.cfb_entries.specs.EntryList.{AreInOrder}
-use Rattle.cfb_trees.proofs.PathDown.{none-some}
-use Rattle.cfb_objects.specs.Laws.{BecomesTree}
-use Rattle.cfb_objects.specs.Objects.{inside_of, object_of, tree_from}
-use Rattle.cfb_objects.proofs.Found.{storage-by-kind, stream-by-kind}
-use Rattle.cfb_mini_sectors.specs.State.{bytes_of, cases_of, content_of, entries_of, root_len_of}
-use Rattle.cfb_content.specs.Contents.{KeepsFixedHeader}
-use Rattle.cfb_agreement.specs.Changes.{KeepsStreams, StaysOrFails}
-use Rattle.cfb_agreement.proofs.HeldBytes.{held-means-its-tree}
-use Rattle.cfb_agreement.specs.Files.{FileState, Holds, IsAsMade, GrowsTightly, SameSetting, failures_of, is_failed}
-use Rattle.cfb_entry_changes.specs.Kept.{AllStayBalanced}
-use Rattle.cfb_sequences.specs.Laws.{all_added_at}
-use Rattle.cfb_sequences.proofs.Ways.{stream-is-in-the-way, way-is-free, way-is-there}
+use Rattle.cfb_path_changes.specs.cfb_rules.CallRefusals.{all_creation_refusal, way_refusal}
+use Rattle.cfb_path_changes.specs.cfb_rules.Calls.{Call, create_storage_all, done}
+use Rattle.cfb_path_changes.specs.cfb_rules.Finding.{object_at, root_of}
+use Rattle.cfb_path_changes.specs.cfb_rules.Refusal.{Refusal, already_exists, invalid_input}
+use Rattle.cfb_path_changes.specs.cfb_rules.Steps.{changing, creating, is_there, kind_on}
+use Rattle.cfb_path_changes.specs.cfb_directory.State.{IsFullForEntry}
+use Rattle.cfb_path_changes.specs.cfb_siblings.Paths.{number_from, number_named}
+use Rattle.cfb_path_changes.specs.cfb_entries.EntryList.{AreInOrder}
+use Rattle.cfb_path_changes.proofs.cfb_trees.PathDown.{none-some}
+use Rattle.cfb_path_changes.specs.cfb_objects.Laws.{BecomesTree}
+use Rattle.cfb_path_changes.specs.cfb_objects.Objects.{inside_of, object_of, tree_from}
+use Rattle.cfb_path_changes.proofs.cfb_objects.Found.{storage-by-kind, stream-by-kind}
+use Rattle.cfb_path_changes.specs.cfb_mini_sectors.State.{bytes_of, cases_of, content_of, entries_of, root_len_of}
+use Rattle.cfb_path_changes.specs.cfb_content.Contents.{KeepsFixedHeader}
+use Rattle.cfb_path_changes.specs.cfb_agreement.Changes.{KeepsStreams, StaysOrFails}
+use Rattle.cfb_path_changes.proofs.cfb_agreement.HeldBytes.{held-means-its-tree}
+use Rattle.cfb_path_changes.specs.cfb_agreement.Files.{FileState, Holds, IsAsMade, GrowsTightly, SameSetting, failures_of, is_failed}
+use Rattle.cfb_path_changes.specs.cfb_sequences.Laws.{all_added_at}
+use Rattle.cfb_path_changes.proofs.cfb_sequences.Ways.{stream-is-in-the-way, way-is-free, way-is-there}
 use Rattle.cfb_path_changes.specs.AddedStorages.{IsFirstAbsent}
 use Rattle.cfb_path_changes.specs.Answers.{ForMemory, IsBalancedFile, IsDoneBy, IsRefusedBy, IsRefusedInTurn, MeansTree, StopsInTurn, causes_of_call}
-use Rattle.cfb_path_changes.specs.Calls.{CallAnswersInTurn}
 use Rattle.cfb_path_changes.specs.declared.placing.Creation.TheVariants.{NewStream}
 use Rattle.cfb_path_changes.specs.Finding.{LeadTo}
 use Rattle.cfb_path_changes.specs.Wanted.{AsksAt}
 use Rattle.cfb_path_changes.specs.Ways.{IsWayOf, LeadAsFarAs}
-use Rattle.cfb_path_changes.proofs.Balanced.{added_balanced}
 use Rattle.cfb_path_changes.proofs.CallKinds.{creating_lacks}
-use Rattle.cfb_path_changes.proofs.Counting.{counts_either}
 use Rattle.cfb_path_changes.proofs.Creation.{object_is}
 use Rattle.cfb_path_changes.proofs.Doing.{runs_done}
 use Rattle.cfb_path_changes.proofs.Places.{end_with, missing}
 use Rattle.cfb_path_changes.proofs.Refusing.{RuleSays, refused_by_break, refused_by_rules, refused_for_memory, rules_allow, unchanged}
 use Rattle.cfb_path_changes.proofs.Sparing.{none_changed}
 use Rattle.cfb_path_changes.proofs.Wanting.{both}
+use Rattle.cfb_volume.proofs.Steps.{counts-of-write}
 
 -- ---- lists
 
@@ -281,7 +278,7 @@ module _ (old : FileState) (path : List ℕ) (moment : ℕ) (names : List (List 
         λ tree means. creating_lacks (causes_of_call old new) (kind_on (cases_of old.base) tree call)
             (ap (λ (b : Bool). if b then changing else creating) (not_all_there tree means some)) full.0,
         (full.1, stays),
-      )) e (stops_full (IsFullForEntry new.base.directory) e why stops) (λ memory. stays) (counts_either reads writes (failures_of old) (failures_of new) e counts)
+      )) e (stops_full (IsFullForEntry new.base.directory) e why stops) (λ memory. stays) (counts-of-write reads writes (failures_of old) (failures_of new) e counts)
 
 -- names that lead on to nothing lead to a storage, where no stream is in the way
 pub way_is : (file : FileState) (path : List ℕ) (names : List (List ℕ)) (passed k : ℕ) → is_failed file ≡ false → file.is_sound ≡ true → names_of_path path ≡ Some names

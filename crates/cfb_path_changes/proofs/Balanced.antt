@@ -1,12 +1,12 @@
 -- The siblings of every storage stay in balance.
 use Rattle.std.proofs.Common.{ℕ}
 use Rattle.cfb_format.specs.Reading.{IsOutline, Outline}
-use Rattle.cfb_mini_sectors.specs.State.{cases_of, entries_of}
-use Rattle.cfb_content.specs.Contents.{IsStreamOf, MovesContent}
-use Rattle.cfb_entry_changes.specs.Kept.{AllStayBalanced, AllStayBalancedBut}
-use Rattle.cfb_objects.proofs.Balance.{all-stay-balanced}
-use Rattle.cfb_agreement.specs.Files.{FileState, SameSetting}
-use Rattle.cfb_agreement.proofs.ContentChanges.{moved-is-balanced}
+use Rattle.cfb_path_changes.specs.cfb_mini_sectors.State.{cases_of, entries_of}
+use Rattle.cfb_path_changes.specs.cfb_content.Contents.{IsStreamOf, MovesContent}
+use Rattle.cfb_path_changes.specs.cfb_entry_changes.Kept.{AllStayBalanced, AllStayBalancedBut}
+use Rattle.cfb_path_changes.proofs.cfb_objects.Balance.{all-stay-balanced}
+use Rattle.cfb_path_changes.specs.cfb_agreement.Files.{FileState, SameSetting}
+use Rattle.cfb_path_changes.proofs.cfb_agreement.ContentChanges.{moved-is-balanced}
 use Rattle.cfb_volume.proofs.Balances.{all-but-balanced}
 use Rattle.cfb_path_changes.specs.Answers.{IsBalancedFile}
 

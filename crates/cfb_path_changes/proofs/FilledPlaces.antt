@@ -11,23 +11,23 @@ use Rattle.cfb_format.specs.Reading.{IsOutline, Outline}
 use Rattle.cfb_format.specs.Refused.{AfterMedium, CountsError, IsBreak}
 use Rattle.cfb_format.specs.Siblings.{entry_at}
 use Rattle.cfb_format.specs.Tree.{Tree}
-use Rattle.cfb_rules.specs.Calls.{done}
-use Rattle.cfb_rules.specs.Finding.{last_name, parent_names}
-use Rattle.cfb_rules.specs.Steps.{kind_on, outcome}
-use Rattle.cfb_rules.specs.StreamCalls.{resized}
-use Rattle.cfb_tables.specs.Refused.{ChangeRefused}
-use Rattle.cfb_directory.specs.State.{IsFullForEntry}
-use Rattle.cfb_siblings.specs.Paths.{number_from}
-use Rattle.cfb_entries.specs.EntryList.{AreInOrder}
-use Rattle.cfb_trees.specs.Reached.{IsReached}
-use Rattle.cfb_objects.specs.Laws.{BecomesTree}
-use Rattle.cfb_mini_sectors.specs.State.{bytes_of, cases_of, entries_of}
-use Rattle.cfb_content.specs.Contents.{IsStreamOf, IsTooLongFor, KeepsFixedHeader, MovesContent, len_of}
-use Rattle.cfb_entry_changes.specs.Kept.{AllStayBalanced}
-use Rattle.cfb_agreement.specs.Changes.{ChangesOneContent, KeepsStreams, StaysOrFails, object_added_at}
-use Rattle.cfb_agreement.specs.Files.{FileState, Holds, IsAsMade, IsFullFile, GrowsTightly, SameSetting, failures_of, is_failed}
+use Rattle.cfb_path_changes.specs.cfb_rules.Calls.{done}
+use Rattle.cfb_path_changes.specs.cfb_rules.Finding.{last_name, parent_names}
+use Rattle.cfb_path_changes.specs.cfb_rules.Steps.{kind_on, outcome}
+use Rattle.cfb_path_changes.specs.cfb_rules.StreamCalls.{resized}
+use Rattle.cfb_path_changes.specs.cfb_tables.Refused.{ChangeRefused}
+use Rattle.cfb_path_changes.specs.cfb_directory.State.{IsFullForEntry}
+use Rattle.cfb_path_changes.specs.cfb_siblings.Paths.{number_from}
+use Rattle.cfb_path_changes.specs.cfb_entries.EntryList.{AreInOrder}
+use Rattle.cfb_path_changes.specs.cfb_trees.Reached.{IsReached}
+use Rattle.cfb_path_changes.specs.cfb_objects.Laws.{BecomesTree}
+use Rattle.cfb_path_changes.specs.cfb_mini_sectors.State.{bytes_of, cases_of, entries_of}
+use Rattle.cfb_path_changes.specs.cfb_content.Contents.{IsStreamOf, IsTooLongFor, KeepsFixedHeader, MovesContent, len_of}
+use Rattle.cfb_path_changes.specs.cfb_entry_changes.Kept.{AllStayBalanced}
+use Rattle.cfb_path_changes.specs.cfb_agreement.Changes.{ChangesOneContent, KeepsStreams, StaysOrFails, object_added_at}
+use Rattle.cfb_path_changes.specs.cfb_agreement.Files.{FileState, Holds, IsAsMade, IsFullFile, GrowsTightly, SameSetting, failures_of, is_failed}
 use Rattle.cfb_volume.specs.Answers.{content_at}
-use Rattle.cfb_path_changes.specs.Adding.{IsMissing, IsThere, RulesSay, creation, kind_made}
+use Rattle.cfb_path_changes.specs.Adding.{IsMissing, CanBeEmptied, RulesSay, creation, kind_made}
 use Rattle.cfb_path_changes.specs.declared.placing.Creation.{Creation}
 use Rattle.cfb_path_changes.specs.declared.placing.Creation.TheVariants.{EmptyStream, NewStorage, NewStream}
 use Rattle.cfb_path_changes.specs.Answers.{IsDoneBy, IsRefusedBy, MeansTree, causes_of_call}
@@ -37,11 +37,12 @@ use Rattle.cfb_path_changes.specs.declared.placing.Place.TheVariants.{Missing, T
 use Rattle.cfb_path_changes.proofs.ReachedStreams.{reached_stream}
 use Rattle.cfb_path_changes.proofs.NewObjects.{added_done, creation_asks, creation_does, creation_for_memory, creation_rule, emptied_done, moved_leads, nothing_there, path_leads, there_may_be_lost}
 use Rattle.cfb_path_changes.proofs.Places.{missing_is_allowed, there_is_allowed}
-use Rattle.cfb_path_changes.proofs.Refusing.{after_memory, refused_by_break, rules_allow, unchanged_setting}
+use Rattle.cfb_path_changes.proofs.Refusing.{after_memory, refused_by_break, rules_allow}
 use Rattle.cfb_path_changes.proofs.CallKinds.{creating_lacks, kind_missing}
-use Rattle.cfb_path_changes.proofs.Counting.{counts_either}
 use Rattle.cfb_path_changes.proofs.Balanced.{added_balanced}
 use Rattle.cfb_path_changes.proofs.Sparing.{none_changed, one_spared_not}
+use Rattle.cfb_volume.proofs.Settings.{setting-same}
+use Rattle.cfb_volume.proofs.Steps.{counts-of-write}
 
 -- ---- what is made
 
@@ -53,7 +54,7 @@ made_kind NewStorage kind is = inl is
 
 -- ---- its place
 
-pub there_at : (what : Creation) (old : FileState) (place : Place) (k : ℕ) → place ≡ There k → (some : IsSomePlace old what place) → IsThere old what some.1.names k
+pub there_at : (what : Creation) (old : FileState) (place : Place) (k : ℕ) → place ≡ There k → (some : IsSomePlace old what place) → CanBeEmptied old what some.1.names k
 there_at what old place k is some = subst (λ (p : Place). IsPlace old what some.1.names p) is some.1.at
 
 pub missing_at : (what : Creation) (old : FileState) (place : Place) (parent : ℕ) (name : Bor (List ℕ)) → place ≡ Missing parent name → (some : IsSomePlace old what place)
@@ -69,7 +70,7 @@ creation_passes what moment file path calm held names named says =
 -- ---- a stream that is there
 
 module _ (what : Creation) (moment : ℕ) (old new : FileState) (place : Place) (k : ℕ) (is : place ≡ There k) where
-  there_of : (path : List ℕ) (at : IsPlaceOf old what path place) → IsThere old what at.names k
+  there_of : (path : List ℕ) (at : IsPlaceOf old what path place) → CanBeEmptied old what at.names k
   there_of path at = subst (λ (p : Place). IsPlace old what at.names p) is at.at
 
   pub there_filled : IsSomePlace old what place → SameSetting old new → MovesContent old.base new.base k → IsStreamOf new.base k → len_of new.base k ≡ 0 → is_failed new ≡ false
@@ -161,10 +162,10 @@ module _ (what : Creation) (moment : ℕ) (old new : FileState) (place : Place) 
       (λ full. (
         λ tree means. creating_lacks (causes_of_call old new) (kind_on (cases_of old.base) tree (creation what moment path))
             (kind_missing (cases_of old.base) tree path what moment
-            (nothing_there old old what moment path at.unfailed at.sound held (unchanged_setting old) at.unfailed at.names at.named (missing_of path at).none tree means))
+            (nothing_there old old what moment path at.unfailed at.sound held (setting-same old) at.unfailed at.names at.named (missing_of path at).none tree means))
             (subst (λ (f : FileState). IsFullForEntry f.base.directory) (sym full.1) full.0),
         full.1,
       )) e
       (lacks_entry (IsFullFile new) (IsFullForEntry old.base.directory → ⊥) (new ≡ old) e why reason)
       (λ memory. creation_for_memory old new what moment path (after_memory (is_failed new ≡ true) (new ≡ old) e stops memory))
-      (counts_either reads writes (failures_of old) (failures_of new) e counts)
+      (counts-of-write reads writes (failures_of old) (failures_of new) e counts)

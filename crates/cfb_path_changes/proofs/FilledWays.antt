@@ -11,10 +11,10 @@ use Rattle.cfb_format.specs.declared.medium.MediumFault.{MediumFault}
 use Rattle.cfb_format.specs.Names.{is_valid_name}
 use Rattle.cfb_format.specs.Path.{names_of_path}
 use Rattle.cfb_format.specs.Reading.{IsOutline, Outline}
-use Rattle.cfb_rules.specs.Calls.{create_storage_all, done}
-use Rattle.cfb_siblings.specs.Paths.{number_from}
-use Rattle.cfb_mini_sectors.specs.State.{cases_of, entries_of}
-use Rattle.cfb_agreement.specs.Files.{Agrees, FileState, Holds, SameSetting, is_failed}
+use Rattle.cfb_path_changes.specs.cfb_rules.Calls.{create_storage_all, done}
+use Rattle.cfb_path_changes.specs.cfb_siblings.Paths.{number_from}
+use Rattle.cfb_path_changes.specs.cfb_mini_sectors.State.{cases_of, entries_of}
+use Rattle.cfb_path_changes.specs.cfb_agreement.Files.{Agrees, FileState, Holds, SameSetting, is_failed}
 use Rattle.cfb_path_changes.specs.AddedStorages.{AddsStorages, IsFirstAbsent}
 use Rattle.cfb_path_changes.proofs.AddedStorages.{absent-is-none, adds-all, adds-room}
 use Rattle.cfb_path_changes.specs.Answers.{IsDoneBy, LacksRoomOnTheWay}

@@ -1,8 +1,16 @@
+pub use Rattle.cfb_volume.proofs.cfb_rules
+pub use Rattle.cfb_volume.proofs.cfb_siblings
+pub use Rattle.cfb_volume.proofs.cfb_trees
+pub use Rattle.cfb_volume.proofs.cfb_directory
+pub use Rattle.cfb_volume.proofs.cfb_objects
+pub use Rattle.cfb_volume.proofs.cfb_content
+pub use Rattle.cfb_volume.proofs.cfb_agreement
+pub use Rattle.cfb_volume.proofs.cfb_sequences
+pub use Rattle.cfb_volume.proofs.cfb_entry_changes
 pub mod CallKinds
 pub mod Runs
 pub mod ReachedStreams
 pub mod Stopping
-pub mod Counting
 pub mod Numbers
 pub mod Changing
 pub mod Sparing

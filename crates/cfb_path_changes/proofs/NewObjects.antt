@@ -9,28 +9,28 @@ use Rattle.cfb_format.specs.Path.{names_of_path}
 use Rattle.cfb_format.specs.Reading.{IsOutline, Outline}
 use Rattle.cfb_format.specs.Tree.{Object, Tree}
 use Rattle.cfb_format.proofs.Unique.{IsOutline-unique, Means-unique}
-use Rattle.cfb_rules.specs.CallChanges.{content_changed_at, storage_added_at, stream_added_at, stream_created_at, tree_after}
-use Rattle.cfb_rules.specs.CallRefusals.{creation_refusal}
-use Rattle.cfb_rules.specs.CallReplies.{reply_of}
-use Rattle.cfb_rules.specs.Calls.{done}
-use Rattle.cfb_rules.specs.Finding.{last_name, object_at, parent_names}
-use Rattle.cfb_rules.specs.Refusal.{Refusal}
-use Rattle.cfb_rules.specs.StreamCalls.{resized}
-use Rattle.cfb_rules.specs.Steps.{creating, emptying, is_there, kind_on}
-use Rattle.cfb_siblings.specs.Paths.{number_from}
-use Rattle.cfb_trees.proofs.PathNames.{same-from}
-use Rattle.cfb_directory.specs.State.{IsFullForEntry}
-use Rattle.cfb_objects.specs.Objects.{object_of, tree_from}
-use Rattle.cfb_objects.specs.Laws.{BecomesTree}
-use Rattle.cfb_mini_sectors.specs.State.{bytes_of, cases_of, content_of, entries_of, root_len_of}
-use Rattle.cfb_content.specs.Contents.{IsStreamOf, KeepsFixedHeader, MovesContent}
-use Rattle.cfb_content.proofs.Outlines.{moved-at, moved-is-outline}
-use Rattle.cfb_agreement.specs.Changes.{ChangesOneContent, KeepsStreams, object_added_at}
-use Rattle.cfb_agreement.specs.Files.{FileState, Holds, IsAsMade, GrowsTightly, SameSetting, failures_of, is_failed}
-use Rattle.cfb_agreement.proofs.ContentChanges.{content-becomes-tree}
-use Rattle.cfb_agreement.proofs.HeldBytes.{held-means-its-tree}
+use Rattle.cfb_path_changes.specs.cfb_rules.CallChanges.{content_changed_at, storage_added_at, stream_added_at, stream_created_at, tree_after}
+use Rattle.cfb_path_changes.specs.cfb_rules.CallRefusals.{creation_refusal}
+use Rattle.cfb_path_changes.specs.cfb_rules.CallReplies.{reply_of}
+use Rattle.cfb_path_changes.specs.cfb_rules.Calls.{done}
+use Rattle.cfb_path_changes.specs.cfb_rules.Finding.{last_name, object_at, parent_names}
+use Rattle.cfb_path_changes.specs.cfb_rules.Refusal.{Refusal}
+use Rattle.cfb_path_changes.specs.cfb_rules.StreamCalls.{resized}
+use Rattle.cfb_path_changes.specs.cfb_rules.Steps.{creating, emptying, is_there, kind_on}
+use Rattle.cfb_path_changes.specs.cfb_siblings.Paths.{number_from}
+use Rattle.cfb_path_changes.proofs.cfb_trees.PathNames.{same-from}
+use Rattle.cfb_path_changes.specs.cfb_directory.State.{IsFullForEntry}
+use Rattle.cfb_path_changes.specs.cfb_objects.Objects.{object_of, tree_from}
+use Rattle.cfb_path_changes.specs.cfb_objects.Laws.{BecomesTree}
+use Rattle.cfb_path_changes.specs.cfb_mini_sectors.State.{bytes_of, cases_of, content_of, entries_of, root_len_of}
+use Rattle.cfb_path_changes.specs.cfb_content.Contents.{IsStreamOf, KeepsFixedHeader, MovesContent}
+use Rattle.cfb_path_changes.proofs.cfb_content.Outlines.{moved-at, moved-is-outline}
+use Rattle.cfb_path_changes.specs.cfb_agreement.Changes.{ChangesOneContent, KeepsStreams, object_added_at}
+use Rattle.cfb_path_changes.specs.cfb_agreement.Files.{FileState, Holds, IsAsMade, GrowsTightly, SameSetting, failures_of, is_failed}
+use Rattle.cfb_path_changes.proofs.cfb_agreement.ContentChanges.{content-becomes-tree}
+use Rattle.cfb_path_changes.proofs.cfb_agreement.HeldBytes.{held-means-its-tree}
 use Rattle.cfb_volume.specs.Answers.{content_at}
-use Rattle.cfb_path_changes.specs.Adding.{IsMissing, IsThere, RulesSay, creation, kind_made, may_be_there}
+use Rattle.cfb_path_changes.specs.Adding.{IsMissing, CanBeEmptied, RulesSay, creation, kind_made, may_be_there}
 use Rattle.cfb_path_changes.specs.Answers.{ForMemory, HasNothingToDo, IsBalancedFile, IsDoneBy, MeansTree, RunsOn, causes_of_call}
 use Rattle.cfb_path_changes.specs.declared.placing.Creation.{Creation}
 use Rattle.cfb_path_changes.specs.declared.placing.Creation.TheVariants.{EmptyStream, NewStorage, NewStream}
@@ -81,7 +81,7 @@ path_leads file path names k named to = λ (o : Outline) (is : IsOutline (cases_
 
 -- a stream that a creation may empty
 pub there_may_be_lost : (file : FileState) (what : Creation) (moment : ℕ) (path : List ℕ) (names : List (List ℕ)) (k : ℕ) → names_of_path path ≡ Some names
-    → IsThere file what names k → MayLose file (creation what moment path) k
+    → CanBeEmptied file what names k → MayLose file (creation what moment path) k
 there_may_be_lost file what moment path names k named at = lost what at.emptied
   where
     lost : (w : Creation) → w ≡ EmptyStream → MayLose file (creation w moment path) k
@@ -155,14 +155,14 @@ module _ (old new : FileState) (what : Creation) (moment : ℕ) (path : List ℕ
       (subst (λ (t : Tree). Means (cases_of old.base) (bytes_of new.base) t) (is ∙ sym (after_by_names what moment (cases_of old.base) tree_was path names named)) means))
 
   -- a stream that is there loses its bytes, whatever tree the bytes are said to mean
-  emptied_kind : (k : ℕ) → IsThere old what names k → (tree : Tree) → MeansTree old tree → kind_on (cases_of old.base) tree (creation what moment path) ≡ emptying
+  emptied_kind : (k : ℕ) → CanBeEmptied old what names k → (tree : Tree) → MeansTree old tree → kind_on (cases_of old.base) tree (creation what moment path) ≡ emptying
   emptied_kind k at tree means =
       subst (λ (t : Tree). kind_on (cases_of old.base) t (creation what moment path) ≡ emptying)
       (Means-unique (cases_of old.base) (bytes_of old.base) tree_was tree means_was (means calm))
       (kind_emptied (cases_of old.base) tree_was path what moment at.emptied (there_is (Some k) at.found))
 
   -- the stream that is there was emptied
-  pub emptied_done : (k : ℕ) → IsThere old what names k → Holds new → ChangesOneContent k old new → content_at new k ≡ resized (content_at old k) 0
+  pub emptied_done : (k : ℕ) → CanBeEmptied old what names k → Holds new → ChangesOneContent k old new → content_at new k ≡ resized (content_at old k) 0
       → failures_of new ≡ failures_of old → IsDoneBy old (creation what moment path) done new
   emptied_done k at now changes bytes same_count = record {
     runs = runs_so (content_changed_at (cases_of old.base) [] names tree_was) (there_is_allowed old what names k at)

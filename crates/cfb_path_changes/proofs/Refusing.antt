@@ -11,18 +11,18 @@ use Rattle.cfb_format.specs.Path.{names_of_path}
 use Rattle.cfb_format.specs.Reading.{IsOutline, Outline}
 use Rattle.cfb_format.specs.Refused.{AfterMedium, CountsError, HasReason, IsBreak, IsMediumAnd, IsMemory, RefusesInput, at_every_error, no_error}
 use Rattle.cfb_format.specs.Tree.{Tree}
-use Rattle.cfb_rules.specs.CallRefusals.{refusal_of}
-use Rattle.cfb_rules.specs.Calls.{Call, create_storage_all, refused, remove_storage_all, remove_stream}
-use Rattle.cfb_rules.specs.Refusal.{IsRefusal, Refusal, already_exists, failed_earlier, file_full, invalid_data, invalid_input, is_of_rules, medium_failed, not_found, not_sound, out_of_memory}
-use Rattle.cfb_rules.specs.Runs.{BlamesOneOf, MayBreak}
-use Rattle.cfb_rules.specs.Steps.{is_changing, kind_of, kind_on, outcome}
-use Rattle.cfb_objects.specs.Objects.{tree_from}
-use Rattle.cfb_mini_sectors.specs.State.{cases_of, content_of, entries_of}
-use Rattle.cfb_content.specs.Contents.{KeepsFixedHeader}
-use Rattle.cfb_content.proofs.FixedHeader.{header-stays}
-use Rattle.cfb_agreement.specs.Changes.{StaysOrFails}
-use Rattle.cfb_agreement.specs.Files.{FileState, Holds, IsAsBefore, IsAsMade, SameSetting, failures_of, is_failed}
-use Rattle.cfb_agreement.proofs.Flags.{as-before-same, made-flagged}
+use Rattle.cfb_path_changes.specs.cfb_rules.CallRefusals.{refusal_of}
+use Rattle.cfb_path_changes.specs.cfb_rules.Calls.{Call, create_storage_all, refused, remove_storage_all, remove_stream}
+use Rattle.cfb_path_changes.specs.cfb_rules.Refusal.{IsRefusal, Refusal, already_exists, failed_earlier, file_full, invalid_data, invalid_input, is_of_rules, medium_failed, not_found, not_sound, out_of_memory}
+use Rattle.cfb_path_changes.specs.cfb_rules.Runs.{BlamesOneOf, MayBreak}
+use Rattle.cfb_path_changes.specs.cfb_rules.Steps.{is_changing, kind_of, kind_on, outcome}
+use Rattle.cfb_path_changes.specs.cfb_objects.Objects.{tree_from}
+use Rattle.cfb_path_changes.specs.cfb_mini_sectors.State.{cases_of, content_of, entries_of}
+use Rattle.cfb_path_changes.specs.cfb_content.Contents.{KeepsFixedHeader}
+use Rattle.cfb_path_changes.proofs.cfb_content.FixedHeader.{header-stays}
+use Rattle.cfb_path_changes.specs.cfb_agreement.Changes.{StaysOrFails}
+use Rattle.cfb_path_changes.specs.cfb_agreement.Files.{FileState, Holds, IsAsBefore, IsAsMade, SameSetting, failures_of, is_failed}
+use Rattle.cfb_path_changes.proofs.cfb_agreement.Flags.{as-before-same, made-flagged}
 use Rattle.cfb_path_changes.specs.Answers.{ForMemory, IsBalancedFile, IsQuiet, IsRefusedBy, IsRefusedLeaving, KeepsFileBalanced, MeansTree, RunsOn, SparesUnsound, StaysInOrder, causes_of_call}
 use Rattle.cfb_path_changes.specs.Sparing.{SparesStreams}
 use Rattle.cfb_path_changes.specs.Wanted.{AsksAt}
@@ -30,6 +30,7 @@ use Rattle.cfb_path_changes.proofs.CallKinds.{change_breaks}
 use Rattle.cfb_path_changes.proofs.Changing.{broken_off, failed_before, let_pass, ruled_out, unsound}
 use Rattle.cfb_path_changes.proofs.Sparing.{spares_all}
 use Rattle.cfb_path_changes.proofs.Stopping.{stops_no_shorter}
+use Rattle.cfb_volume.proofs.Settings.{setting-same}
 
 -- a rule answers so of these names, whatever the streams hold
 abbrev pub RuleSays : FileState → (Cases → Tree → List (List ℕ) → Option Refusal) → List (List ℕ) → Option Refusal → Type 0
@@ -41,16 +42,9 @@ RuleSays file rule names answer = (o : Outline) → IsOutline (cases_of file.bas
 pub unchanged : (file : FileState) → IsAsBefore file file
 unchanged file = record { base = refl; bytes = refl; is_sound = refl; buffer_limit = refl }
 
-pub unchanged_setting : (file : FileState) → SameSetting file file
-unchanged_setting file = record {
-  limits = record { version = refl; cases = refl; max_sectors = refl; max_mini_sectors = refl };
-  is_sound = refl;
-  buffer_limit = refl;
-}
-
 pub stays_in_order : (file : FileState) → StaysInOrder file file
 stays_in_order file = record {
-  setting = unchanged_setting file;
+  setting = setting-same file;
   header = header-stays file.base file.base refl;
   made = λ _ made. made;
   grows = λ _ less. absurd (omega (arith, less));

@@ -14,24 +14,24 @@ use Rattle.cfb_format.specs.Reading.{IsOutline, Outline}
 use Rattle.cfb_format.specs.Refused.{AfterMedium, CountsError, CountsFailure, IsBreak}
 use Rattle.cfb_format.specs.Siblings.{entry_at}
 use Rattle.cfb_format.specs.Tree.{Tree}
-use Rattle.cfb_rules.specs.CallChanges.{removed_at, tree_after}
-use Rattle.cfb_rules.specs.CallReplies.{reply_of}
-use Rattle.cfb_rules.specs.Calls.{Call, done}
-use Rattle.cfb_rules.specs.Finding.{last_name, parent_names}
-use Rattle.cfb_rules.specs.Steps.{changing, creating, emptying, kind_on}
-use Rattle.cfb_outline.specs.Families.{is_stream_kind}
-use Rattle.cfb_siblings.specs.Paths.{number_from}
-use Rattle.cfb_entries.specs.EntryList.{AreInOrder}
-use Rattle.cfb_trees.proofs.Members.{streams-are-by-kind}
-use Rattle.cfb_trees.proofs.PathDown.{same-some}
+use Rattle.cfb_path_changes.specs.cfb_rules.CallChanges.{removed_at, tree_after}
+use Rattle.cfb_path_changes.specs.cfb_rules.CallReplies.{reply_of}
+use Rattle.cfb_path_changes.specs.cfb_rules.Calls.{Call, done}
+use Rattle.cfb_path_changes.specs.cfb_rules.Finding.{last_name, parent_names}
+use Rattle.cfb_path_changes.specs.cfb_rules.Steps.{changing, creating, emptying, kind_on}
+use Rattle.cfb_path_changes.specs.cfb_outline.Families.{is_stream_kind}
+use Rattle.cfb_path_changes.specs.cfb_siblings.Paths.{number_from}
+use Rattle.cfb_path_changes.specs.cfb_entries.EntryList.{AreInOrder}
+use Rattle.cfb_path_changes.proofs.cfb_trees.Members.{streams-are-by-kind}
+use Rattle.cfb_path_changes.proofs.cfb_trees.PathDown.{same-some}
 use Rattle.cfb_format.proofs.Unique.{IsOutline-unique}
 use Rattle.cfb_volume.specs.Clearing.{KeepsStreamsBeside, StandsAs}
-use Rattle.cfb_objects.specs.Laws.{BecomesTree}
-use Rattle.cfb_mini_sectors.specs.State.{bytes_of, cases_of, entries_of, root_len_of}
-use Rattle.cfb_content.specs.Contents.{KeepsFixedHeader, KeepsOthers}
-use Rattle.cfb_entry_changes.specs.Kept.{AllStayBalancedBut}
-use Rattle.cfb_agreement.specs.Changes.{StaysOrFails}
-use Rattle.cfb_agreement.specs.Files.{FileState, Holds, IsAsMade, GrowsTightly, SameSetting, failures_of, is_failed}
+use Rattle.cfb_path_changes.specs.cfb_objects.Laws.{BecomesTree}
+use Rattle.cfb_path_changes.specs.cfb_mini_sectors.State.{bytes_of, cases_of, entries_of, root_len_of}
+use Rattle.cfb_path_changes.specs.cfb_content.Contents.{KeepsFixedHeader, KeepsOthers}
+use Rattle.cfb_path_changes.specs.cfb_entry_changes.Kept.{AllStayBalancedBut}
+use Rattle.cfb_path_changes.specs.cfb_agreement.Changes.{StaysOrFails}
+use Rattle.cfb_path_changes.specs.cfb_agreement.Files.{FileState, Holds, IsAsMade, GrowsTightly, SameSetting, failures_of, is_failed}
 use Rattle.cfb_path_changes.proofs.Balanced.{taken_balanced}
 use Rattle.cfb_path_changes.specs.Answers.{ForMemory, HasNothingToDo, IsDoneBy, IsRefusedBy}
 use Rattle.cfb_path_changes.specs.Calls.{CallAnswers}

@@ -14,24 +14,24 @@ use Rattle.cfb_format.specs.Reading.{IsOutline, Outline}
 use Rattle.cfb_format.specs.Siblings.{entry_at}
 use Rattle.cfb_format.specs.Tree.{Object, StorageInfo, StreamInfo, Tree}
 use Rattle.cfb_format.proofs.Unique.{IsOutline-unique, Means-unique}
-use Rattle.cfb_rules.specs.CallChanges.{fields_changed_at, same_stream, touched_at, tree_after}
-use Rattle.cfb_rules.specs.CallRefusals.{is_a_stream}
-use Rattle.cfb_rules.specs.CallReplies.{has_object, reply_of}
-use Rattle.cfb_rules.specs.Calls.{done}
-use Rattle.cfb_rules.specs.Finding.{object_at}
-use Rattle.cfb_outline.specs.Families.{is_stream_kind}
-use Rattle.cfb_siblings.specs.Paths.{number_from}
-use Rattle.cfb_trees.specs.Changes.{ButFields}
-use Rattle.cfb_trees.specs.Reached.{IsReached}
-use Rattle.cfb_entries.specs.declared.fields.Fields.{Fields}
-use Rattle.cfb_entries.specs.Fields.{entries_with_fields, entry_with_fields, fields_in}
-use Rattle.cfb_directory.proofs.ChangedFields.{changed_beside, changed_here, changed_length}
-use Rattle.cfb_objects.specs.Objects.{tree_from}
-use Rattle.cfb_objects.proofs.Fields.{fields-change-in-place}
-use Rattle.cfb_mini_sectors.specs.State.{bytes_of, cases_of, entries_of, root_len_of, tables_in}
-use Rattle.cfb_objects.proofs.Balance.{fields-keep-balance}
-use Rattle.cfb_agreement.specs.Files.{FileState, Holds, SameSetting, is_failed}
-use Rattle.cfb_entry_changes.specs.Marking.{GivesFields}
+use Rattle.cfb_path_changes.specs.cfb_rules.CallChanges.{fields_changed_at, same_stream, touched_at, tree_after}
+use Rattle.cfb_path_changes.specs.cfb_rules.CallRefusals.{is_a_stream}
+use Rattle.cfb_path_changes.specs.cfb_rules.CallReplies.{has_object, reply_of}
+use Rattle.cfb_path_changes.specs.cfb_rules.Calls.{done}
+use Rattle.cfb_path_changes.specs.cfb_rules.Finding.{object_at}
+use Rattle.cfb_path_changes.specs.cfb_outline.Families.{is_stream_kind}
+use Rattle.cfb_path_changes.specs.cfb_siblings.Paths.{number_from}
+use Rattle.cfb_path_changes.specs.cfb_trees.Changes.{ButFields}
+use Rattle.cfb_path_changes.specs.cfb_trees.Reached.{IsReached}
+use Rattle.cfb_path_changes.specs.cfb_entries.declared.fields.Fields.{Fields}
+use Rattle.cfb_path_changes.specs.cfb_entries.Fields.{entries_with_fields, entry_with_fields, fields_in}
+use Rattle.cfb_path_changes.proofs.cfb_directory.ChangedFields.{changed_beside, changed_here, changed_length}
+use Rattle.cfb_path_changes.specs.cfb_objects.Objects.{tree_from}
+use Rattle.cfb_path_changes.proofs.cfb_objects.Fields.{fields-change-in-place}
+use Rattle.cfb_path_changes.specs.cfb_mini_sectors.State.{bytes_of, cases_of, entries_of, root_len_of, tables_in}
+use Rattle.cfb_path_changes.proofs.cfb_objects.Balance.{fields-keep-balance}
+use Rattle.cfb_path_changes.specs.cfb_agreement.Files.{FileState, Holds, SameSetting, is_failed}
+use Rattle.cfb_path_changes.specs.cfb_entry_changes.Marking.{GivesFields}
 use Rattle.cfb_path_changes.specs.Answers.{IsBalancedFile}
 use Rattle.cfb_path_changes.specs.declared.marking.NewField.{NewField}
 use Rattle.cfb_path_changes.specs.declared.marking.NewField.TheVariants.{ClassId, CreatedTime, ModifiedTime, StateBits, TouchedTime}
@@ -42,25 +42,26 @@ use Rattle.cfb_format.specs.declared.error.Error.{Error}
 use Rattle.cfb_format.specs.declared.error.Error.TheVariants.{NotFound, AlreadyExists, InvalidInput, InvalidData, Medium, Memory, Full, Unsound, Failed}
 use Rattle.cfb_format.specs.declared.medium.MediumFault.{MediumFault}
 use Rattle.cfb_format.specs.Refused.{CountsError, CountsFailure, IsBreak, IsMediumAnd}
-use Rattle.cfb_rules.specs.Calls.{Call}
-use Rattle.cfb_rules.specs.Steps.{changing, creating, kind_on}
-use Rattle.cfb_trees.proofs.Members.{reached-is-within}
-use Rattle.cfb_trees.proofs.Same.{fields-keep-outline}
-use Rattle.cfb_objects.specs.Laws.{BecomesTree}
-use Rattle.cfb_mini_sectors.specs.State.{content_of}
-use Rattle.cfb_content.specs.Contents.{KeepsFixedHeader}
-use Rattle.cfb_agreement.specs.Changes.{KeepsStreams, StaysOrFails}
-use Rattle.cfb_agreement.specs.Files.{IsAsMade, failures_of}
-use Rattle.cfb_agreement.proofs.HeldBytes.{held-means-its-tree}
+use Rattle.cfb_path_changes.specs.cfb_rules.Calls.{Call}
+use Rattle.cfb_path_changes.specs.cfb_rules.Steps.{changing, creating, kind_on}
+use Rattle.cfb_path_changes.proofs.cfb_trees.Members.{reached-is-within}
+use Rattle.cfb_path_changes.proofs.cfb_trees.Same.{fields-keep-outline}
+use Rattle.cfb_path_changes.specs.cfb_objects.Laws.{BecomesTree}
+use Rattle.cfb_path_changes.specs.cfb_mini_sectors.State.{content_of}
+use Rattle.cfb_path_changes.specs.cfb_content.Contents.{KeepsFixedHeader}
+use Rattle.cfb_path_changes.specs.cfb_agreement.Changes.{KeepsStreams, StaysOrFails}
+use Rattle.cfb_path_changes.specs.cfb_agreement.Files.{IsAsMade, failures_of}
+use Rattle.cfb_path_changes.proofs.cfb_agreement.HeldBytes.{held-means-its-tree}
 use Rattle.cfb_path_changes.specs.Answers.{ForMemory, HasNothingToDo, IsDoneBy, IsRefusedBy, MeansTree}
 use Rattle.cfb_path_changes.specs.Calls.{CallAnswers}
 use Rattle.cfb_path_changes.specs.Wanted.{IsThereFor, wanted_refusal}
 use Rattle.cfb_path_changes.proofs.Creation.{object_is, storage_is}
-use Rattle.cfb_path_changes.proofs.Counting.{counts_either}
 use Rattle.cfb_path_changes.proofs.Doing.{means_was, runs_done, tree_was}
-use Rattle.cfb_path_changes.proofs.Refusing.{RuleSays, never_for_memory, refused_by_break, rules_allow, stays_in_order, unchanged_setting}
+use Rattle.cfb_path_changes.proofs.Refusing.{RuleSays, never_for_memory, refused_by_break, rules_allow, stays_in_order}
 use Rattle.cfb_path_changes.proofs.Sparing.{none_changed, spares_all}
 use Rattle.cfb_path_changes.proofs.Wanting.{inner_kind, root_at_none, split, wanted_allowed}
+use Rattle.cfb_volume.proofs.Settings.{setting-same}
+use Rattle.cfb_volume.proofs.Steps.{counts-of-write}
 
 -- ---- the calls
 
@@ -334,7 +335,7 @@ module _ (old : FileState) (field : NewField) (path : List ℕ) (names : List (L
   pub unset_done : takes_field entry_there.obj_type field ≡ false → IsDoneBy old call done old
   unset_done lacks =
       let asks = setting_asks field path in
-      let setting = unchanged_setting old in
+      let setting = setting-same old in
       let was = tree_was (wanted_refusal (wanted_by field)) path call asks old old there.unfailed there.sound held setting there.unfailed names there.named allowed in
       let means = means_was (wanted_refusal (wanted_by field)) path call asks old old there.unfailed there.sound held setting there.unfailed names there.named allowed in record {
         runs = runs_done (wanted_refusal (wanted_by field)) path call asks old old there.unfailed there.sound held setting there.unfailed names there.named allowed
@@ -356,7 +357,7 @@ module _ (old : FileState) (field : NewField) (path : List ℕ) (names : List (L
       refused_by_break (λ f. reads f || writes f) call (setting_asks field path).changes old new there.unfailed setting there.sound stays (none_changed old new call keeps) header
       (λ tree means none. absurd (sets_something takes tree means none))
       (rules_allow (wanted_refusal (wanted_by field)) path call (setting_asks field path) (λ f. true) old there.unfailed held names there.named allowed there.sound) (new ≡ old) ⊥ absurd e
-      (medium_breaks e why) (never_for_memory (λ fault. is_failed new ≡ true) (ForMemory call old new) e why) (counts_either reads writes (failures_of old) (failures_of new) e counts)
+      (medium_breaks e why) (never_for_memory (λ fault. is_failed new ≡ true) (ForMemory call old new) e why) (counts-of-write reads writes (failures_of old) (failures_of new) e counts)
     where
       medium_breaks : (e : Error) → IsMediumAnd (λ fault. is_failed new ≡ true) e → IsBreak ⊥ e
       medium_breaks (Medium f) w = tt

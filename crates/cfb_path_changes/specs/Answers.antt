@@ -9,19 +9,19 @@ use Rattle.cfb_format.specs.Names.{Cases}
 use Rattle.cfb_format.specs.Path.{names_of_path}
 use Rattle.cfb_format.specs.Refused.{CountsError, HasReason, at_every_error}
 use Rattle.cfb_format.specs.Tree.{Tree}
-use Rattle.cfb_rules.specs.CallRefusals.{is_a_stream}
-use Rattle.cfb_rules.specs.CallReplies.{has_object}
-use Rattle.cfb_rules.specs.Calls.{Call, Reply, create_storage_all, done, refused, remove_storage_all, remove_stream, set_created_time, set_modified_time, touch}
-use Rattle.cfb_rules.specs.Refusal.{IsRefusal, Refusal}
-use Rattle.cfb_rules.specs.Runs.{CallRuns, Causes, Setting, TreeState}
-use Rattle.cfb_rules.specs.Steps.{creating, is_changing, is_there, kind_of, kind_on}
-use Rattle.cfb_directory.specs.State.{IsFullForEntry}
-use Rattle.cfb_mini_sectors.specs.State.{bytes_of, cases_of, entries_of, root_len_of, version_of}
-use Rattle.cfb_content.specs.Contents.{KeepsFixedHeader}
-use Rattle.cfb_trees.specs.Balance.{AreAllBalanced}
-use Rattle.cfb_agreement.specs.Changes.{StaysOrFails}
-use Rattle.cfb_agreement.specs.Files.{FileState, IsAsMade, IsFullFile, GrowsTightly, SameSetting, failures_of, is_failed}
-use Rattle.cfb_agreement.specs.Laws.{with_flags}
+use Rattle.cfb_path_changes.specs.cfb_rules.CallRefusals.{is_a_stream}
+use Rattle.cfb_path_changes.specs.cfb_rules.CallReplies.{has_object}
+use Rattle.cfb_path_changes.specs.cfb_rules.Calls.{Call, Reply, create_storage_all, done, refused, remove_storage_all, remove_stream, set_created_time, set_modified_time, touch}
+use Rattle.cfb_path_changes.specs.cfb_rules.Refusal.{IsRefusal, Refusal}
+use Rattle.cfb_path_changes.specs.cfb_rules.Runs.{CallRuns, Causes, Setting, TreeState}
+use Rattle.cfb_path_changes.specs.cfb_rules.Steps.{creating, is_changing, is_there, kind_of, kind_on}
+use Rattle.cfb_path_changes.specs.cfb_directory.State.{IsFullForEntry}
+use Rattle.cfb_path_changes.specs.cfb_mini_sectors.State.{bytes_of, cases_of, entries_of, root_len_of, version_of}
+use Rattle.cfb_path_changes.specs.cfb_content.Contents.{KeepsFixedHeader}
+use Rattle.cfb_path_changes.specs.cfb_trees.Balance.{AreAllBalanced}
+use Rattle.cfb_path_changes.specs.cfb_agreement.Changes.{StaysOrFails}
+use Rattle.cfb_path_changes.specs.cfb_agreement.Files.{FileState, IsAsMade, IsFullFile, GrowsTightly, SameSetting, failures_of, is_failed}
+use Rattle.cfb_path_changes.specs.cfb_agreement.Laws.{with_flags}
 use Rattle.cfb_path_changes.specs.Finding.{LeadTo}
 use Rattle.cfb_path_changes.specs.Sparing.{SparesStreams}
 

@@ -3,10 +3,10 @@ ghost use Rattle.std.specs.Prelude.{◌≡◌, ◌≤◌, ◌||◌, List, ℕ, t
 ghost use Rattle.std.specs.List.{list_all};
 ghost use Rattle.cfb_format.specs.Names.{is_valid_name};
 ghost use Rattle.cfb_format.specs.Refused.{HasReason, no_error};
-ghost use Rattle.cfb_rules.specs.Calls.{create_storage, create_storage_all};
-ghost use Rattle.cfb_outline.specs.Outlines.{IsReachedStorage};
-ghost use Rattle.cfb_mini_sectors.specs.State.{cases_of, entries_of};
-ghost use Rattle.cfb_agreement.specs.Files.{Agrees, SameSetting, is_failed};
+ghost use Rattle.cfb_path_changes.specs.cfb_rules.Calls.{create_storage, create_storage_all};
+ghost use Rattle.cfb_path_changes.specs.cfb_outline.Outlines.{IsReachedStorage};
+ghost use Rattle.cfb_path_changes.specs.cfb_mini_sectors.State.{cases_of, entries_of};
+ghost use Rattle.cfb_path_changes.specs.cfb_agreement.Files.{Agrees, SameSetting, is_failed};
 ghost use Rattle.cfb_path_changes.specs.AddedStorages.{IsFirstAbsent};
 ghost use Rattle.cfb_path_changes.specs.Answers.{IsRefusedBy, LacksRoomOnTheWay};
 ghost use Rattle.cfb_path_changes.specs.Calls.{CallAnswers, CallAnswersInTurn, HeedsFlags};

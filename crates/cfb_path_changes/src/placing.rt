@@ -2,8 +2,8 @@
 ghost use Rattle.std.specs.Prelude.{◌≡◌, ◌⊎◌, ◌||◌, ℕ, List, IsTrue, IfOk, IfErr, IsErrAnd, OnOk, chars, false, map, true};
 ghost use Rattle.cfb_format.specs.Refused.{IsMemory};
 ghost use Rattle.cfb_format.specs.declared.objtype.ObjType.TheVariants.{Stream};
-ghost use Rattle.cfb_rules.specs.Calls.{done};
-ghost use Rattle.cfb_agreement.specs.Files.{Agrees, SameSetting, is_failed};
+ghost use Rattle.cfb_path_changes.specs.cfb_rules.Calls.{done};
+ghost use Rattle.cfb_path_changes.specs.cfb_agreement.Files.{Agrees, SameSetting, is_failed};
 ghost use Rattle.cfb_path_changes.specs.Adding.{RulesRefuse, creation, kind_made, kind_may_stay};
 ghost use Rattle.cfb_path_changes.specs.Answers.{IsDoneBy, IsRefusedBy};
 ghost use Rattle.cfb_path_changes.specs.Place.{HasNewStream, IsPlace, IsPlaceOf, IsSomePlace};

@@ -1,8 +1,8 @@
 //! Objects at paths are removed.
 ghost use Rattle.std.specs.Prelude.{◌≡◌, ◌||◌, ◌⊎◌, ◌∷◌, List, [], ℕ, Contains, true, false, length, map, IsTrue, IfOk, IfErr, IfNone, IfSome, OnOk, Some, chars};
 ghost use Rattle.cfb_format.specs.Reading.{IsOutline, Outline, numbers};
-ghost use Rattle.cfb_rules.specs.Calls.{Call, remove_storage, remove_storage_all, remove_stream};
-ghost use Rattle.cfb_agreement.specs.Files.{Agrees};
+ghost use Rattle.cfb_path_changes.specs.cfb_rules.Calls.{Call, remove_storage, remove_storage_all, remove_stream};
+ghost use Rattle.cfb_path_changes.specs.cfb_agreement.Files.{Agrees};
 ghost use Rattle.cfb_path_changes.specs.Calls.{CallAnswers, HeedsFlags};
 ghost use Rattle.cfb_path_changes.specs.Finding.{LeadTo};
 ghost use Rattle.cfb_path_changes.specs.Removing.{StandsIn, is_of_one, removal};

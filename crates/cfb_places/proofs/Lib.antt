@@ -1,3 +1,6 @@
+pub use Rattle.cfb_objects.proofs.cfb_rules
+pub use Rattle.cfb_objects.proofs.cfb_siblings
+pub use Rattle.cfb_objects.proofs.cfb_trees
 mod Levels
 mod Walking
 mod Standing

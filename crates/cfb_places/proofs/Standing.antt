@@ -9,18 +9,18 @@ use Rattle.cfb_format.specs.DirectoryEntry.{Entry}
 use Rattle.cfb_format.specs.Siblings.{entry_at, Below}
 use Rattle.cfb_format.specs.Reading.{Outline, no_more, storage_at, stream_at, siblings, numbers, HasContents}
 use Rattle.cfb_format.specs.Meaning.{objects_from, storage_info, stream_info}
-use Rattle.cfb_rules.specs.Finding.{last_name, parent_names}
-use Rattle.cfb_siblings.specs.Painted.{times_in}
-use Rattle.cfb_siblings.proofs.NameFacts.{same-itself}
-use Rattle.cfb_siblings.proofs.Tallies.{hit-same}
-use Rattle.cfb_trees.specs.Reached.{IsObject}
-use Rattle.cfb_trees.proofs.PathDown.{Down, down-after}
+use Rattle.cfb_places.specs.cfb_rules.Finding.{last_name, parent_names}
+use Rattle.cfb_places.specs.cfb_siblings.Painted.{times_in}
+use Rattle.cfb_places.proofs.cfb_siblings.NameFacts.{same-itself}
+use Rattle.cfb_places.proofs.cfb_siblings.Tallies.{hit-same}
+use Rattle.cfb_places.specs.cfb_trees.Reached.{IsObject}
+use Rattle.cfb_places.proofs.cfb_trees.PathDown.{Down, down-after}
 use Rattle.cfb_built.specs.Copied.{Part, storage_part, stream_part, names_of, parts_in}
-use Rattle.cfb_built.proofs.InPlace.{last_at, parents_at}
 use Rattle.cfb_places.specs.declared.walk.Place.{Place}
 use Rattle.cfb_places.specs.Places.{placed_in, places_in, number_at, parent_at}
 use Rattle.cfb_places.specs.Parts.{no_part, part_at}
 use Rattle.cfb_places.proofs.Walking.{places-count}
+use Rattle.cfb_places.proofs.cfb_rules.CallFacts.{last_at, parents_at}
 
 abbrev pub place_at : List Place → ℕ → Place
 place_at places at = get_or places at (placed_in None 0)

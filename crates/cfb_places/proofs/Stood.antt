@@ -11,12 +11,12 @@ use Rattle.cfb_format.specs.Siblings.{entry_at, Below}
 use Rattle.cfb_format.specs.Reading.{Outline, no_more, storage_at, stream_at, siblings, numbers, IsOutline}
 use Rattle.cfb_format.proofs.Unique.{Below-unique}
 use Rattle.cfb_outline.proofs.Insides.{present as used-within, no-storage, no-stream}
-use Rattle.cfb_rules.specs.Finding.{parent_names}
-use Rattle.cfb_siblings.specs.Painted.{times_in}
-use Rattle.cfb_siblings.specs.Children.{HasChildren}
-use Rattle.cfb_siblings.proofs.Tallies.{present}
-use Rattle.cfb_trees.proofs.Members.{reached-is-object}
-use Rattle.cfb_trees.proofs.PathDown.{number-down}
+use Rattle.cfb_places.specs.cfb_rules.Finding.{parent_names}
+use Rattle.cfb_places.specs.cfb_siblings.Painted.{times_in}
+use Rattle.cfb_places.specs.cfb_siblings.Children.{HasChildren}
+use Rattle.cfb_places.proofs.cfb_siblings.Tallies.{present}
+use Rattle.cfb_places.proofs.cfb_trees.Members.{reached-is-object}
+use Rattle.cfb_places.proofs.cfb_trees.PathDown.{number-down}
 use Rattle.cfb_built.specs.Copied.{names_of}
 use Rattle.cfb_places.specs.declared.walk.Place.{Place}
 use Rattle.cfb_places.specs.Places.{placed_in, places_in, places_of, number_at, parent_at, storage_number}

@@ -10,7 +10,7 @@ use Rattle.cfb_format.specs.Reading.{Outline, no_more, storage_at, stream_at, si
 use Rattle.cfb_outline.specs.Families.{is_storage_kind}
 use Rattle.cfb_outline.proofs.Counts.{distinct-tally, tally-length}
 use Rattle.cfb_outline.proofs.Insides.{contents-past, present}
-use Rattle.cfb_siblings.specs.Paths.{HasOutline}
+use Rattle.cfb_places.specs.cfb_siblings.Paths.{HasOutline}
 use Rattle.cfb_places.specs.declared.walk.Place.{Place}
 use Rattle.cfb_places.specs.Places.{placed_in, places_in, places_of}
 use Rattle.cfb_places.proofs.Levels.{Levels, no_level, level, waiting, to_come, Stand, next-within, pass, enter, none-come}

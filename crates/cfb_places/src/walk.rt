@@ -5,7 +5,7 @@ ghost use Rattle.cfb_format.specs.Names.{Cases};
 ghost use Rattle.cfb_format.specs.Siblings.{Below};
 ghost use Rattle.cfb_format.specs.Reading.{Outline, IsOutline};
 ghost use Rattle.cfb_format.specs.Refused.{IsMemory};
-ghost use Rattle.cfb_siblings.specs.Paths.{HasOutline};
+ghost use Rattle.cfb_places.specs.cfb_siblings.Paths.{HasOutline};
 ghost use Rattle.cfb_places.specs.Places.{placed_in, places_of};
 
 use cfb_codecs::direntry::DirEntry;

@@ -16,9 +16,10 @@ use Rattle.cfb_format.specs.Bytes.{sector_len, sector_start, is_whole_sector, is
 use Rattle.cfb_format.specs.Fat.{FollowsDifat, difat_entries, next_difat, ends_difat}
 use Rattle.cfb_format.specs.Header.{IfStrict}
 use Rattle.cfb_sectors.specs.Sectors.{SectorFile, sectors_end}
-use Rattle.cfb_tables.proofs.Members.{Contains-nil, Contains-here, Contains-one, none_distinct, distinct-push, distinct-apart}
-use Rattle.cfb_tables.proofs.WordLemmas.{found_below}
+use Rattle.cfb_reading.proofs.cfb_tables.WordLemmas.{found_below}
 use Rattle.cfb_reading.specs.Difat.{AcceptsDifatSectors, AreDifatWords, has_sector, is_strict_next}
+use Rattle.cfb_format.proofs.Members.{Contains-nil, Contains-here, Contains-one, none_distinct, distinct-push, distinct-apart}
+use Rattle.cfb_format.proofs.Tests.{if_strict}
 
 -- ---- which of them came before
 
@@ -96,10 +97,6 @@ pub record Followed (validation : Validation) (v : Version) (bytes : List ℕ) (
   pub back : (zs : List ℕ) → FollowsDifat v bytes first zs → (ys : List ℕ) × FollowsDifat v bytes next ys × (zs ≡ own ++ ys)
   pub ended : IfStrict validation (list_all (λ i. is_strict_next (next_difat v bytes i)) own ≡ true)
 
-if-strict : (validation : Validation) (P Q : Type 0) → (P → Q) → IfStrict validation P → IfStrict validation Q
-if-strict Permissive P Q f p = tt
-if-strict Strict P Q f p = f p
-
 both-strict : (validation : Validation) (P Q R : Type 0) → (P → Q → R) → IfStrict validation P → IfStrict validation Q → IfStrict validation R
 both-strict Permissive P Q R f p q = tt
 both-strict Strict P Q R f p q = f p q
@@ -162,7 +159,7 @@ module _ (validation : Validation) (v : Version) (bytes : List ℕ) (first : ℕ
         wu,
         record {
           numbers = ru;
-          ended = if-strict validation _ _ (λ all.
+          ended = if_strict validation _ _ (λ all.
               let parts = and_parts _ _ (sym (list_all-append (λ i. is_strict_next (next_difat v bytes i)) own (next ∷ us)) ∙ ap (list_all (λ i. is_strict_next (next_difat v bytes i))) (sym whole) ∙ all) in
               (and_parts _ _ parts.1).0) a.ended;
         },

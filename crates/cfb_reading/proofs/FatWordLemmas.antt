@@ -10,7 +10,7 @@ use Rattle.cfb_format.specs.declared.validate.Validation.{Validation}
 use Rattle.cfb_format.specs.declared.version.Version.{Version}
 use Rattle.cfb_format.specs.Bytes.{sector_words}
 use Rattle.cfb_format.specs.Fat.{fat_words}
-use Rattle.cfb_tables.specs.ReadFat.{is_padding_in}
+use Rattle.cfb_reading.specs.cfb_tables.ReadFat.{is_padding_in}
 
 -- ---- two lists one behind the other
 

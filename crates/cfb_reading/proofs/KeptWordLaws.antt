@@ -2,9 +2,9 @@
 use Rattle.std.proofs.Common.{◌≡◌, ℕ, List, sym, ◌∙◌, ap, subst, take}
 use Rattle.cfb_format.specs.Bytes.{sector_count}
 use Rattle.cfb_format.specs.Fat.{fat_words, raw_fat}
-use Rattle.cfb_tables.specs.ReadFat.{AcceptsFat}
-use Rattle.cfb_tables.proofs.FatLaws.{read_sound, read_complete}
-use Rattle.cfb_tables.proofs.WordLemmas.{padding-is-apart}
+use Rattle.cfb_reading.specs.cfb_tables.ReadFat.{AcceptsFat}
+use Rattle.cfb_reading.proofs.cfb_tables.FatLaws.{read_sound, read_complete}
+use Rattle.cfb_reading.proofs.cfb_tables.WordLemmas.{padding-is-apart}
 use Rattle.cfb_reading.specs.FatWords.{KeptWordsMakeTheFat, FatsWordsAreKept, KeptWordsPointIntoFile, PointsInto}
 
 pub make-the-fat : KeptWordsMakeTheFat

@@ -1,3 +1,5 @@
+pub use Rattle.cfb_alloc.proofs.cfb_table_words
+pub use Rattle.cfb_alloc.proofs.cfb_tables
 pub mod PartRefusals
 pub mod SectorFileLemmas
 pub mod DifatLemmas

@@ -1,23 +1,21 @@
 -- The slots of a sector, and the entries in them (MS-CFB 2.6).
-use Rattle.std.proofs.Common.{◌≡◌, ◌≤◌, ◌<◌, ◌+◌, ◌*◌, ◌/◌, ◌%◌, ℕ, zero, suc, List, [], ◌∷◌, ◌++◌, refl, sym, ◌∙◌, ap, subst, length, take, drop, arith, append_assoc, append-nil, length-append, mod-lt}
-use Rattle.std.specs.Prelude.{map, flat_map, slice_index_or}
+use Rattle.std.proofs.Common.{◌≡◌, ◌≤◌, ◌<◌, ◌+◌, ◌*◌, ◌/◌, ℕ, zero, suc, List, [], ◌∷◌, ◌++◌, refl, sym, ◌∙◌, ap, subst, length, take, drop, arith, append_assoc, append-nil}
+use Rattle.std.specs.Prelude.{map, slice_index_or}
 use Rattle.std.specs.List.{AllZip, range_with_len}
 use Rattle.std.specs.Simd.{first_chunks}
 use Rattle.std.proofs.lemmas.List.{drop-drop, map-append, take_more}
-use Rattle.std.proofs.lemmas.List.FromFn.{length-map-range_with_len}
 use Rattle.cfb_format.specs.declared.version.Version.{Version}
 use Rattle.cfb_format.specs.declared.version.Version.TheVariants.{V3, V4}
 use Rattle.cfb_format.specs.declared.validate.Validation.{Validation}
 use Rattle.cfb_format.specs.declared.validate.Validation.TheVariants.{Permissive, Strict}
-use Rattle.cfb_format.specs.declared.objtype.ObjType.{ObjType}
-use Rattle.cfb_format.specs.declared.objtype.ObjType.TheVariants.{Unallocated, Storage, Stream, Root}
-use Rattle.cfb_format.specs.Bytes.{entries_per_sector, long_at, max_stream_len, sector_bytes, sector_len}
-use Rattle.cfb_format.specs.DirectoryEntry.{Entry, AcceptsEntry, IsEntry, IsStrictEntry, slot_at, slots, slots_of_sector, stored_len, unless_storage}
+use Rattle.cfb_format.specs.Bytes.{entries_per_sector, max_stream_len, sector_bytes, sector_len}
+use Rattle.cfb_format.specs.DirectoryEntry.{Entry, AcceptsEntry, IsEntry, IsStrictEntry, slot_at, slots_of_sector, stored_len}
 use Rattle.cfb_format.specs.Header.{IfStrict}
 use Rattle.cfb_codecs.specs.declared.direntry.DirEntry.{DirEntry}
 use Rattle.cfb_codecs.specs.EntryModel.{entries_of, entry_of}
 use Rattle.cfb_reading.specs.ReadDirectory.{AppendsSlots, ReadsSlot}
 use Rattle.cfb_reading.proofs.Zips.{zip-append, zip-as, zip-both}
+use Rattle.cfb_format.proofs.Slots.{stored_short, read_short}
 
 -- ---- the slots, cut out of a sector's bytes
 
@@ -47,15 +45,6 @@ length-chunks (suc k) bytes = ap suc (length-chunks k (drop 128 bytes))
 
 pub chunk-count : (v : Version) (bytes : List ℕ) (n : ℕ) → n ≡ sector_len v → length (first_chunks 128 (n / 128) bytes) ≡ entries_per_sector v
 chunk-count v bytes n whole = length-chunks (n / 128) bytes ∙ ap (λ m. m / 128) whole ∙ per-sector v
-
-pub length-slots : (v : Version) (bytes list : List ℕ) → length (slots v bytes list) ≡ length list * entries_per_sector v
-unfolding slots
-length-slots v bytes [] = omega arith
-length-slots v bytes (i ∷ list) =
-    let one : length (slots_of_sector v bytes i) ≡ entries_per_sector v = length-map-range_with_len (slot_at (sector_bytes v bytes i)) 0 (entries_per_sector v) in
-    let both = length-append (slots_of_sector v bytes i) (flat_map (slots_of_sector v bytes) list) in
-    let more = length-slots v bytes list in
-    omega (arith, one, both, more)
 
 -- where the pieces hold no entries, the sector's slots do not
 pub no-entries : (validation : Validation) (v w : Version) (file : List ℕ) (i : ℕ) (bytes : List ℕ) (chunks : List (List ℕ)) → w ≡ v → length bytes ≡ sector_len v
@@ -108,16 +97,6 @@ zip-accepted Strict version xs es z s =
 
 -- ---- the length of a stream
 
-stored-len_fits : (v : Version) (slot : List ℕ) → stored_len v slot ≤ max_stream_len v
-stored-len_fits V3 slot = let low : long_at slot 120 % 0x1_0000_0000 < 0x1_0000_0000 = mod-lt (long_at slot 120) (omega arith) in omega (arith, low)
-stored-len_fits V4 slot = let low : long_at slot 120 % 0x1_0000_0000_0000_0000 < 0x1_0000_0000_0000_0000 = mod-lt (long_at slot 120) (omega arith) in omega (arith, low)
-
-read_len : (kind : ObjType) (n most : ℕ) → n ≤ most → unless_storage kind n ≤ most
-read_len Unallocated n most h = h
-read_len Storage n most h = omega arith
-read_len Stream n most h = h
-read_len Root n most h = h
-
 pub entry-len_fits : (version : Version) (slot : List ℕ) (e : Entry) → IsEntry version slot e → e.stream_len ≤ max_stream_len version
 entry-len_fits version slot e h =
-    subst (λ n. n ≤ max_stream_len version) (sym h.stream_len) (read_len e.obj_type (stored_len version slot) (max_stream_len version) (stored-len_fits version slot))
+    subst (λ n. n ≤ max_stream_len version) (sym h.stream_len) (read_short e.obj_type (stored_len version slot) (max_stream_len version) (stored_short version slot))

@@ -18,7 +18,8 @@ use Rattle.cfb_entries.specs.EntryList.{HaveShortNames}
 use Rattle.cfb_reading.specs.ReadDirectory.{AcceptsDirectory, AppendsSlots, AreFromSlots, IsDirectoryChain, NoDirectory, ReadsSlot}
 use Rattle.cfb_reading.proofs.AllWhole.{whole-at}
 use Rattle.cfb_reading.proofs.Zips.{zip-append, zip-at, zip-length, zip-part}
-use Rattle.cfb_reading.proofs.SlotChunks.{entry-len_fits, length-slots, zip-accepted, zip-entries, zip-strict}
+use Rattle.cfb_reading.proofs.SlotChunks.{entry-len_fits, zip-accepted, zip-entries, zip-strict}
+use Rattle.cfb_format.proofs.Slots.{length-slots}
 
 -- what the sectors so far have given: their slots where the medium serves what it holds, and all of them are whole where the file is
 -- measured

@@ -7,13 +7,14 @@ use Rattle.std.proofs.lemmas.List.{drop-drop, take_all, take_more}
 use Rattle.std.proofs.lemmas.Grind.{flat_map-append}
 use Rattle.std.proofs.lemmas.List.Folds.{list_all-append}
 use Rattle.cfb_format.specs.declared.version.Version.{Version}
-use Rattle.cfb_format.specs.declared.version.Version.TheVariants.{V3, V4}
 use Rattle.cfb_format.specs.Bytes.{is_whole_sector, sector_bytes, sector_len, sector_start, sector_words, word_at, words, words_per_sector}
 use Rattle.cfb_format.specs.Chain.{IsChain}
 use Rattle.cfb_format.proofs.Unique.{IsChain-unique}
 use Rattle.cfb_reading.specs.ReadMinifat.{HasMinifatWords, NoMinifatWords}
 use Rattle.cfb_reading.proofs.AllWhole.{whole-at}
-use Rattle.cfb_sectors.proofs.ReadWords.{words-length, words_fit, words_of_part}
+use Rattle.cfb_sectors.proofs.ReadWords.{words_fit, words_of_part}
+use Rattle.cfb_format.proofs.Words.{words-length}
+use Rattle.cfb_sectors.proofs.FreshLemmas.{word_count}
 
 words-one-more : (k : ℕ) (bytes : List ℕ) → words (k + 1) bytes ≡ words k bytes ++ from_le_bytes w32 (drop (4 * k) bytes) ∷ []
 unfolding words
@@ -41,18 +42,14 @@ pub ruleset appended_words = (no-word, appended-word)
 
 -- ---- the words of a sector's bytes
 
-words-in-sector : (v : Version) → sector_len v / 4 ≡ words_per_sector v
-words-in-sector V3 = refl
-words-in-sector V4 = refl
-
 pub sector-words-read : (v : Version) (file : List ℕ) (i : ℕ) (bytes : List ℕ) → length bytes ≡ sector_len v → bytes ≡ sector_bytes v file i
     → words (length bytes / 4) bytes ≡ sector_words v file i
 sector-words-read v file i bytes whole is =
-    ap (λ n. words (n / 4) bytes) whole ∙ ap (λ n. words n bytes) (words-in-sector v) ∙ ap (words (words_per_sector v)) is
+    ap (λ n. words (n / 4) bytes) whole ∙ ap (λ n. words n bytes) (word_count v) ∙ ap (words (words_per_sector v)) is
     ∙ words_of_part (words_per_sector v) file (sector_start v i) (sector_len v) (words_fit v)
 
 pub sector-words-count : (v : Version) (bytes : List ℕ) → length bytes ≡ sector_len v → length (words (length bytes / 4) bytes) ≡ words_per_sector v
-sector-words-count v bytes whole = words-length (length bytes / 4) bytes ∙ ap (λ n. n / 4) whole ∙ words-in-sector v
+sector-words-count v bytes whole = words-length (length bytes / 4) bytes ∙ ap (λ n. n / 4) whole ∙ word_count v
 
 -- ---- sector by sector
 

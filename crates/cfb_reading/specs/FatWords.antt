@@ -9,7 +9,7 @@ use Rattle.cfb_format.specs.Header.{IfStrict}
 use Rattle.cfb_format.specs.Reading.{Reading}
 use Rattle.cfb_format.specs.Soundness.{PointsIntoFile}
 use Rattle.cfb_sectors.specs.Sectors.{SectorFile}
-use Rattle.cfb_tables.specs.ReadFat.{AcceptsFat, is_padding_in}
+use Rattle.cfb_reading.specs.cfb_tables.ReadFat.{AcceptsFat, is_padding_in}
 use Rattle.cfb_reading.specs.Difat.{has_sector}
 
 -- opening in this mode keeps these words of the FAT sectors, one for each of n sectors as far as there are any: the FAT sectors are

@@ -1,3 +1,6 @@
+pub use Rattle.cfb_entries.specs as cfb_entries
+pub use Rattle.cfb_mini_table.specs.cfb_tables
+pub use Rattle.cfb_mini_table.specs as cfb_mini_table
 pub mod PartRefused
 pub mod Difat
 pub mod FatWords

@@ -4,7 +4,7 @@ ghost use Rattle.std.specs.List.{list_all};
 ghost use Rattle.cfb_format.specs.Bytes.{is_regular, sector_words, words_per_sector};
 ghost use Rattle.cfb_format.specs.Refused.{CountsFailure, IsInvalidData, IsMemory};
 ghost use Rattle.cfb_alloc.specs.Alloc.{IsMeasured};
-ghost use Rattle.cfb_tables.specs.ReadFat.{is_padding_in};
+ghost use Rattle.cfb_reading.specs.cfb_tables.ReadFat.{is_padding_in};
 ghost use Rattle.cfb_reading.specs.PartRefused.{PartRefused};
 ghost use Rattle.cfb_reading.specs.Difat.{has_sector};
 ghost use Rattle.cfb_reading.specs.FatWords.{AcceptsFatWords, AcceptsNoFatWords, ArePadding, AreThere, PointsInto};

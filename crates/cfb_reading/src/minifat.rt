@@ -3,7 +3,7 @@ ghost use Rattle.std.specs.Prelude.{◌≡◌, ◌++◌, ℕ, ◌+◌, ◌*◌, 
 ghost use Rattle.cfb_format.specs.Bytes.{is_whole_sector, sector_len, sector_words, words, words_per_sector};
 ghost use Rattle.cfb_format.specs.Chain.{IsChain};
 ghost use Rattle.cfb_format.specs.Refused.{CountsFailure, IsMemory};
-ghost use Rattle.cfb_tables.specs.Refused.{ChangeRefused};
+ghost use Rattle.cfb_reading.specs.cfb_tables.Refused.{ChangeRefused};
 ghost use Rattle.cfb_alloc.specs.Alloc.{IsMeasured};
 ghost use Rattle.cfb_reading.specs.ReadMinifat.{HasMinifatWords, NoMinifatWords};
 

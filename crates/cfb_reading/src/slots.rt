@@ -8,7 +8,7 @@ ghost use Rattle.cfb_format.specs.Full.{max_entries};
 ghost use Rattle.cfb_format.specs.Refused.{CountsFailure, IsInvalidOrMemory};
 ghost use Rattle.cfb_codecs.specs.EntryModel.{entries_of};
 ghost use Rattle.cfb_entries.specs.EntryList.{HaveShortNames};
-ghost use Rattle.cfb_tables.specs.Refused.{ChangeRefused};
+ghost use Rattle.cfb_reading.specs.cfb_tables.Refused.{ChangeRefused};
 ghost use Rattle.cfb_alloc.specs.Alloc.{IsMeasured};
 ghost use Rattle.cfb_reading.specs.ReadDirectory.{AcceptsDirectory, AppendsSlots, AreFromSlots, FillsSlots, IsDirectoryChain, NoDirectory};
 

@@ -2,7 +2,7 @@
 ghost use Rattle.std.specs.Prelude.{◌≡◌, ◌+◌, ◌<◌, ◌≤◌, length, IsTrue, IfErr, OnOk};
 ghost use Rattle.cfb_format.specs.Bytes.{sector_bytes, sector_len, sector_start};
 ghost use Rattle.cfb_format.specs.Refused.{CountsFailure, IsInvalidData};
-ghost use Rattle.cfb_tables.specs.Refused.{ChangeRefused};
+ghost use Rattle.cfb_reading.specs.cfb_tables.Refused.{ChangeRefused};
 
 use cfb_alloc::alloc::Allocator;
 use cfb_format::error::{Detail, Error};

@@ -1,31 +1,27 @@
 -- The steps by which a chain begins with bytes: its sectors are given them, and zeros behind them.
-use Rattle.std.proofs.Common.{◌≡◌, ◌≤◌, ◌<◌, ◌-◌, ◌*◌, ◌/◌, ◌%◌, inl, inr, ℕ, List, [], refl, sym, ◌∙◌, ap, subst, length, arith}
-use Rattle.std.specs.Prelude.{slice_index}
+use Rattle.std.proofs.Common.{◌≡◌, ◌≤◌, ◌<◌, ◌-◌, ◌*◌, ◌/◌, ◌%◌, inl, inr, ℕ, List, [], sym, ◌∙◌, subst, length, arith}
 use Rattle.std.proofs.lemmas.Bool.{cases_lt}
-use Rattle.std.proofs.lemmas.List.{get_or-replicate}
 use Rattle.cfb_format.specs.declared.version.Version.{Version}
 use Rattle.cfb_format.specs.Bytes.{sector_len}
 use Rattle.cfb_format.specs.Chain.{IsChain}
 use Rattle.cfb_sectors.specs.Sectors.{init_bytes}
 use Rattle.cfb_sectors.specs.declared.sector.SectorInit.TheVariants.{Zero}
-use Rattle.cfb_table_words.specs.Along.{AreFilledFrom}
-use Rattle.cfb_table_words.proofs.FilledSectors.{given_first, given_fresh, init_zero}
+use Rattle.cfb_resizing.specs.cfb_table_words.Along.{AreFilledFrom}
+use Rattle.cfb_resizing.proofs.cfb_table_words.FilledSectors.{given_first, given_fresh}
 use Rattle.cfb_tables.specs.Listed.{gained}
 use Rattle.cfb_tables.specs.Tables.{first_or_end}
 use Rattle.cfb_tables.proofs.ListedLemmas.{end_chain}
-use Rattle.cfb_alloc.specs.Alloc.{AllocatorState}
-use Rattle.cfb_alloc.specs.ListedChain.{Lengthens}
-use Rattle.cfb_chains.specs.ChainPlaces.{place_along}
-use Rattle.cfb_chains.proofs.ChainContent.{rest_short}
-use Rattle.cfb_content.proofs.PlacedOnce.{inside-of}
+use Rattle.cfb_resizing.specs.cfb_alloc.Alloc.{AllocatorState}
+use Rattle.cfb_resizing.specs.cfb_alloc.ListedChain.{Lengthens}
+use Rattle.cfb_resizing.specs.cfb_chains.ChainPlaces.{place_along}
+use Rattle.cfb_resizing.proofs.cfb_chains.ChainContent.{rest_short}
 use Rattle.cfb_resizing.specs.Turning.{IsPaddedAlong}
+use Rattle.cfb_content.proofs.GrownWith.{zero-in}
+use Rattle.cfb_resizing.proofs.cfb_chains.ChainRuns.{inside_listed}
 
 -- a list with nothing in it is a chain
 pub no-chain : (fat ids : List ℕ) → ids ≡ [] → IsChain fat (first_or_end ids) ids
 no-chain fat ids fresh = subst (λ (l : List ℕ). IsChain fat (first_or_end l) l) (sym fresh) (end_chain fat)
-
-zero-in : (v : Version) (r : ℕ) → r < sector_len v → slice_index (init_bytes v Zero) r ≡ 0
-zero-in v r lt = ap (λ (xs : List ℕ). slice_index xs r) (init_zero v Zero refl) ∙ get_or-replicate (sector_len v) r 0 0 lt
 
 -- sectors that were given bytes, and zeros behind them, read so
 begun-along : (v : Version) (ids bytes c : List ℕ) → AreFilledFrom v Zero bytes c ids → IsPaddedAlong (length bytes) (length ids * sector_len v) (λ k. k) (place_along v ids) bytes c
@@ -39,7 +35,7 @@ begun-along v ids bytes c filled = record {
 pub begun-fits : (v : Version) (n count : ℕ) → ((k : ℕ) → k < n → k / sector_len v < count) → n ≤ count * sector_len v
 begun-fits v n count room = elim (cases_lt 0 n) [
   | inr none ↦ omega (arith, none)
-  | inl some ↦ (let last = room (n - 1) (omega (arith, some)) in let in-last = inside-of v (n - 1) count last in omega (arith, in-last, some))
+  | inl some ↦ (let last = room (n - 1) (omega (arith, some)) in let in-last = inside_listed v (n - 1) count last in omega (arith, in-last, some))
 ]
 
 module _ (old mid : AllocatorState) (count : ℕ) (ids ids' : List ℕ) (fresh : ids ≡ []) (made : Lengthens count ids ids' old.tables mid.tables) where

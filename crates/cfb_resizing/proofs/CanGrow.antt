@@ -9,11 +9,11 @@ use Rattle.cfb_format.specs.Siblings.{entry_at}
 use Rattle.cfb_tables.specs.Room.{IsTooFewAfter}
 use Rattle.cfb_tables.specs.Tables.{IsTooFew, TableState, sizes_after, sizes_of}
 use Rattle.cfb_tables.proofs.RoomLemmas.{nothing-given-back}
-use Rattle.cfb_alloc.specs.Alloc.{AllocatorState}
-use Rattle.cfb_chains.proofs.LentContent.{wanted_is}
-use Rattle.cfb_mini_sectors.specs.State.{HoldsMini, MiniState, entries_of, table_of, tables_in, version_of}
-use Rattle.cfb_mini_sectors.specs.Steps.{IsTooFewAfterFor}
-use Rattle.cfb_mini.proofs.MiniRoom.{refused-is-too-few}
+use Rattle.cfb_resizing.specs.cfb_alloc.Alloc.{AllocatorState}
+use Rattle.cfb_resizing.proofs.cfb_chains.LentContent.{wanted_is}
+use Rattle.cfb_resizing.specs.cfb_mini_sectors.State.{HoldsMini, MiniState, entries_of, table_of, tables_in, version_of}
+use Rattle.cfb_resizing.specs.cfb_mini_sectors.Steps.{IsTooFewAfterFor}
+use Rattle.cfb_resizing.proofs.cfb_mini.MiniRoom.{refused-is-too-few}
 use Rattle.cfb_content.specs.Contents.{IsTooLongFor, len_of, mini_sectors_owned, sectors_owned}
 use Rattle.cfb_content.specs.Laws.{LacksNumbersFor}
 use Rattle.cfb_content.specs.Parts.{IsWholeChain, IsWholeMiniChain}

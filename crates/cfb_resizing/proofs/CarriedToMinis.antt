@@ -17,21 +17,21 @@ use Rattle.cfb_tables.specs.Listed.{gained}
 use Rattle.cfb_tables.specs.Tables.{PassesLimit, TableState, TablesGiveBack, first_or_end, sizes_of}
 use Rattle.cfb_tables.specs.Refused.{ChangeRefused}
 use Rattle.cfb_tables.proofs.ChainLemmas.{members-busy}
-use Rattle.cfb_tables.proofs.Members.{Contains-here, Contains-nil, Contains-one, Contains-or, Contains-there, distinct-apart, distinct-right, value-below, value-set, value-set_other}
-use Rattle.cfb_mini_table.proofs.CountLemmas.{bit, count-cons}
-use Rattle.cfb_mini_table.proofs.FreedLemmas.{count-free}
-use Rattle.cfb_alloc.specs.Alloc.{AllocatorState, ChangesSectors, HoldsTables}
-use Rattle.cfb_alloc.specs.Broken.{BreaksOff}
-use Rattle.cfb_alloc.specs.Frame.{Spares}
-use Rattle.cfb_alloc.specs.ListedChain.{Shortens}
-use Rattle.cfb_alloc.proofs.Frames.{spares-less, spares-then}
-use Rattle.cfb_mini_table.specs.MiniTable.{TakesMini}
-use Rattle.cfb_mini_sectors.specs.State.{HoldsMini, MiniState, bytes_of, mini_stream_of, table_of, tables_in, version_of}
-use Rattle.cfb_mini_sectors.specs.Steps.{GrowsFor, IsTooFewAfterFor, IsTooFewFor, KeepsLimits, KeepsMini, KeepsSystem, MovesRoot, SparesMini, StopsShortOrFull, minifat_lacks, mini_stream_lacks, system_sectors}
-use Rattle.cfb_mini_sectors.specs.Held.{with_table}
-use Rattle.cfb_mini_sectors.proofs.MiniFrames.{held-places, spares-then as mini-spares-then}
-use Rattle.cfb_mini.specs.MiniSectors.{ChangesFileOnly, HasMiniSector}
-use Rattle.cfb_mini.proofs.MiniDirectory.{chains-changed}
+use Rattle.cfb_tables.proofs.Members.{value-set, value-set_other}
+use Rattle.cfb_resizing.proofs.cfb_mini_table.CountLemmas.{bit}
+use Rattle.cfb_resizing.proofs.cfb_mini_table.FreedLemmas.{count-free}
+use Rattle.cfb_resizing.specs.cfb_alloc.Alloc.{AllocatorState, ChangesSectors, HoldsTables}
+use Rattle.cfb_resizing.specs.cfb_alloc.Broken.{BreaksOff}
+use Rattle.cfb_resizing.specs.cfb_alloc.Frame.{Spares}
+use Rattle.cfb_resizing.specs.cfb_alloc.ListedChain.{Shortens}
+use Rattle.cfb_resizing.proofs.cfb_alloc.Frames.{spares-less, spares-then}
+use Rattle.cfb_resizing.specs.cfb_mini_table.MiniTable.{TakesMini}
+use Rattle.cfb_resizing.specs.cfb_mini_sectors.State.{HoldsMini, MiniState, bytes_of, mini_stream_of, table_of, tables_in, version_of}
+use Rattle.cfb_resizing.specs.cfb_mini_sectors.Steps.{GrowsFor, IsTooFewAfterFor, IsTooFewFor, KeepsLimits, KeepsMini, KeepsSystem, MovesRoot, SparesMini, StopsShortOrFull, minifat_lacks, mini_stream_lacks, system_sectors}
+use Rattle.cfb_resizing.specs.cfb_mini_sectors.Held.{with_table}
+use Rattle.cfb_resizing.proofs.cfb_mini_sectors.MiniFrames.{held-places, spares-then as mini-spares-then}
+use Rattle.cfb_resizing.specs.cfb_mini.MiniSectors.{ChangesFileOnly, HasMiniSector}
+use Rattle.cfb_resizing.proofs.cfb_mini.MiniDirectory.{chains-changed}
 use Rattle.cfb_content.specs.Parts.{StandAlong}
 use Rattle.cfb_content.specs.Contents.{mini_place_along}
 use Rattle.cfb_content.proofs.Changing.{growth-stays}
@@ -39,6 +39,9 @@ use Rattle.cfb_resizing.specs.Turning.{CarriesToMinis, KeepsAround, KeepsTablesT
 use Rattle.cfb_resizing.proofs.CarriedToSectors.{apart-spares-mini}
 use Rattle.cfb_resizing.proofs.Tightness.{file-around, file-mini, file-system, file-tight, grown-tight, same-tight, shortened-tight, stream-from}
 use Rattle.cfb_resizing.proofs.TurnedInSectors.{shortened-sizes}
+use Rattle.cfb_format.proofs.Members.{Contains-here, Contains-nil, Contains-one, Contains-or, Contains-there, distinct-apart, distinct-right}
+use Rattle.cfb_format.proofs.Walks.{value-below}
+use Rattle.cfb_tables.proofs.FreeLemmas.{count-cons}
 
 -- ---- the chain is free
 

@@ -9,40 +9,42 @@ use Rattle.cfb_format.specs.declared.validate.Validation.{Validation}
 use Rattle.cfb_format.specs.Bytes.{sector_len}
 use Rattle.cfb_format.specs.Refused.{AfterMedium}
 use Rattle.cfb_sectors.specs.Words.{RangeStays}
-use Rattle.cfb_soundness.specs.Places.{mini_start}
+use Rattle.cfb_resizing.specs.cfb_soundness.Places.{mini_start}
 use Rattle.cfb_tables.specs.Changes.{AreDisjoint}
 use Rattle.cfb_tables.specs.Clean.{IsUnnamed}
 use Rattle.cfb_tables.specs.Refused.{ChangeRefused}
 use Rattle.cfb_tables.specs.Tables.{AreSizes, first_or_end, sizes_of}
-use Rattle.cfb_tables.proofs.Members.{Contains-nil, first_of_three}
-use Rattle.cfb_alloc.specs.Agreement.{KeepsSectors}
-use Rattle.cfb_alloc.specs.Alloc.{AllocatorState, HoldsTables, IsOtherHeaderByte}
-use Rattle.cfb_alloc.specs.Frame.{Spares}
-use Rattle.cfb_alloc.specs.ListedChain.{Lengthens}
-use Rattle.cfb_alloc.proofs.Frames.{other-chains-spared, spares-then}
-use Rattle.cfb_chains.specs.ChainPlaces.{place_along}
-use Rattle.cfb_mini_sectors.specs.State.{HoldsMini, MiniState, bytes_of, mini_place, mini_stream_of, table_of, tables_in, version_of}
-use Rattle.cfb_mini_table.specs.MiniTable.{MiniGivesBack}
-use Rattle.cfb_mini_sectors.specs.Steps.{AreStartsUnnamed, CanGiveRoomBack, GivesRoomBack, IsInMiniStream, IsZeroMini, KeepsLimits, KeepsSizes, MovesRoot, SparesMini, system_sectors}
-use Rattle.cfb_mini_sectors.specs.Held.{with_table}
-use Rattle.cfb_mini_sectors.proofs.HeldMini.{no-tables}
-use Rattle.cfb_mini_sectors.proofs.MinifatGrown.{same_listed}
-use Rattle.cfb_mini_sectors.proofs.MiniFrames.{held-places, sectors-spare, spares-then as mini-spares-then}
-use Rattle.cfb_mini.proofs.MiniDirectory.{chains-changed}
+use Rattle.cfb_tables.proofs.Members.{first_of_three}
+use Rattle.cfb_resizing.specs.cfb_alloc.Agreement.{KeepsSectors}
+use Rattle.cfb_resizing.specs.cfb_alloc.Alloc.{AllocatorState, HoldsTables, IsOtherHeaderByte}
+use Rattle.cfb_resizing.specs.cfb_alloc.Frame.{Spares}
+use Rattle.cfb_resizing.specs.cfb_alloc.ListedChain.{Lengthens}
+use Rattle.cfb_resizing.proofs.cfb_alloc.Frames.{other-chains-spared, spares-then}
+use Rattle.cfb_resizing.specs.cfb_chains.ChainPlaces.{place_along}
+use Rattle.cfb_resizing.specs.cfb_mini_sectors.State.{HoldsMini, MiniState, bytes_of, mini_place, mini_stream_of, table_of, tables_in, version_of}
+use Rattle.cfb_resizing.specs.cfb_mini_table.MiniTable.{MiniGivesBack}
+use Rattle.cfb_resizing.specs.cfb_mini_sectors.Steps.{AreStartsUnnamed, CanGiveRoomBack, GivesRoomBack, IsInMiniStream, IsZeroMini, KeepsLimits, KeepsSizes, MovesRoot, SparesMini, system_sectors}
+use Rattle.cfb_resizing.specs.cfb_mini_sectors.Held.{with_table}
+use Rattle.cfb_resizing.proofs.cfb_mini_sectors.HeldMini.{no-tables}
+use Rattle.cfb_resizing.proofs.cfb_mini_sectors.MinifatGrown.{same_listed}
+use Rattle.cfb_resizing.proofs.cfb_mini_sectors.MiniFrames.{held-places, sectors-spare, spares-then as mini-spares-then}
+use Rattle.cfb_resizing.proofs.cfb_mini.MiniDirectory.{chains-changed}
 use Rattle.cfb_content.proofs.Apart.{system-busy}
-use Rattle.cfb_content.proofs.Kept.{mini-below, stays-inside}
-use Rattle.cfb_content.proofs.Refusals.{refused-as}
+use Rattle.cfb_content.proofs.Kept.{stays-inside}
 use Rattle.cfb_resizing.specs.Turning.{CarriesToSectors, GoesUnnamed, IsPaddedAlong, KeepsAround, KeepsTablesTight, StopsOrBegun}
-use Rattle.cfb_resizing.proofs.MiniStreamChain.{stream-is-chain}
 use Rattle.cfb_resizing.proofs.Tightness.{sizes-tight}
 use Rattle.cfb_resizing.proofs.TurnedInMinis.{cut-settles}
+use Rattle.cfb_format.proofs.Members.{Contains-nil}
+use Rattle.cfb_format.proofs.MiniPlaces.{mini_below}
+use Rattle.cfb_tables.proofs.Refusals.{refused-as}
+use Rattle.cfb_resizing.proofs.cfb_mini_changes.MiniGrown.{held-chain}
 
 -- a change of sectors that are none of the directory's, of the MiniFAT's and of the mini stream's leaves the mini sectors
 pub apart-spares-mini : (v : Validation) (s : MiniState) (a : AllocatorState) (own : List ℕ) → HoldsMini v s → AreDisjoint (system_sectors s) own → Spares own (table_of s) a
     → SparesMini [] s (with_table s a)
 apart-spares-mini v s a own held apart spares =
     let list = mini_stream_of s in
-    let chain = stream-is-chain v s held in
+    let chain = held-chain v s held in
     let keeps : KeepsSectors (version_of s) list (bytes_of s) a.file.bytes =
     (other-chains-spared own (table_of s) a (first_or_end list) list spares chain
     (λ i m o. apart i (Contains-append_right (s.directory.sectors ++ s.minifat_sectors) list i m) o)
@@ -70,7 +72,7 @@ pub fresh-keeps-zeros : (v : Validation) (s : MiniState) (a : AllocatorState) �
     → (m : ℕ) → 64 * m < length (mini_stream_of s) * sector_len (version_of s) → IsZeroMini s m → IsZeroMini (with_table s a) m
 fresh-keeps-zeros v s a held spares version m room zero =
     let list = mini_stream_of s in
-    let chain = stream-is-chain v s held in
+    let chain = held-chain v s held in
     let keeps : KeepsSectors (version_of s) list (bytes_of s) a.file.bytes =
     (other-chains-spared [] (table_of s) a (first_or_end list) list spares chain (λ i m o. Contains-nil i o)
     (no-tables v (table_of s) (first_or_end list) list held.directory.tables chain)).2 in
@@ -78,7 +80,7 @@ fresh-keeps-zeros v s a held spares version m room zero =
     let sector = slice_index list index in
     zeros-stay s (with_table s a) m version refl
     (stays-inside (version_of s) sector m (mini_place s m) (bytes_of s) a.file.bytes refl
-    (keeps sector (Contains-get_or list index 0 (mini-below (version_of s) m (length list) room)))) zero
+    (keeps sector (Contains-get_or list index 0 (mini_below (version_of s) m (length list) room)))) zero
 
 module _ (s mid : MiniState) (list : List ℕ) where
   -- the mini sectors are held once the mini chain is free

@@ -10,14 +10,14 @@ use Rattle.cfb_format.specs.Full.{rounded_up}
 use Rattle.cfb_tables.specs.Listed.{ends_of, gained}
 use Rattle.cfb_tables.specs.Tables.{first_or_end}
 use Rattle.cfb_tables.proofs.ChainLemmas.{members-busy}
-use Rattle.cfb_alloc.specs.Frame.{Spares}
-use Rattle.cfb_alloc.proofs.Frames.{spares-then}
-use Rattle.cfb_chains.proofs.ChainLists.{ends_among}
-use Rattle.cfb_mini_table.specs.MiniTable.{TakesMini}
-use Rattle.cfb_mini_sectors.specs.State.{HoldsMini, MiniState, bytes_of, mini_stream_of, table_of, tables_in, version_of}
-use Rattle.cfb_mini_sectors.specs.Steps.{GrowsFor, IsZeroMini, SparesMini, system_sectors}
-use Rattle.cfb_mini_sectors.proofs.MiniFrames.{held-places, spares-less as mini-spares-less, spares-then as mini-spares-then}
-use Rattle.cfb_mini.specs.MiniSectors.{ChangesFileOnly, HasMiniSector, KeepsMiniBytesBut}
+use Rattle.cfb_resizing.specs.cfb_alloc.Frame.{Spares}
+use Rattle.cfb_resizing.proofs.cfb_alloc.Frames.{spares-then}
+use Rattle.cfb_resizing.proofs.cfb_chains.ChainLists.{ends_among}
+use Rattle.cfb_resizing.specs.cfb_mini_table.MiniTable.{TakesMini}
+use Rattle.cfb_resizing.specs.cfb_mini_sectors.State.{HoldsMini, MiniState, bytes_of, mini_stream_of, table_of, tables_in, version_of}
+use Rattle.cfb_resizing.specs.cfb_mini_sectors.Steps.{GrowsFor, IsZeroMini, SparesMini, system_sectors}
+use Rattle.cfb_resizing.proofs.cfb_mini_sectors.MiniFrames.{held-places, spares-less as mini-spares-less, spares-then as mini-spares-then}
+use Rattle.cfb_resizing.specs.cfb_mini.MiniSectors.{ChangesFileOnly, HasMiniSector, KeepsMiniBytesBut}
 use Rattle.cfb_content.specs.Contents.{mini_place_along}
 use Rattle.cfb_content.specs.Parts.{ChangesOnlyPlaces, IsThereInMinis, StandAlong}
 use Rattle.cfb_resizing.specs.Turning.{IsPaddedAlong, KeepsTablesTight}

@@ -13,17 +13,17 @@ use Rattle.cfb_sectors.specs.declared.sector.SectorInit.TheVariants.{Zero}
 use Rattle.cfb_tables.specs.Listed.{gained}
 use Rattle.cfb_tables.specs.Tables.{first_or_end}
 use Rattle.cfb_tables.proofs.ChainLemmas.{members-busy}
-use Rattle.cfb_tables.proofs.Members.{Contains-nil}
-use Rattle.cfb_alloc.specs.Alloc.{AllocatorState, HoldsTables, IsFilled, OthersStay}
-use Rattle.cfb_alloc.specs.ListedChain.{Lengthens}
-use Rattle.cfb_chains.specs.ChainPlaces.{place_along}
-use Rattle.cfb_chains.proofs.LentContent.{wanted_is}
-use Rattle.cfb_chains.proofs.OwnWrites.{enough_by}
-use Rattle.cfb_chains.proofs.PlacedBytes.{no_more}
-use Rattle.cfb_mini_sectors.proofs.HeldMini.{no-tables}
+use Rattle.cfb_resizing.specs.cfb_alloc.Alloc.{AllocatorState, HoldsTables, IsAsFilled, OthersStay}
+use Rattle.cfb_resizing.specs.cfb_alloc.ListedChain.{Lengthens}
+use Rattle.cfb_resizing.specs.cfb_chains.ChainPlaces.{place_along}
+use Rattle.cfb_resizing.proofs.cfb_chains.LentContent.{wanted_is}
+use Rattle.cfb_resizing.proofs.cfb_chains.OwnWrites.{enough_by}
+use Rattle.cfb_resizing.proofs.cfb_chains.PlacedBytes.{no_more}
+use Rattle.cfb_resizing.proofs.cfb_mini_sectors.HeldMini.{no-tables}
 use Rattle.cfb_content.specs.Parts.{ChangesOnlyPlaces, IsThereInSectors, StandAlong}
 use Rattle.cfb_resizing.specs.Turning.{IsPaddedAlong}
 use Rattle.cfb_resizing.proofs.Padded.{padded}
+use Rattle.cfb_format.proofs.Members.{Contains-nil}
 
 -- ---- numbers
 
@@ -75,7 +75,7 @@ module _ (old mid : AllocatorState) (count : ℕ) (ids ids' : List ℕ) (made : 
   -- what stands along it once the old tail is zeros
   pub lengthened-padded : (validation : Validation) (c list : List ℕ) (size len have l room to : ℕ) → list ≡ ids' → HoldsTables validation old
       → IsChain old.tables.fat (first_or_end ids) ids → IsChain mid.tables.fat (first_or_end ids') ids' → OthersStay old mid
-      → ((i : ℕ) → Contains (gained ids ids') i → IsFilled mid.tables.version Zero mid.file.bytes i)
+      → ((i : ℕ) → Contains (gained ids ids') i → IsAsFilled mid.tables.version Zero mid.file.bytes i)
       → l ≡ sector_len old.tables.version → have ≡ length ids → room ≡ min (have * l) 18446744073709551615 → to ≡ min size room → size < 18446744073709551616
       → rounded_up size (sector_len old.tables.version) ≤ length ids + count
       → ((k : ℕ) → k < len → IsThereInSectors old.tables.version ids old.file.len k)
@@ -87,7 +87,7 @@ module _ (old mid : AllocatorState) (count : ℕ) (ids ids' : List ℕ) (made : 
       let measured = held.holds.measured in
       padded v ids ids' (gained ids ids') old.file.bytes mid.file.bytes c made.listed chain'.distinct others.no_shorter
       (λ i m. others.sectors i (members-busy old.tables.fat (first_or_end ids) ids chain i m).0 (no-tables validation old (first_or_end ids) ids held chain i m) (Contains-nil i))
-      (λ i m. subst (λ w. IsFilled w Zero mid.file.bytes i) version-is (filled i m)) len size to
+      (λ i m. subst (λ w. IsAsFilled w Zero mid.file.bytes i) version-is (filled i m)) len size to
       (λ k lt. let h = there k lt in (h.listed, let reached = h.reached in omega (arith, reached, measured)))
       (subst (λ (z : List ℕ). StandAlong (place_along v z) len (replicate (to - len) 0) c) same
       (subst (λ w. StandAlong (place_along w list) len (replicate (to - len) 0) c) version-is put))

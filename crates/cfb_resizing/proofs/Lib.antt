@@ -1,3 +1,13 @@
+pub use Rattle.cfb_content.proofs.cfb_mini_changes
+pub use Rattle.cfb_content.proofs.cfb_rules
+pub use Rattle.cfb_tables.proofs as cfb_tables
+pub use Rattle.cfb_content.proofs.cfb_mini_table
+pub use Rattle.cfb_content.proofs.cfb_table_words
+pub use Rattle.cfb_content.proofs.cfb_alloc
+pub use Rattle.cfb_content.proofs.cfb_chains
+pub use Rattle.cfb_content.proofs.cfb_directory
+pub use Rattle.cfb_content.proofs.cfb_mini_sectors
+pub use Rattle.cfb_content.proofs.cfb_mini
 pub mod Named
 pub mod Turned
 pub mod Padded
@@ -8,7 +18,6 @@ pub mod TurnedInMinis
 pub mod Tightness
 pub mod LengthenedSectors
 pub mod LengthenedMinis
-pub mod MiniStreamChain
 pub mod BegunInSectors
 pub mod CarriedToSectors
 pub mod MovedToSectors

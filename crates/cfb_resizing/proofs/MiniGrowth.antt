@@ -11,11 +11,12 @@ use Rattle.cfb_tables.specs.Listed.{EndsChain}
 use Rattle.cfb_tables.specs.Tables.{first_or_end}
 use Rattle.cfb_tables.proofs.ChainLemmas.{members-busy}
 use Rattle.cfb_tables.proofs.ListedLemmas.{chain_ends}
-use Rattle.cfb_tables.proofs.Members.{distinct-apart}
-use Rattle.cfb_mini_sectors.specs.State.{HoldsMini, MiniState, mini_stream_of, tables_in, version_of}
-use Rattle.cfb_mini_sectors.specs.Steps.{system_sectors}
-use Rattle.cfb_mini.proofs.MiniKnown.{held-stream, minis-lack, words-lack}
-use Rattle.cfb_resizing.proofs.MiniStreamChain.{stream-is-chain}
+use Rattle.cfb_resizing.specs.cfb_mini_sectors.State.{HoldsMini, MiniState, mini_stream_of, tables_in, version_of}
+use Rattle.cfb_resizing.specs.cfb_mini_sectors.Steps.{system_sectors}
+use Rattle.cfb_resizing.proofs.cfb_mini.MiniKnown.{held-stream, minis-lack}
+use Rattle.cfb_format.proofs.Members.{distinct-apart}
+use Rattle.cfb_format.proofs.FullChains.{quotient_none}
+use Rattle.cfb_resizing.proofs.cfb_mini_changes.MiniGrown.{held-chain}
 
 -- a chain can go on where its end stays
 chain-goes-on : (fat sectors gone : List ℕ) → IsChain fat (first_or_end sectors) sectors → AreDisjoint sectors gone
@@ -26,7 +27,7 @@ chain-goes-on fat sectors gone chain apart (inr (inr both)) = apart both.0 both.
 
 module _ (v : Validation) (s : MiniState) (held : HoldsMini v s) where
   pub words-lack-none : rounded_up (length s.minifat) (words_per_sector (version_of s)) - length s.minifat_sectors ≡ 0
-  words-lack-none = words-lack (version_of s) (length s.minifat) (length s.minifat_sectors) held.words.covers
+  words-lack-none = quotient_none (version_of s) (length s.minifat) (length s.minifat_sectors) held.words.covers
 
   pub bytes-lack-none : rounded_up (length s.minifat * 64) (sector_len (version_of s)) - length (mini_stream_of s) ≡ 0
   bytes-lack-none = minis-lack (version_of s) (length s.minifat) (length (mini_stream_of s))
@@ -40,7 +41,7 @@ module _ (v : Validation) (s : MiniState) (held : HoldsMini v s) where
 
     pub stream-goes-on : (((i : ℕ) → Contains (mini_stream_of s) i → i < length (tables_in s).fat) → ⊥) ⊎ (EndsChain (tables_in s).fat (mini_stream_of s) → ⊥)
         ⊎ ((i : ℕ) × Contains (mini_stream_of s) i × Contains gone i) → ⊥
-    stream-goes-on = chain-goes-on (tables_in s).fat (mini_stream_of s) gone (stream-is-chain v s held)
+    stream-goes-on = chain-goes-on (tables_in s).fat (mini_stream_of s) gone (held-chain v s held)
         (λ i m c. apart i (Contains-append_right (s.directory.sectors ++ s.minifat_sectors) (mini_stream_of s) i m) c)
 
   -- the MiniFAT and the mini stream have no sector in common

@@ -9,17 +9,17 @@ use Rattle.cfb_format.specs.Chain.{IsChain}
 use Rattle.cfb_tables.specs.Listed.{gained}
 use Rattle.cfb_tables.specs.Tables.{first_or_end}
 use Rattle.cfb_tables.proofs.ChainLemmas.{members-busy}
-use Rattle.cfb_tables.proofs.Members.{Contains-nil, distinct-right}
-use Rattle.cfb_mini_sectors.specs.State.{HoldsMini, MiniState, bytes_of, mini_place, mini_stream_of, version_of}
-use Rattle.cfb_mini_sectors.specs.Steps.{IsZeroMini}
-use Rattle.cfb_mini_sectors.proofs.MiniFrames.{held-places, place-stays}
-use Rattle.cfb_mini.specs.MiniSectors.{ChangesFileOnly, KeepsMiniBytesBut}
+use Rattle.cfb_resizing.specs.cfb_mini_sectors.State.{HoldsMini, MiniState, bytes_of, mini_place, mini_stream_of, version_of}
+use Rattle.cfb_resizing.specs.cfb_mini_sectors.Steps.{IsZeroMini}
+use Rattle.cfb_resizing.proofs.cfb_mini_sectors.MiniFrames.{held-places, place-stays}
+use Rattle.cfb_resizing.specs.cfb_mini.MiniSectors.{ChangesFileOnly, KeepsMiniBytesBut}
 use Rattle.cfb_content.specs.Contents.{mini_place_along}
 use Rattle.cfb_content.specs.Parts.{ChangesOnlyPlaces, IsThereInMinis, StandAlong}
 use Rattle.cfb_content.proofs.Kept.{stream-room}
 use Rattle.cfb_content.proofs.PlacedOnce.{all-minis-placed-once}
 use Rattle.cfb_content.proofs.PutAlong.{zero-put}
 use Rattle.cfb_resizing.specs.Turning.{IsPaddedAlong}
+use Rattle.cfb_format.proofs.Members.{Contains-nil, distinct-right}
 
 module _ (v : Validation) (old mid new : MiniState) (ids ids' : List ℕ) (held : HoldsMini v old) (held' : HoldsMini v mid)
     (chain : IsChain old.minifat (first_or_end ids) ids) (chain' : IsChain mid.minifat (first_or_end ids') ids') (listed : ids' ≡ ids ++ gained ids ids')

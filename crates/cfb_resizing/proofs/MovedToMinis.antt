@@ -10,15 +10,14 @@ use Rattle.cfb_format.specs.Siblings.{entry_at}
 use Rattle.cfb_tables.specs.Changes.{AreDisjoint}
 use Rattle.cfb_tables.specs.Clean.{IsUnnamed}
 use Rattle.cfb_tables.specs.Tables.{first_or_end}
-use Rattle.cfb_tables.proofs.Members.{Contains-nil}
-use Rattle.cfb_alloc.specs.Alloc.{AllocatorState}
-use Rattle.cfb_alloc.specs.Frame.{Spares}
-use Rattle.cfb_alloc.specs.ListedChain.{Shortens}
-use Rattle.cfb_chains.specs.ChainPlaces.{place_along}
-use Rattle.cfb_mini_sectors.specs.State.{HoldsMini, IsChangeable, MiniState, bytes_of, content_of, entries_of, table_of, tables_in, version_of}
-use Rattle.cfb_mini_sectors.specs.Steps.{IsTooFewAfterFor, SparesMini, system_sectors}
-use Rattle.cfb_mini_sectors.proofs.MiniStreams.{begins}
-use Rattle.cfb_mini.specs.MiniSectors.{IsStill}
+use Rattle.cfb_resizing.specs.cfb_alloc.Alloc.{AllocatorState}
+use Rattle.cfb_resizing.specs.cfb_alloc.Frame.{Spares}
+use Rattle.cfb_resizing.specs.cfb_alloc.ListedChain.{Shortens}
+use Rattle.cfb_resizing.specs.cfb_chains.ChainPlaces.{place_along}
+use Rattle.cfb_resizing.specs.cfb_mini_sectors.State.{HoldsMini, IsChangeable, MiniState, bytes_of, content_of, entries_of, table_of, tables_in, version_of}
+use Rattle.cfb_resizing.specs.cfb_mini_sectors.Steps.{IsTooFewAfterFor, SparesMini, system_sectors}
+use Rattle.cfb_resizing.proofs.cfb_mini_sectors.MiniStreams.{begins}
+use Rattle.cfb_resizing.specs.cfb_mini.MiniSectors.{IsStill}
 use Rattle.cfb_content.specs.Contents.{IsStreamOf, KeepsOthers, len_of, mini_place_along, mini_sectors_owned, sectors_owned}
 use Rattle.cfb_content.specs.Laws.{LacksNumbersFor}
 use Rattle.cfb_content.specs.Parts.{IsWholeChain, StandAlong}
@@ -28,6 +27,7 @@ use Rattle.cfb_content.proofs.Owned.{large-owns-its-chain}
 use Rattle.cfb_content.proofs.Readable.{large-is-there}
 use Rattle.cfb_content.proofs.WholeStreams.{large-entry, owned-chain, whole-as}
 use Rattle.cfb_resizing.specs.Turning.{CarriesToMinis, KeepsAround, LiesTurnedInMinis, Turns}
+use Rattle.cfb_format.proofs.Members.{Contains-nil}
 
 module _ (v : Validation) (s new : MiniState) (i size count : ℕ) (list ids bytes : List ℕ) (change : IsChangeable v s) (at : IsStreamOf s i) (long : 4096 ≤ len_of s i)
     (small : size < 4096) (chain : IsChain (tables_in s).fat (entry_at (entries_of s) i).start_sector list) (count-is : count ≡ rounded_up size 64)

@@ -12,19 +12,18 @@ use Rattle.cfb_format.specs.Siblings.{entry_at}
 use Rattle.cfb_tables.specs.Changes.{AreDisjoint}
 use Rattle.cfb_tables.specs.Room.{IsTooFewAfter}
 use Rattle.cfb_tables.specs.Tables.{IsTooFew, TableState, first_or_end}
-use Rattle.cfb_tables.proofs.Members.{Contains-nil}
-use Rattle.cfb_alloc.specs.Alloc.{AllocatorState}
-use Rattle.cfb_alloc.specs.Frame.{Spares, table_sectors}
-use Rattle.cfb_alloc.proofs.Frames.{nothing-touched}
-use Rattle.cfb_chains.specs.ChainPlaces.{place_along}
-use Rattle.cfb_chains.proofs.LentContent.{wanted_is}
-use Rattle.cfb_chains.proofs.OwnWrites.{enough_by}
-use Rattle.cfb_mini_table.specs.MiniTable.{MiniGivesBack}
-use Rattle.cfb_mini_sectors.specs.State.{HoldsMini, IsChangeable, MiniState, bytes_of, content_of, entries_of, table_of, tables_in, version_of}
-use Rattle.cfb_mini_sectors.specs.Steps.{CanGiveRoomBack, IsInMiniStream, IsZeroMini, SparesMini, system_sectors}
-use Rattle.cfb_mini_sectors.proofs.HeldMini.{no-tables}
-use Rattle.cfb_mini_sectors.proofs.MiniFrames.{nothing-touched as no-mini-touched}
-use Rattle.cfb_mini.specs.MiniSectors.{IsStill}
+use Rattle.cfb_resizing.specs.cfb_alloc.Alloc.{AllocatorState}
+use Rattle.cfb_resizing.specs.cfb_alloc.Frame.{Spares, table_sectors}
+use Rattle.cfb_resizing.proofs.cfb_alloc.Frames.{nothing-touched}
+use Rattle.cfb_resizing.specs.cfb_chains.ChainPlaces.{place_along}
+use Rattle.cfb_resizing.proofs.cfb_chains.LentContent.{wanted_is}
+use Rattle.cfb_resizing.proofs.cfb_chains.OwnWrites.{enough_by}
+use Rattle.cfb_resizing.specs.cfb_mini_table.MiniTable.{MiniGivesBack}
+use Rattle.cfb_resizing.specs.cfb_mini_sectors.State.{HoldsMini, IsChangeable, MiniState, bytes_of, content_of, entries_of, table_of, tables_in, version_of}
+use Rattle.cfb_resizing.specs.cfb_mini_sectors.Steps.{CanGiveRoomBack, IsInMiniStream, IsZeroMini, SparesMini, system_sectors}
+use Rattle.cfb_resizing.proofs.cfb_mini_sectors.HeldMini.{no-tables}
+use Rattle.cfb_resizing.proofs.cfb_mini_sectors.MiniFrames.{nothing-touched as no-mini-touched}
+use Rattle.cfb_resizing.specs.cfb_mini.MiniSectors.{IsStill}
 use Rattle.cfb_content.specs.Contents.{IsStreamOf, KeepsOthers, len_of, mini_place_along, mini_sectors_owned}
 use Rattle.cfb_content.specs.Laws.{LacksNumbersFor}
 use Rattle.cfb_content.specs.Parts.{IsWholeMiniChain}
@@ -34,9 +33,10 @@ use Rattle.cfb_content.proofs.Kept.{spared-is-kept}
 use Rattle.cfb_content.proofs.Readable.{small-is-there}
 use Rattle.cfb_content.proofs.RoomGiven.{given-is-counted}
 use Rattle.cfb_content.proofs.WholeStreams.{no-sectors, owned-minis, small-entry, whole-minis-as}
-use Rattle.cfb_resizing.specs.Turning.{CarriesToSectors, GoesUnnamed, IsPaddedAlong, KeepsAround, KeepsTablesTight, LiesInSectors, MovesSoundly, MovesWith, StandBehind, StopsOrBegun, Turns, TurnsSoundly}
+use Rattle.cfb_resizing.specs.Turning.{CarriesToSectors, GoesUnnamed, IsPaddedAlong, KeepsAround, KeepsTablesTight, LiesAlongSectors, MovesSoundly, MovesWith, StandBehind, StopsOrBegun, Turns, TurnsSoundly}
 use Rattle.cfb_resizing.proofs.TurnedInMinis.{first-mini, first-unnamed, own-minis-kept}
 use Rattle.cfb_resizing.proofs.TurnedInSectors.{moving-lacks, rounded-up-holds}
+use Rattle.cfb_format.proofs.Members.{Contains-nil}
 
 -- ---- a read
 
@@ -161,7 +161,7 @@ module _ (v : Validation) (s new : MiniState) (i size count : ℕ) (list ids byt
   behind : (k : ℕ) → k < length from → slice_index (bytes_of new) (place_along (version_of s) ids (len_of s i + k)) ≡ slice_index from k
   behind k lt = padded.kept (len_of s i + k) (room (len_of s i + k) (omega (arith, lt, fits))) (omega (arith, lt, len)) ∙ put k lt
 
-  lies : LiesInSectors s new i size (first_or_end ids) ids
+  lies : LiesAlongSectors s new i size (first_or_end ids) ids
   lies = record {
     large = large;
     chain = chain;

@@ -5,8 +5,7 @@ use Rattle.std.proofs.lemmas.List.Elements.{Contains-append_left, Contains-get_o
 use Rattle.cfb_format.specs.declared.objtype.ObjType.TheVariants.{Stream, Unallocated}
 use Rattle.cfb_format.specs.declared.validate.Validation.{Validation}
 use Rattle.cfb_format.specs.declared.version.Version.{Version}
-use Rattle.cfb_format.specs.declared.version.Version.TheVariants.{V3, V4}
-use Rattle.cfb_format.specs.Bytes.{entries_per_sector, max_stream_len, sector_len, stream_len_modulus, words_per_sector}
+use Rattle.cfb_format.specs.Bytes.{entries_per_sector, max_stream_len, sector_len, words_per_sector}
 use Rattle.cfb_format.specs.Chain.{IsChain, chain_from}
 use Rattle.cfb_format.specs.Content.{is_large, mini_sector_len, sector_chain}
 use Rattle.cfb_format.specs.DirectoryEntry.{Entry, IsValidEntry, unless_storage, ButContent}
@@ -15,37 +14,36 @@ use Rattle.cfb_format.specs.Siblings.{entry_at}
 use Rattle.cfb_sectors.specs.Words.{RangeStays}
 use Rattle.cfb_tables.specs.Tables.{TableState, first_or_end}
 use Rattle.cfb_tables.proofs.ChainLemmas.{members-busy}
-use Rattle.cfb_tables.proofs.Members.{distinct-apart}
-use Rattle.cfb_directory.specs.Growing.{ArePlaced}
-use Rattle.cfb_directory.specs.Steps.{KeepsWholeHeader}
-use Rattle.cfb_alloc.specs.Frame.{IsForeign, Spares}
-use Rattle.cfb_alloc.specs.ListedChain.{Shortens}
+use Rattle.cfb_resizing.specs.cfb_directory.Growing.{ArePlaced}
+use Rattle.cfb_resizing.specs.cfb_directory.Steps.{KeepsWholeHeader}
+use Rattle.cfb_resizing.specs.cfb_alloc.Frame.{IsForeign, Spares}
+use Rattle.cfb_resizing.specs.cfb_alloc.ListedChain.{Shortens}
 use Rattle.cfb_format.specs.Full.{rounded_up}
-use Rattle.cfb_soundness.specs.Places.{mini_start}
-use Rattle.cfb_entries.specs.declared.fields.Fields.{Fields}
-use Rattle.cfb_entries.specs.Fields.{entries_with_fields, entry_with_fields, fields_in}
-use Rattle.cfb_directory.proofs.ChangedFields.{changed_beside, changed_here, changed_length}
-use Rattle.cfb_mini_sectors.specs.State.{HoldsMini, IsChangeable, MiniState, bytes_of, cases_of, entries_of, mini_place, mini_stream_of, parts_of, table_of, tables_in, version_of}
-use Rattle.cfb_mini_sectors.specs.Steps.{KeepsLimits, KeepsMini, KeepsSystem, SettlesRoom, mini_stream_needs, minifat_needs}
-use Rattle.cfb_mini_sectors.proofs.HeldMini.{no-tables}
-use Rattle.cfb_mini_sectors.proofs.MiniStreams.{chain-is-stream, stream-chain}
-use Rattle.cfb_mini.proofs.WholeFiles.{same-whole}
+use Rattle.cfb_resizing.specs.cfb_soundness.Places.{mini_start}
+use Rattle.cfb_resizing.specs.cfb_entries.declared.fields.Fields.{Fields}
+use Rattle.cfb_resizing.specs.cfb_entries.Fields.{entries_with_fields, entry_with_fields, fields_in}
+use Rattle.cfb_resizing.proofs.cfb_directory.ChangedFields.{changed_beside, changed_here, changed_length}
+use Rattle.cfb_resizing.specs.cfb_mini_sectors.State.{HoldsMini, IsChangeable, MiniState, bytes_of, cases_of, entries_of, mini_place, mini_stream_of, parts_of, table_of, tables_in, version_of}
+use Rattle.cfb_resizing.specs.cfb_mini_sectors.Steps.{KeepsLimits, KeepsMini, KeepsSystem, SettlesRoom, mini_stream_needs, minifat_needs}
+use Rattle.cfb_resizing.proofs.cfb_mini_sectors.HeldMini.{no-tables}
+use Rattle.cfb_resizing.proofs.cfb_mini_sectors.MiniStreams.{chain-is-stream, stream-chain}
+use Rattle.cfb_resizing.proofs.cfb_mini.WholeFiles.{same-whole}
 use Rattle.cfb_content.specs.Changed.{MovesAlone, StaysTidy}
 use Rattle.cfb_content.specs.Contents.{IsStreamOf, KeepsContent, KeepsOthers, MovesContent, sectors_owned}
 use Rattle.cfb_content.specs.Uses.{ChangesContent}
-use Rattle.cfb_content.proofs.DirCount.{count-stays, slots-outside}
+use Rattle.cfb_content.proofs.DirCount.{count-stays}
 use Rattle.cfb_content.proofs.Apart.{maybe-chain, own-is-apart}
-use Rattle.cfb_content.proofs.Kept.{keeps-then, mini-below, stays-inside, stream-room}
+use Rattle.cfb_content.proofs.Kept.{keeps-then, stays-inside, stream-room}
 use Rattle.cfb_content.proofs.Outlines.{content-moves-then, moved-root-moved, stream-is-no-root}
 use Rattle.cfb_content.proofs.Owned.{large-content, large-owned}
 use Rattle.cfb_content.proofs.StreamEntry.{stream-inside, stream-is-stream}
 use Rattle.cfb_resizing.specs.Turning.{KeepsAround}
+use Rattle.cfb_format.proofs.Members.{distinct-apart}
+use Rattle.cfb_format.proofs.MiniPlaces.{mini_below}
+use Rattle.cfb_resizing.proofs.cfb_mini_changes.MiniExtended.{header-whole, limits-then}
+use Rattle.cfb_format.proofs.Slots.{in-version}
 
 -- ---- the entry of a stream
-
-within-modulus : (v : Version) (size : ℕ) → size ≤ max_stream_len v → size < stream_len_modulus v
-within-modulus V3 size le = omega (arith, le)
-within-modulus V4 size le = omega (arith, le)
 
 -- it can be written with any start, and any length that the version has
 pub named-valid : (v : Version) (e : Entry) (start size : ℕ) → e.obj_type ≡ Stream → size ≤ max_stream_len v → IsValidEntry v e
@@ -60,7 +58,7 @@ named-valid v e start size kind small valid = record {
   modified_time = valid.modified_time;
   start_sector = ap (λ k. unless_storage k start) (sym kind);
   stream_len = ap (λ k. unless_storage k size) (sym kind);
-  len_in_version = within-modulus v size small;
+  len_in_version = in-version v size small;
 }
 
 module _ (old : MiniState) (i start size : ℕ) (stream : IsStreamOf old i) where
@@ -114,14 +112,6 @@ pub record WasNamed (v : Validation) (old mid new : MiniState) (i : ℕ) : Type 
   pub limits : KeepsLimits mid new
   pub entries : MovesContent mid new i
 
-pub limits-then : (old mid new : MiniState) → KeepsLimits old mid → KeepsLimits mid new → KeepsLimits old new
-limits-then old mid new a b = record {
-  version = b.version ∙ a.version;
-  cases = b.cases ∙ a.cases;
-  max_sectors = b.max_sectors ∙ a.max_sectors;
-  max_mini_sectors = b.max_mini_sectors ∙ a.max_mini_sectors;
-}
-
 pub mini-then : (old mid new : MiniState) → KeepsMini old mid → KeepsMini mid new → KeepsMini old new
 mini-then old mid new a b = record {
   minifat = b.minifat ∙ a.minifat;
@@ -170,7 +160,7 @@ moves-then old mid new i stream around moves =
 pub named-tidy : (v : Validation) (old mid new : MiniState) → HoldsMini v mid → HoldsMini v new → KeepsSystem mid new → KeepsWholeHeader mid.directory new.directory
     → Spares mid.directory.sectors (table_of mid) (table_of new) → StaysTidy old mid → StaysTidy old new
 named-tidy v old mid new before after system header spares tidy = record {
-  counted = count-stays v mid new before (slots-outside mid new header) ∙ tidy.counted;
+  counted = count-stays v mid new before (header-whole mid new header) ∙ tidy.counted;
   whole = λ was.
       same-whole v (table_of mid) (table_of new) after.directory.tables (ap (λ (t : TableState). t.version) system.tables) (ap (λ (t : TableState). length t.fat) system.tables)
       spares.no_shorter (tidy.whole was);
@@ -210,7 +200,7 @@ module _ (v : Validation) (old mid new : MiniState) (i : ℕ) (was : WasNamed v 
       → RangeStays (mini_place mid m) (mini_place mid m + mini_sector_len) (bytes_of mid) (bytes_of new)
   mini-stays-there m room =
       let index = 64 * m / sector_len (version_of mid) in
-      let inside : index < length (mini_stream_of mid) = mini-below (version_of mid) m (length (mini_stream_of mid)) room in
+      let inside : index < length (mini_stream_of mid) = mini_below (version_of mid) m (length (mini_stream_of mid)) room in
       let sector = slice_index (mini_stream_of mid) index in
       stays-inside (version_of mid) sector m (mini_place mid m) (bytes_of mid) (bytes_of new) refl
       (was.spares.sectors sector (stream-foreign sector (Contains-get_or (mini_stream_of mid) index 0 inside)))

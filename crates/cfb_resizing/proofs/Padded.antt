@@ -3,28 +3,24 @@ use Rattle.std.proofs.Common.{◌≡◌, ◌≤◌, ◌<◌, ◌+◌, ◌-◌, �
 use Rattle.std.specs.Prelude.{Contains, slice_index, nat_eq}
 use Rattle.std.specs.List.{IsDistinct}
 use Rattle.std.proofs.lemmas.Bool.{cases_lt}
-use Rattle.std.proofs.lemmas.List.{get_or-replicate}
 use Rattle.cfb_format.specs.declared.version.Version.{Version}
 use Rattle.cfb_format.specs.declared.version.Version.TheVariants.{V3, V4}
 use Rattle.cfb_format.specs.Bytes.{sector_len}
-use Rattle.cfb_sectors.specs.Sectors.{init_bytes}
 use Rattle.cfb_sectors.specs.declared.sector.SectorInit.TheVariants.{Zero}
-use Rattle.cfb_alloc.specs.Agreement.{KeepsSectors}
-use Rattle.cfb_alloc.specs.Alloc.{IsFilled}
-use Rattle.cfb_chains.specs.ChainPlaces.{place_along}
-use Rattle.cfb_chains.proofs.ChainContent.{rest_short}
-use Rattle.cfb_chains.proofs.PlacedBytes.{grown_fresh, grown_len, grown_place, grown_stays}
+use Rattle.cfb_resizing.specs.cfb_alloc.Agreement.{KeepsSectors}
+use Rattle.cfb_resizing.specs.cfb_alloc.Alloc.{IsAsFilled}
+use Rattle.cfb_resizing.specs.cfb_chains.ChainPlaces.{place_along}
+use Rattle.cfb_resizing.proofs.cfb_chains.ChainContent.{rest_short}
+use Rattle.cfb_resizing.proofs.cfb_chains.PlacedBytes.{grown_fresh, grown_len, grown_place, grown_stays}
 use Rattle.cfb_content.specs.Parts.{ChangesOnlyPlaces, StandAlong}
-use Rattle.cfb_content.proofs.PlacedOnce.{inside-of, placed-once}
+use Rattle.cfb_content.proofs.PlacedOnce.{placed-once}
 use Rattle.cfb_content.proofs.PutAlong.{zero-put}
 use Rattle.cfb_resizing.specs.Turning.{IsPaddedAlong}
-
-zero-byte : (v : Version) (r : ℕ) → r < sector_len v → slice_index (init_bytes v Zero) r ≡ 0
-unfolding init_bytes
-zero-byte v r lt = get_or-replicate (sector_len v) r 0 0 lt
+use Rattle.cfb_resizing.proofs.cfb_chains.ChainRuns.{inside_listed}
+use Rattle.cfb_content.proofs.GrownWith.{zero-in}
 
 module _ (v : Version) (ids ids' more a b c : List ℕ) (listed : ids' ≡ ids ++ more) (once : IsDistinct nat_eq ids') (longer : length a ≤ length b)
-    (keeps : KeepsSectors v ids a b) (filled : (i : ℕ) → Contains more i → IsFilled v Zero b i) (len size to : ℕ)
+    (keeps : KeepsSectors v ids a b) (filled : (i : ℕ) → Contains more i → IsAsFilled v Zero b i) (len size to : ℕ)
     (there : (k : ℕ) → k < len → (k / sector_len v < length ids) × (place_along v ids k < length a))
     (put : StandAlong (place_along v ids') len (replicate (to - len) 0) c) (zeroed : ChangesOnlyPlaces (place_along v ids') len (to - len) b c)
     (low : to ≤ length ids * sector_len v) (most : (size ≤ to) ⊎ (length ids * sector_len v ≤ to)) (enough : size ≤ length ids' * sector_len v) where
@@ -46,7 +42,7 @@ module _ (v : Version) (ids ids' more a b c : List ℕ) (listed : ids' ≡ ids +
   kept-byte : (k : ℕ) → k < len → (place_along v ids' k < length c) × (slice_index c (place_along v ids' k) ≡ slice_index a (place_along v ids k))
   kept-byte k lt =
       let was = there k lt in
-      let inside = inside-of v k (length ids) was.0 in
+      let inside = inside_listed v k (length ids) was.0 in
       let same = grown_place v v ids ids' more refl listed k inside in
       let at : place_along v ids' k < length b = omega (arith, same, was.1, longer) in (
         omega (arith, at, zeroed.no_shorter),
@@ -61,7 +57,7 @@ module _ (v : Version) (ids ids' more a b c : List ℕ) (listed : ids' ≡ ids +
         let past : length ids * sector_len v ≤ k = elim most [ inl all ↦ absurd (omega (arith, all, late, lt)) | inr room ↦ omega (arith, room, late) ] in
         let fresh = grown_fresh v v ids ids' more refl listed Zero b k filled past inside in (
           omega (arith, fresh.0, zeroed.no_shorter),
-          still k inside (inr late) fresh.0 ∙ fresh.1 ∙ zero-byte v (k % sector_len v) (rest_short v k),
+          still k inside (inr late) fresh.0 ∙ fresh.1 ∙ zero-in v (k % sector_len v) (rest_short v k),
         )
   ]
 

@@ -8,20 +8,20 @@ use Rattle.cfb_format.specs.declared.version.Version.{Version}
 use Rattle.cfb_format.specs.declared.version.Version.TheVariants.{V3, V4}
 use Rattle.cfb_format.specs.Bytes.{max_stream_len}
 use Rattle.cfb_format.specs.Medium.{written}
-use Rattle.cfb_rules.specs.StreamCalls.{resized}
+use Rattle.cfb_resizing.specs.cfb_rules.StreamCalls.{resized}
 use Rattle.cfb_tables.specs.Changes.{NoneFree}
 use Rattle.cfb_tables.specs.Refused.{ChangeRefused}
 use Rattle.cfb_tables.specs.Tables.{AreExactTables, TableState}
-use Rattle.cfb_mini_sectors.specs.State.{HoldsMini, MiniState, bytes_of, entries_of, table_of, tables_in}
-use Rattle.cfb_mini_sectors.specs.Steps.{KeepsLimits}
-use Rattle.cfb_mini_sectors.specs.Held.{with_table}
-use Rattle.cfb_mini.specs.MiniSectors.{IsStill}
-use Rattle.cfb_mini.proofs.WholeFiles.{same-whole}
+use Rattle.cfb_resizing.specs.cfb_mini_sectors.State.{HoldsMini, MiniState, bytes_of, entries_of, table_of, tables_in}
+use Rattle.cfb_resizing.specs.cfb_mini_sectors.Steps.{KeepsLimits}
+use Rattle.cfb_resizing.specs.cfb_mini_sectors.Held.{with_table}
+use Rattle.cfb_resizing.specs.cfb_mini.MiniSectors.{IsStill}
+use Rattle.cfb_resizing.proofs.cfb_mini.WholeFiles.{same-whole}
 use Rattle.cfb_content.specs.Changed.{MovesAlone, StaysTidy}
 use Rattle.cfb_content.specs.Contents.{AreAllUsed, IsNotChangeable, MovesContent, SizesChain, StopsStillOrBegun, dir_count_of}
 use Rattle.cfb_content.proofs.Outlines.{same-entries-moved}
-use Rattle.cfb_content.proofs.Rewritten.{resized-len}
 use Rattle.cfb_resizing.specs.Turning.{KeepsTablesTight, StopsOrIsFull}
+use Rattle.cfb_resizing.proofs.cfb_rules.StreamBounds.{length_resized}
 
 -- ---- a length that fits
 
@@ -93,7 +93,7 @@ tight-then old mid new t same = record {
 
 -- ---- refusals of a write
 
-same-is-still : (old new : MiniState) → new ≡ old → IsStill old new
+pub same-is-still : (old new : MiniState) → new ≡ old → IsStill old new
 same-is-still old new same = subst (λ (s : MiniState). IsStill old s) (sym same) refl
 
 pub still-or-begun : (old new : MiniState) (e : Error) → StopsStillOrBegun old new e → IsStill old new ⊎ ((table_of new).file.begun ≡ true)
@@ -148,7 +148,7 @@ pub appended : (c from : List ℕ) (len size : ℕ) → length c ≡ len → len
 unfolding written
 appended c from len size whole sum =
     let r = resized c size in
-    let long : length r ≡ size = resized-len c size in
+    let long : length r ≡ size = length_resized c size in
     let front : take len r ≡ take len c =
     take-append-le len (take size c) (replicate (size - length c) 0) (omega (arith, length-take size c, whole, sum)) ∙ ap (take len) (take_all size c (omega (arith, whole, sum))) in
     let left : take len (r ++ replicate (len - length r) 0) ≡ take len (c ++ replicate (len - length c) 0) =

@@ -15,12 +15,12 @@ use Rattle.cfb_tables.specs.Room.{IsTooFewAfter}
 use Rattle.cfb_tables.specs.Tables.{TableState, first_or_end}
 use Rattle.cfb_tables.proofs.ListedLemmas.{end_chain}
 use Rattle.cfb_tables.proofs.RoomLemmas.{more-is-too-few}
-use Rattle.cfb_alloc.specs.ListedChain.{CanShorten}
-use Rattle.cfb_directory.specs.Growing.{IsListedChain}
-use Rattle.cfb_mini_sectors.specs.Giving.{CanGiveBack}
-use Rattle.cfb_mini_sectors.specs.State.{MiniState, mini_stream_of, tables_in, version_of}
-use Rattle.cfb_mini_sectors.specs.Steps.{CanGiveRoomBack}
-use Rattle.cfb_mini_sectors.proofs.ListedChains.{chains-apart}
+use Rattle.cfb_resizing.specs.cfb_alloc.ListedChain.{CanShorten}
+use Rattle.cfb_resizing.specs.cfb_directory.Growing.{IsListedChain}
+use Rattle.cfb_resizing.specs.cfb_mini_sectors.Giving.{CanGiveBack}
+use Rattle.cfb_resizing.specs.cfb_mini_sectors.State.{MiniState, mini_stream_of, tables_in, version_of}
+use Rattle.cfb_resizing.specs.cfb_mini_sectors.Steps.{CanGiveRoomBack}
+use Rattle.cfb_resizing.proofs.cfb_mini_sectors.ListedChains.{chains-apart}
 use Rattle.cfb_content.specs.Room.{minifat_len_left, room_given}
 use Rattle.cfb_content.proofs.Freed.{freed-length, freed-permuted}
 use Rattle.cfb_content.proofs.RoomGiven.{given-is-counted, more-given, room-some}

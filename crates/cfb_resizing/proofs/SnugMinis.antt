@@ -4,12 +4,12 @@ use Rattle.std.proofs.lemmas.Bool.{cases_lt}
 use Rattle.cfb_format.specs.declared.validate.Validation.{Validation}
 use Rattle.cfb_format.specs.Siblings.{entry_at}
 use Rattle.cfb_tables.specs.Listed.{ends_of, gained}
-use Rattle.cfb_alloc.specs.Alloc.{AllocatorState}
-use Rattle.cfb_mini_table.specs.MiniTable.{TakesMini}
-use Rattle.cfb_mini_sectors.specs.State.{HoldsMini, MiniState, entries_of, root_len_of, table_of, version_of}
-use Rattle.cfb_mini_sectors.specs.Steps.{GrowsFor, IsMeasuredMini, IsSnugMini, KeepsLimits}
-use Rattle.cfb_mini_sectors.specs.Held.{with_table}
-use Rattle.cfb_mini.specs.MiniSectors.{ChangesFileOnly}
+use Rattle.cfb_resizing.specs.cfb_alloc.Alloc.{AllocatorState}
+use Rattle.cfb_resizing.specs.cfb_mini_table.MiniTable.{TakesMini}
+use Rattle.cfb_resizing.specs.cfb_mini_sectors.State.{HoldsMini, MiniState, entries_of, root_len_of, table_of, version_of}
+use Rattle.cfb_resizing.specs.cfb_mini_sectors.Steps.{GrowsFor, IsMeasuredMini, IsSnugMini, KeepsLimits}
+use Rattle.cfb_resizing.specs.cfb_mini_sectors.Held.{with_table}
+use Rattle.cfb_resizing.specs.cfb_mini.MiniSectors.{ChangesFileOnly}
 use Rattle.cfb_resizing.proofs.Tightness.{file-mini}
 use Rattle.cfb_content.proofs.SnugMini.{growth-is-snug-mini, kept-is-snug-mini}
 

@@ -11,17 +11,18 @@ use Rattle.cfb_format.specs.Siblings.{entry_at}
 use Rattle.cfb_tables.specs.Changes.{NoneFree}
 use Rattle.cfb_tables.specs.Listed.{ends_of, gained}
 use Rattle.cfb_tables.specs.Tables.{AreExactTables, HasTaken, TableState}
-use Rattle.cfb_tables.proofs.Members.{Contains-or, first_of_three}
+use Rattle.cfb_tables.proofs.Members.{first_of_three}
 use Rattle.cfb_tables.proofs.TakenLemmas.{taken-busy}
-use Rattle.cfb_alloc.specs.Alloc.{AllocatorState}
-use Rattle.cfb_alloc.specs.ListedChain.{Lengthens, Shortens}
-use Rattle.cfb_mini_sectors.specs.State.{MiniState, entries_of, mini_stream_of, tables_in}
-use Rattle.cfb_mini_sectors.specs.Steps.{GrowsFor, KeepsMini, KeepsSizes, KeepsSystem, system_sectors}
-use Rattle.cfb_mini_sectors.specs.Held.{with_table}
-use Rattle.cfb_mini.specs.MiniSectors.{ChangesFileOnly}
+use Rattle.cfb_resizing.specs.cfb_alloc.Alloc.{AllocatorState}
+use Rattle.cfb_resizing.specs.cfb_alloc.ListedChain.{Lengthens, Shortens}
+use Rattle.cfb_resizing.specs.cfb_mini_sectors.State.{MiniState, entries_of, mini_stream_of, tables_in}
+use Rattle.cfb_resizing.specs.cfb_mini_sectors.Steps.{GrowsFor, KeepsMini, KeepsSizes, KeepsSystem, system_sectors}
+use Rattle.cfb_resizing.specs.cfb_mini_sectors.Held.{with_table}
+use Rattle.cfb_resizing.specs.cfb_mini.MiniSectors.{ChangesFileOnly}
 use Rattle.cfb_content.specs.Contents.{len_of, mini_sectors_owned, sectors_owned}
 use Rattle.cfb_content.proofs.Owned.{empty-owns-nothing}
 use Rattle.cfb_resizing.specs.Turning.{KeepsAround, KeepsTablesTight, LeavesNoMinis, Turns}
+use Rattle.cfb_format.proofs.Members.{Contains-or}
 
 -- ---- tables
 

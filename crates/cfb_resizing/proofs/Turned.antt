@@ -6,41 +6,42 @@ use Rattle.std.proofs.lemmas.List.Elements.{Contains-append_cases, Contains-appe
 use Rattle.std.proofs.lemmas.List.{take-append-drop}
 use Rattle.cfb_format.specs.declared.validate.Validation.{Validation}
 use Rattle.cfb_format.specs.declared.version.Version.{Version}
-use Rattle.cfb_format.specs.declared.version.Version.TheVariants.{V3, V4}
 use Rattle.cfb_format.specs.Bytes.{sector_len, sector_start}
 use Rattle.cfb_format.specs.Chain.{IsChain}
 use Rattle.cfb_format.specs.Content.{content_chain, is_large, mini_sector_len}
 use Rattle.cfb_format.specs.DirectoryEntry.{Entry}
 use Rattle.cfb_format.specs.Full.{rounded_up}
 use Rattle.cfb_format.specs.Siblings.{entry_at}
-use Rattle.cfb_rules.specs.StreamCalls.{resized}
+use Rattle.cfb_resizing.specs.cfb_rules.StreamCalls.{resized}
 use Rattle.cfb_sectors.specs.Sectors.{SectorStays}
 use Rattle.cfb_sectors.specs.Words.{RangeStays}
-use Rattle.cfb_soundness.specs.Places.{mini_start}
+use Rattle.cfb_resizing.specs.cfb_soundness.Places.{mini_start}
 use Rattle.cfb_tables.specs.Listed.{ends_of, gained}
 use Rattle.cfb_tables.specs.Tables.{TableState}
 use Rattle.cfb_tables.specs.Changes.{NoneFree}
 use Rattle.cfb_tables.proofs.ChainLemmas.{members-busy}
-use Rattle.cfb_tables.proofs.Members.{Contains-nil}
-use Rattle.cfb_alloc.specs.ListedChain.{Lengthens, Shortens}
-use Rattle.cfb_chains.specs.ChainPlaces.{place_along}
-use Rattle.cfb_mini_table.specs.MiniTable.{MiniGivesBack, TakesMini}
-use Rattle.cfb_mini_sectors.specs.State.{HoldsMini, MiniState, bytes_of, content_of, entries_of, mini_stream_of, parts_of, tables_in, version_of, IsChangeable}
-use Rattle.cfb_mini_sectors.specs.Steps.{IsInMiniStream, IsZeroMini, IsSnugMini}
+use Rattle.cfb_resizing.specs.cfb_alloc.ListedChain.{Lengthens, Shortens}
+use Rattle.cfb_resizing.specs.cfb_chains.ChainPlaces.{place_along}
+use Rattle.cfb_resizing.specs.cfb_mini_table.MiniTable.{MiniGivesBack, TakesMini}
+use Rattle.cfb_resizing.specs.cfb_mini_sectors.State.{HoldsMini, MiniState, bytes_of, content_of, entries_of, mini_stream_of, parts_of, tables_in, version_of, IsChangeable}
+use Rattle.cfb_resizing.specs.cfb_mini_sectors.Steps.{IsInMiniStream, IsZeroMini, IsSnugMini}
 use Rattle.cfb_content.specs.Contents.{SizesChain, WipesMinis, len_of, mini_place_along, mini_sectors_owned, sectors_owned, AreAllUsed}
 use Rattle.cfb_content.specs.Laws.{StandsResized}
 use Rattle.cfb_content.specs.Uses.{ChangesContent, ChangesUse, Owns}
 use Rattle.cfb_content.specs.Changed.{StaysTidy, WasChanged}
 use Rattle.cfb_content.proofs.Changing.{growth-stays, large-becomes-small, large-goes-on, large-is-cut, same-is-used, small-becomes-large, small-goes-on, small-is-cut}
-use Rattle.cfb_content.proofs.Kept.{next-start}
 use Rattle.cfb_content.proofs.Owned.{empty-owns-nothing, large-no-mini, large-owns-its-chain, small-no-sector, small-owns-its-chain}
 use Rattle.cfb_content.proofs.Readable.{stream-owns-its-own}
-use Rattle.cfb_content.proofs.Rewritten.{large-is-resized, resized-len, small-is-resized}
+use Rattle.cfb_content.proofs.Rewritten.{large-is-resized, small-is-resized}
 use Rattle.cfb_content.proofs.Snug.{large-needs, small-needs, snug-in-minis, snug-in-sectors}
 use Rattle.cfb_content.proofs.WholeStreams.{no-sectors}
-use Rattle.cfb_resizing.specs.Turning.{LiesInSectors, LiesTurnedInMinis, LiesTurnedInSectors, Turns, TurnsByCut, TurnsByGrowth, TurnsByMiniCut, TurnsByMiniGrowth, TurnsLarge, TurnsSmall, ResizesContent, LeavesNoMinis}
+use Rattle.cfb_resizing.specs.Turning.{LiesAlongSectors, LiesTurnedInMinis, LiesTurnedInSectors, Turns, TurnsByCut, TurnsByGrowth, TurnsByMiniCut, TurnsByMiniGrowth, TurnsLarge, TurnsSmall, ResizesContent, LeavesNoMinis}
 use Rattle.cfb_resizing.proofs.Named.{WasNamed, chain-foreign, mini-stays, mini-stays-there, mini-then, named-changes, settles-then, system-then}
 use Rattle.cfb_resizing.proofs.CarriedToSectors.{zeros-stay}
+use Rattle.cfb_format.proofs.Members.{Contains-nil}
+use Rattle.cfb_format.proofs.Along.{next_start}
+use Rattle.cfb_resizing.proofs.cfb_chains.ChainContent.{rest_short}
+use Rattle.cfb_resizing.proofs.cfb_rules.StreamBounds.{length_resized}
 
 large-by-len : (e : Entry) (size : ℕ) → e.stream_len ≡ size → 4096 ≤ size → is_large e ≡ true
 large-by-len e size len le = ap (λ (n : ℕ). nat_le 4096 n) len ∙ le-leb 4096 size le
@@ -52,10 +53,6 @@ small-by-len e size len lt = ap (λ (n : ℕ). nat_le 4096 n) len ∙ go (nat_le
     go true w = absurd (let le = leb-true 4096 size w in omega (arith, le, lt))
     go false w = w
 
-rest-inside : (v : Version) (k : ℕ) → k % sector_len v < sector_len v
-rest-inside V3 k = omega arith
-rest-inside V4 k = omega arith
-
 -- the stream is used in order, has its chain, as long as it is to be, and reads as it did, cut or padded; what it gave back is wiped
 pub record WasTurned (old new : MiniState) (i size : ℕ) : Type 0 where
   pub used : ChangesUse old new
@@ -66,7 +63,7 @@ pub record WasTurned (old new : MiniState) (i size : ℕ) : Type 0 where
 
 -- then all is as it was promised
 pub turned-whole : (old new : MiniState) (i size : ℕ) → WasTurned old new i size → len_of new i ≡ size → length (content_of new (entry_at (entries_of new) i)) ≡ len_of new i
-turned-whole old new i size t len = ap (λ (l : List ℕ). length l) t.content ∙ resized-len (content_of old (entry_at (entries_of old) i)) size ∙ sym len
+turned-whole old new i size t len = ap (λ (l : List ℕ). length l) t.content ∙ length_resized (content_of old (entry_at (entries_of old) i)) size ∙ sym len
 
 pub always-on-ok : {T E P : Type 0} (r : Result T E) → P → OnOk r P
 always-on-ok (Ok x) p = p
@@ -130,7 +127,7 @@ module _ (v : Validation) (old mid new : MiniState) (i size start : ℕ) (was : 
 
   -- ---- in sectors
 
-  module _ (ys : List ℕ) (lies : LiesInSectors old mid i size start ys) where
+  module _ (ys : List ℕ) (lies : LiesAlongSectors old mid i size start ys) where
     pub large : is_large now ≡ true
     large = large-by-len now size len-is lies.large
 
@@ -150,7 +147,7 @@ module _ (v : Validation) (old mid new : MiniState) (i size start : ℕ) (was : 
         let stays : RangeStays (sector_start (version_of mid) n) (sector_start (version_of mid) (n + 1)) (bytes_of mid) (bytes_of new) =
         was.spares.sectors n (chain-foreign v old mid new i was start ys lies.chain n m out) in
         stays.each (place_along (version_of mid) ys k) (lies.there k lt) (omega arith)
-        (omega (arith, next-start (version_of mid) n, rest-inside (version_of mid) k))
+        (omega (arith, next_start (version_of mid) n, rest_short (version_of mid) k))
 
     pub sized-large : SizesChain old new i
     sized-large =
@@ -170,7 +167,7 @@ module _ (v : Validation) (old mid new : MiniState) (i size start : ℕ) (was : 
         }
 
   module _ (ys : List ℕ) (lies : LiesTurnedInSectors old mid i size start ys) where
-    within : LiesInSectors old mid i size start ys
+    within : LiesAlongSectors old mid i size start ys
     within = record {
       large = lies.large;
       chain = lies.chain;

@@ -1,5 +1,5 @@
 -- The content of a stream in mini sectors after its mini chain was cut, or went on.
-use Rattle.std.proofs.Common.{◌≡◌, ◌≤◌, ◌<◌, ◌+◌, ◌-◌, ◌*◌, ◌/◌, ◌%◌, inl, inr, max, ℕ, List, [], ◌∷◌, ◌++◌, Bool, zero, suc, refl, sym, ◌∙◌, ap, subst, length, take, drop, arith, length-append, length-take}
+use Rattle.std.proofs.Common.{◌≡◌, ◌≤◌, ◌<◌, ◌+◌, ◌-◌, ◌*◌, ◌/◌, ◌%◌, inl, inr, max, ℕ, List, [], ◌∷◌, ◌++◌, Bool, zero, refl, sym, ◌∙◌, ap, subst, length, take, drop, arith, length-append, length-take}
 use Rattle.std.specs.Prelude.{◌↔◌, Contains, IsTrue, None, Option, Some, if◌then◌else◌, nat_eq, slice_index, unwrap_or}
 use Rattle.std.specs.List.{IsDistinct}
 use Rattle.std.proofs.lemmas.Bool.{cases_lt, lt-leb}
@@ -18,20 +18,19 @@ use Rattle.cfb_tables.specs.Tables.{first_or_end}
 use Rattle.cfb_tables.proofs.ChainLemmas.{members-busy}
 use Rattle.cfb_tables.proofs.ListedLemmas.{end_chain}
 use Rattle.cfb_tables.proofs.RoomLemmas.{nothing-given-back}
-use Rattle.cfb_tables.proofs.Members.{Contains-here, Contains-nil, distinct-apart}
-use Rattle.cfb_chains.proofs.ChainContent.{taken_index}
-use Rattle.cfb_mini_table.specs.MiniTable.{MiniGivesBack, TakesMini}
-use Rattle.cfb_mini_sectors.specs.State.{HoldsMini, IsChangeable, MiniState, bytes_of, content_of, entries_of, mini_place, mini_stream_of, table_of, tables_in, version_of}
-use Rattle.cfb_mini_sectors.specs.Steps.{BeginsSystem, CanGiveRoomBack, GivesRoomBack, GrowsFor, IsInMiniStream, IsNotHeld, IsTooFewAfterFor, IsTooFewFor, IsZeroMini, KeepsMini, KeepsSystem, SettlesRoom, SparesMini, minifat_lacks, minifat_len_with, mini_stream_lacks, system_sectors}
-use Rattle.cfb_mini_sectors.proofs.HeldShortened.{taken-among}
-use Rattle.cfb_mini_sectors.proofs.MiniFrames.{held-places, shorter-place, version-place}
-use Rattle.cfb_mini_sectors.proofs.MiniStreams.{begins}
-use Rattle.cfb_alloc.specs.Alloc.{AllocatorState}
-use Rattle.cfb_alloc.specs.Frame.{Spares}
-use Rattle.cfb_mini_sectors.specs.Pieces.{HasMini, HaveMinis}
-use Rattle.cfb_mini.specs.MiniSectors.{HasMiniSector, KeepsMiniBytesBut}
-use Rattle.cfb_mini.proofs.MiniGiven.{held-can}
-use Rattle.cfb_mini.proofs.MiniKnown.{has-mini, held-stream, mini-has}
+use Rattle.cfb_resizing.proofs.cfb_chains.ChainContent.{taken_index}
+use Rattle.cfb_resizing.specs.cfb_mini_table.MiniTable.{MiniGivesBack, TakesMini}
+use Rattle.cfb_resizing.specs.cfb_mini_sectors.State.{HoldsMini, IsChangeable, MiniState, bytes_of, content_of, entries_of, mini_place, mini_stream_of, table_of, tables_in, version_of}
+use Rattle.cfb_resizing.specs.cfb_mini_sectors.Steps.{BeginsSystem, CanGiveRoomBack, GivesRoomBack, GrowsFor, IsInMiniStream, IsNotHeld, IsTooFewAfterFor, IsTooFewFor, IsZeroMini, KeepsMini, KeepsSystem, SettlesRoom, SparesMini, minifat_lacks, minifat_len_with, mini_stream_lacks, system_sectors}
+use Rattle.cfb_resizing.proofs.cfb_mini_sectors.HeldShortened.{taken-among}
+use Rattle.cfb_resizing.proofs.cfb_mini_sectors.MiniFrames.{held-places, shorter-place, version-place}
+use Rattle.cfb_resizing.proofs.cfb_mini_sectors.MiniStreams.{begins}
+use Rattle.cfb_resizing.specs.cfb_alloc.Alloc.{AllocatorState}
+use Rattle.cfb_resizing.specs.cfb_alloc.Frame.{Spares}
+use Rattle.cfb_resizing.specs.cfb_mini_sectors.Pieces.{HasMini, HaveMinis}
+use Rattle.cfb_resizing.specs.cfb_mini.MiniSectors.{HasMiniSector, KeepsMiniBytesBut}
+use Rattle.cfb_resizing.proofs.cfb_mini.MiniGiven.{held-can}
+use Rattle.cfb_resizing.proofs.cfb_mini.MiniKnown.{has-mini, held-stream, mini-has}
 use Rattle.cfb_content.specs.Contents.{IsNotChangeable, IsStreamOf, KeepsOthers, len_of, mini_place_along, mini_sectors_owned, sectors_owned}
 use Rattle.cfb_content.specs.Laws.{LacksNumbersFor}
 use Rattle.cfb_content.specs.Parts.{IsThereInMinis, IsWholeMiniChain}
@@ -41,11 +40,9 @@ use Rattle.cfb_content.proofs.Readable.{small-is-there}
 use Rattle.cfb_content.proofs.WholeStreams.{no-sectors, owned-is-there, owned-minis, small-entry, whole-minis-as}
 use Rattle.cfb_resizing.specs.Turning.{IsPaddedAlong, LiesTurnedInMinis, Turns}
 use Rattle.cfb_resizing.proofs.TurnedInSectors.{as-grown, as-taken, below-taken}
-
--- a list that is there has room for each of its bytes
-listed-room : (len n : ℕ) → ((k : ℕ) → k < len → k / 64 < n) → rounded_up len 64 ≤ n
-listed-room zero n h = omega arith
-listed-room (suc k) n h = (let last = h k (omega arith) in omega (arith, last))
+use Rattle.cfb_format.proofs.Members.{Contains-here, Contains-nil, distinct-apart}
+use Rattle.cfb_content.proofs.Snug.{minis-are-enough}
+use Rattle.cfb_format.proofs.FullChains.{quotient_none}
 
 module _ (s : MiniState) (i : ℕ) (short : len_of s i < 4096) where
   -- where the mini chain from its start begins, its list does
@@ -144,7 +141,7 @@ module _ (v : Validation) (old new : MiniState) (i size wanted : ℕ) (list list
         (nothing, ap first_or_end nothing);
     enough = λ k lt. let is = left-at k lt in below-taken (k / 64) wanted list list' listed is.0 is.1;
     fewer = λ lt.
-        let room = listed-room (len_of old i) (length list) (λ k early. (whole.there k early).listed) in
+        let room = minis-are-enough (len_of old i) (length list) (λ k early. (whole.there k early).listed) in
         as-taken wanted list list' listed (omega (arith, room, wanted-is, shorter)) ∙ wanted-is;
     more = λ le. absurd (omega (arith, le, shorter));
     stands = record {
@@ -220,11 +217,7 @@ module _ (v : Validation) (old new : MiniState) (i size lacking : ℕ) (list lis
 
 -- ---- numbers
 
-no-words-lack : (w : Version) (n m : ℕ) → n ≤ m * words_per_sector w → rounded_up n (words_per_sector w) - m ≡ 0
-no-words-lack V3 n m few = omega (arith, few)
-no-words-lack V4 n m few = omega (arith, few)
-
-no-bytes-lack : (w : Version) (n m : ℕ) → n * 64 ≤ m * sector_len w → rounded_up (n * 64) (sector_len w) - m ≡ 0
+pub no-bytes-lack : (w : Version) (n m : ℕ) → n * 64 ≤ m * sector_len w → rounded_up (n * 64) (sector_len w) - m ≡ 0
 no-bytes-lack V3 n m few = omega (arith, few)
 no-bytes-lack V4 n m few = omega (arith, few)
 
@@ -237,7 +230,7 @@ cut-lacks-none v s i size list held most small shorter whole (inr (short, few)) 
     needs : mini_sectors_for size - length (mini_sectors_owned s i) ≡ 0
     needs =
         let owned = ap (λ (l : List ℕ). length l) (owned-minis s i small list whole) in
-        let room = listed-room (len_of s i) (length list) (λ k lt. (whole.there k lt).listed) in
+        let room = minis-are-enough (len_of s i) (length list) (λ k lt. (whole.there k lt).listed) in
         let is : mini_sectors_for size ≡ rounded_up size 64 = ap (λ (b : Bool). if b then 0 else rounded_up size 64) (lt-leb 4096 size short) in
         omega (arith, owned, room, is, shorter)
 
@@ -245,7 +238,7 @@ cut-lacks-none v s i size list held most small shorter whole (inr (short, few)) 
     none-more = omega arith
 
     words : minifat_lacks s 0 ≡ 0
-    words = ap (λ n. rounded_up n (words_per_sector (version_of s)) - length s.minifat_sectors) none-more ∙ no-words-lack (version_of s) (length s.minifat) (length s.minifat_sectors) held.words.covers
+    words = ap (λ n. rounded_up n (words_per_sector (version_of s)) - length s.minifat_sectors) none-more ∙ quotient_none (version_of s) (length s.minifat) (length s.minifat_sectors) held.words.covers
 
     bytes : mini_stream_lacks s 0 ≡ 0
     bytes = ap (λ n. rounded_up (n * 64) (sector_len (version_of s)) - length (mini_stream_of s)) none-more ∙ no-bytes-lack (version_of s) (length s.minifat) (length (mini_stream_of s))

@@ -16,31 +16,31 @@ use Rattle.cfb_tables.specs.Room.{IsTooFewAfter}
 use Rattle.cfb_tables.specs.Tables.{AreSizes, IsTooFew, TableState, first_or_end, sizes_of}
 use Rattle.cfb_tables.proofs.Members.{first_of_three}
 use Rattle.cfb_tables.proofs.RoomLemmas.{nothing-given-back}
-use Rattle.cfb_alloc.specs.Agreement.{KeepsSectors}
-use Rattle.cfb_alloc.specs.Alloc.{AllocatorState, ChangesSectors, HoldsTables, IsOtherHeaderByte, IsUsable}
-use Rattle.cfb_alloc.specs.Frame.{Spares}
-use Rattle.cfb_alloc.specs.ListedChain.{Lengthens, Shortens}
-use Rattle.cfb_alloc.proofs.HeldLemmas.{in_taken}
-use Rattle.cfb_alloc.proofs.HeldOrder.{held-usable}
-use Rattle.cfb_chains.specs.ChainPlaces.{place_along}
-use Rattle.cfb_chains.proofs.LentContent.{wanted_is}
-use Rattle.cfb_chains.proofs.PlacedBytes.{kept_there, left_place}
-use Rattle.cfb_mini_sectors.specs.State.{HoldsMini, IsChangeable, MiniState, bytes_of, content_of, entries_of, table_of, tables_in, version_of}
-use Rattle.cfb_mini_sectors.specs.Steps.{system_sectors}
-use Rattle.cfb_mini_sectors.specs.Held.{with_table}
-use Rattle.cfb_mini_sectors.proofs.HeldMini.{no-tables}
-use Rattle.cfb_mini_sectors.proofs.MiniStreams.{begins}
-use Rattle.cfb_mini.proofs.MiniDirectory.{chains-changed}
+use Rattle.cfb_resizing.specs.cfb_alloc.Agreement.{KeepsSectors}
+use Rattle.cfb_resizing.specs.cfb_alloc.Alloc.{AllocatorState, ChangesSectors, HoldsTables, IsOtherHeaderByte, IsUsable}
+use Rattle.cfb_resizing.specs.cfb_alloc.Frame.{Spares}
+use Rattle.cfb_resizing.specs.cfb_alloc.ListedChain.{Lengthens, Shortens}
+use Rattle.cfb_resizing.proofs.cfb_alloc.HeldLemmas.{in_taken}
+use Rattle.cfb_resizing.proofs.cfb_alloc.HeldOrder.{held-usable}
+use Rattle.cfb_resizing.specs.cfb_chains.ChainPlaces.{place_along}
+use Rattle.cfb_resizing.proofs.cfb_chains.LentContent.{wanted_is}
+use Rattle.cfb_resizing.proofs.cfb_chains.PlacedBytes.{kept_there, left_place}
+use Rattle.cfb_resizing.specs.cfb_mini_sectors.State.{HoldsMini, IsChangeable, MiniState, bytes_of, content_of, entries_of, table_of, tables_in, version_of}
+use Rattle.cfb_resizing.specs.cfb_mini_sectors.Steps.{system_sectors}
+use Rattle.cfb_resizing.specs.cfb_mini_sectors.Held.{with_table}
+use Rattle.cfb_resizing.proofs.cfb_mini_sectors.HeldMini.{no-tables}
+use Rattle.cfb_resizing.proofs.cfb_mini_sectors.MiniStreams.{begins}
+use Rattle.cfb_resizing.proofs.cfb_mini.MiniDirectory.{chains-changed}
 use Rattle.cfb_content.specs.Contents.{IsNotChangeable, IsStreamOf, KeepsOthers, len_of, mini_sectors_owned, sectors_owned}
 use Rattle.cfb_content.specs.Laws.{LacksNumbersFor}
 use Rattle.cfb_content.specs.Parts.{IsThereInSectors, IsWholeChain}
 use Rattle.cfb_content.specs.Room.{room_given}
 use Rattle.cfb_content.proofs.Apart.{own-is-apart, system-busy}
 use Rattle.cfb_content.proofs.Kept.{spared-sectors-kept}
-use Rattle.cfb_content.proofs.PlacedOnce.{inside-of}
 use Rattle.cfb_content.proofs.Readable.{large-is-there}
 use Rattle.cfb_content.proofs.WholeStreams.{large-entry, no-minis, no-sectors, owned-chain, whole-as}
-use Rattle.cfb_resizing.specs.Turning.{IsPaddedAlong, LiesInSectors, LiesTurnedInSectors, StandsTurned, Turns}
+use Rattle.cfb_resizing.specs.Turning.{IsPaddedAlong, LiesAlongSectors, LiesTurnedInSectors, StandsTurned, Turns}
+use Rattle.cfb_resizing.proofs.cfb_chains.ChainRuns.{inside_listed}
 
 pub taken-first : (list : List ℕ) (n : ℕ) → 0 < n → first_or_end (take n list) ≡ first_or_end list
 taken-first [] zero some = refl
@@ -146,13 +146,13 @@ module _ (v : Validation) (old : MiniState) (i size wanted : ℕ) (list list' : 
       let early : k < len_of old i = omega (arith, lt, shorter) in
       let is = listed-at k lt in
       let same : place_along a.tables.version list' k ≡ place_along (version_of old) list k =
-      left_place (version_of old) a.tables.version list list' wanted same_version short.listed k (inside-of (version_of old) k wanted is.0) in
+      left_place (version_of old) a.tables.version list list' wanted same_version short.listed k (inside_listed (version_of old) k wanted is.0) in
       let there : place_along (version_of old) list k < length (bytes_of old) =
       subst (λ (l : List ℕ). place_along (version_of old) l k < length (bytes_of old)) owned (lies.there k early) in
       let byte : slice_index (bytes_of old) (place_along (version_of old) list k) ≡ slice_index (content_of old (entry_at (entries_of old) i)) k =
       subst (λ (l : List ℕ). slice_index (bytes_of old) (place_along (version_of old) l k) ≡ slice_index (content_of old (entry_at (entries_of old) i)) k) owned (lies.bytes k early) in (
         omega (arith, same, there, changes.no_shorter),
-        ap (slice_index a.file.bytes) same ∙ kept_there (version_of old) list (bytes_of old) a.file.bytes k keeps (inside-of (version_of old) k (length list) is.1) there ∙ byte,
+        ap (slice_index a.file.bytes) same ∙ kept_there (version_of old) list (bytes_of old) a.file.bytes k keeps (inside_listed (version_of old) k (length list) is.1) there ∙ byte,
       )
 
   pub cut-lies : LiesTurnedInSectors old (with_table old a) i size (entry_at (entries_of old) i).start_sector list'
@@ -232,7 +232,7 @@ module _ (v : Validation) (old : MiniState) (i size count : ℕ) (list list' : L
       ∙ (λ j. max (rounded_up size (sector_len (sym grown-version j))) (length (sym grown-owned j)))
 
   pub grown-in : ((k : ℕ) → k < size → place_along (version_of old) list' k < length a.file.bytes)
-      → LiesInSectors old (with_table old a) i size (entry_at (entries_of old) i).start_sector list'
+      → LiesAlongSectors old (with_table old a) i size (entry_at (entries_of old) i).start_sector list'
   grown-in there = record {
     large = grown-long;
     chain = grown-chain;

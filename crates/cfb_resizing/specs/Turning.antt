@@ -9,18 +9,18 @@ use Rattle.cfb_format.specs.Content.{is_large, mini_sector_len, mini_stream_cuto
 use Rattle.cfb_format.specs.Full.{IsFullOfMiniSectors, rounded_up}
 use Rattle.cfb_format.specs.Refused.{HasReason, at_every_error}
 use Rattle.cfb_format.specs.Siblings.{entry_at}
-use Rattle.cfb_rules.specs.StreamCalls.{resized}
+use Rattle.cfb_resizing.specs.cfb_rules.StreamCalls.{resized}
 use Rattle.cfb_tables.specs.Changes.{AreDisjoint, NoneFree}
 use Rattle.cfb_tables.specs.Listed.{ends_of, gained}
 use Rattle.cfb_tables.specs.Clean.{IsUnnamed}
 use Rattle.cfb_tables.specs.Tables.{AreExactTables, AreFullTables, first_or_end}
-use Rattle.cfb_alloc.specs.Frame.{table_sectors}
-use Rattle.cfb_alloc.specs.ListedChain.{Lengthens, Shortens}
-use Rattle.cfb_chains.specs.ChainPlaces.{place_along}
-use Rattle.cfb_mini_table.specs.MiniTable.{MiniGivesBack, TakesMini}
-use Rattle.cfb_mini_sectors.specs.State.{HoldsMini, IsChangeable, MiniState, bytes_of, content_of, entries_of, parts_of, table_of, tables_in, version_of}
-use Rattle.cfb_mini_sectors.specs.Steps.{AreStartsUnnamed, GrowsFor, IsInMiniStream, IsSnugMini, IsZeroMini, KeepsLimits, KeepsMini, KeepsSystem, MovesRoot, SettlesRoom, system_sectors}
-use Rattle.cfb_mini.specs.MiniSectors.{IsStill}
+use Rattle.cfb_resizing.specs.cfb_alloc.Frame.{table_sectors}
+use Rattle.cfb_resizing.specs.cfb_alloc.ListedChain.{Lengthens, Shortens}
+use Rattle.cfb_resizing.specs.cfb_chains.ChainPlaces.{place_along}
+use Rattle.cfb_resizing.specs.cfb_mini_table.MiniTable.{MiniGivesBack, TakesMini}
+use Rattle.cfb_resizing.specs.cfb_mini_sectors.State.{HoldsMini, IsChangeable, MiniState, bytes_of, content_of, entries_of, parts_of, table_of, tables_in, version_of}
+use Rattle.cfb_resizing.specs.cfb_mini_sectors.Steps.{AreStartsUnnamed, GrowsFor, IsInMiniStream, IsSnugMini, IsZeroMini, KeepsLimits, KeepsMini, KeepsSystem, MovesRoot, SettlesRoom, system_sectors}
+use Rattle.cfb_resizing.specs.cfb_mini.MiniSectors.{IsStill}
 use Rattle.cfb_content.specs.Changed.{StaysTidy}
 use Rattle.cfb_content.specs.Contents.{WipesMinis, len_of, mini_place_along, mini_sectors_owned, sectors_owned}
 
@@ -53,7 +53,7 @@ pub record LiesTurnedInSectors (old new : MiniState) (i size start : ℕ) (ys : 
   pub stands : StandsTurned old i size (bytes_of new) (place_along (version_of new) ys)
 
 -- the same, whatever stands in them
-pub record LiesInSectors (old new : MiniState) (i size start : ℕ) (ys : List ℕ) : Type 0 where
+pub record LiesAlongSectors (old new : MiniState) (i size start : ℕ) (ys : List ℕ) : Type 0 where
   pub large : mini_stream_cutoff ≤ size
   pub chain : IsChain (tables_in new).fat start ys
   pub enough : (k : ℕ) → k < size → k / sector_len (version_of new) < length ys
@@ -213,7 +213,7 @@ pub record Appends (old new : MiniState) (i : ℕ) (from : List ℕ) (start : �
   pub count : ℕ
   pub mini : KeepsMini old new
   pub longer : Lengthens count (sectors_owned old i) ys (tables_in old) (tables_in new)
-  pub lies : LiesInSectors old new i (len_of old i + length from) start ys
+  pub lies : LiesAlongSectors old new i (len_of old i + length from) start ys
   pub stands : StandBehind old i from (bytes_of new) (place_along (version_of new) ys)
 
 -- a small stream's mini chain was freed, if it had one, the MiniFAT and the mini stream gave back what they did not need, and then a chain
@@ -229,7 +229,7 @@ pub record MovesWith (old new : MiniState) (i size : ℕ) (from : List ℕ) (sta
   pub wiped : (m : ℕ) → Contains (mini_sectors_owned old i) m → IsInMiniStream new m → IsZeroMini new m
   pub mini : KeepsMini mid new
   pub longer : Lengthens count [] ys (tables_in mid) (tables_in new)
-  pub lies : LiesInSectors old new i size start ys
+  pub lies : LiesAlongSectors old new i size start ys
   pub stands : StandBehind old i from (bytes_of new) (place_along (version_of new) ys)
   pub zeros : (k : ℕ) → len_of old i + length from ≤ k → k < size → slice_index (bytes_of new) (place_along (version_of new) ys k) ≡ 0
 

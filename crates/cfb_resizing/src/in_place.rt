@@ -9,30 +9,27 @@ ghost use Rattle.cfb_format.specs.Refused.{AfterMedium, CountsFailure, IsInvalid
 ghost use Rattle.cfb_tables.specs.Listed.{ends_of, gained};
 ghost use Rattle.cfb_tables.specs.Refused.{ChangeRefused};
 ghost use Rattle.cfb_tables.specs.Tables.{AreSizes, IsTooFew, first_or_end, sizes_of};
-ghost use Rattle.cfb_alloc.specs.Alloc.{HoldsTables, IsOtherHeaderByte, IsUsable};
-ghost use Rattle.cfb_alloc.specs.Frame.{Spares};
-ghost use Rattle.cfb_alloc.specs.ListedChain.{Lengthens};
-ghost use Rattle.cfb_chains.specs.ChainPlaces.{place_along};
-ghost use Rattle.cfb_mini_table.specs.MiniTable.{TakesMini};
-ghost use Rattle.cfb_mini_sectors.specs.State.{HoldsMini, bytes_of, table_of, tables_in, version_of};
-ghost use Rattle.cfb_mini_sectors.specs.Steps.{GrowsFor, IsNotHeld, IsSnugMini, IsTooFewFor, KeepsHeader, KeepsMini, KeepsSystem, SparesMini, system_sectors};
-ghost use Rattle.cfb_mini.specs.MiniSectors.{HasMiniSector, IsWhole};
+ghost use Rattle.cfb_resizing.specs.cfb_alloc.Alloc.{HoldsTables, IsOtherHeaderByte, IsUsable};
+ghost use Rattle.cfb_resizing.specs.cfb_alloc.Frame.{Spares};
+ghost use Rattle.cfb_resizing.specs.cfb_alloc.ListedChain.{Lengthens};
+ghost use Rattle.cfb_resizing.specs.cfb_chains.ChainPlaces.{place_along};
+ghost use Rattle.cfb_resizing.specs.cfb_mini_table.MiniTable.{TakesMini};
+ghost use Rattle.cfb_resizing.specs.cfb_mini_sectors.State.{HoldsMini, bytes_of, table_of, tables_in, version_of};
+ghost use Rattle.cfb_resizing.specs.cfb_mini_sectors.Steps.{GrowsFor, IsNotHeld, IsSnugMini, IsTooFewFor, KeepsHeader, KeepsMini, KeepsSystem, SparesMini, system_sectors};
+ghost use Rattle.cfb_resizing.specs.cfb_mini.MiniSectors.{HasMiniSector, IsOfWholeSectors};
 ghost use Rattle.cfb_content.specs.Changed.{SparesOthers};
 ghost use Rattle.cfb_content.specs.Contents.{IsNotChangeable, IsStreamOf, len_of, mini_place_along};
 ghost use Rattle.cfb_content.specs.Laws.{LacksNumbersFor};
 ghost use Rattle.cfb_content.specs.Parts.{IsThereInMinis, IsThereInSectors};
 ghost use Rattle.cfb_resizing.specs.Turning.{IsPaddedAlong, KeepsAround, KeepsTablesTight, StopsOrBegun, TurnsSoundly};
 
-use cfb_alloc::alloc::Allocator;
 use cfb_content::in_minis::{whole_mini_chain, zero_in_minis};
 use cfb_content::in_sectors::zero_in_sectors;
-use cfb_content::listed::open_whole_chain;
-use cfb_content::reading::content_in;
+use cfb_content::listed::{content_in, open_whole_chain};
+use cfb_content::{Allocator, MiniAllocator, are_known_minis};
 use cfb_format::consts::MINI_SECTOR_LEN;
 use cfb_format::error::{Detail, Error};
 use cfb_format::medium::{Medium, ReadMedium};
-use cfb_mini::mini_allocator::MiniAllocator;
-use cfb_mini_sectors::pieces::are_known_minis;
 use cfb_sectors::sector::SectorInit;
 use cfb_tables::ends::first_number;
 use std::alloc::Allocator as Heap;
@@ -58,7 +55,7 @@ fn lengthen_in_sectors<F: Medium, A: Heap + Clone>(
         → OnOk result (IsPaddedAlong len size (place_along allocator.old.tables.version ids.old.items) (place_along allocator.old.tables.version ids.new.items)
         allocator.old.file.bytes allocator.new.file.bytes) }
     ensures holds { IsTrue F.tells → (validation : Validation) → HoldsTables validation allocator.old → OnOk result (HoldsTables validation allocator.new) }
-    ensures whole { IsTrue F.tells → (validation : Validation) → HoldsTables validation allocator.old → IsWhole allocator.old → OnOk result (IsWhole allocator.new) }
+    ensures whole { IsTrue F.tells → (validation : Validation) → HoldsTables validation allocator.old → IsOfWholeSectors allocator.old → OnOk result (IsOfWholeSectors allocator.new) }
     ensures sizes { OnOk result (AreSizes allocator.new.tables.version (sizes_of allocator.new.tables)) }
     ensures spares { IsTrue F.tells → Spares ids.old.items allocator.old allocator.new }
     ensures header { IsTrue F.tells → (i : ℕ) → i < length allocator.old.file.bytes → IsOtherHeaderByte allocator.old.tables.version i
@@ -183,7 +180,7 @@ fn lengthen_in_minis<F: Medium, A: Heap + Clone>(
         → ((k : ℕ) → k < len → IsThereInMinis mini.old ids.old.items k)
         → OnOk result (IsPaddedAlong len size (mini_place_along mini.old ids.old.items) (mini_place_along mini.new ids.new.items) (bytes_of mini.old) (bytes_of mini.new)) }
     ensures holds { IsTrue F.tells → (validation : Validation) → HoldsMini validation mini.old → OnOk result (HoldsMini validation mini.new) }
-    ensures whole { IsTrue F.tells → (validation : Validation) → HoldsMini validation mini.old → IsWhole (table_of mini.old) → OnOk result (IsWhole (table_of mini.new)) }
+    ensures whole { IsTrue F.tells → (validation : Validation) → HoldsMini validation mini.old → IsOfWholeSectors (table_of mini.old) → OnOk result (IsOfWholeSectors (table_of mini.new)) }
     ensures spares { IsTrue F.tells → Spares (system_sectors mini.old) (table_of mini.old) (table_of mini.new) }
     ensures mini_spares { IsTrue F.tells → (validation : Validation) → HoldsMini validation mini.old → SparesMini ids.old.items mini.old mini.new }
     ensures header { IsTrue F.tells → OnOk result (KeepsHeader mini.old mini.new) }

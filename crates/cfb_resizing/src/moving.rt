@@ -12,13 +12,13 @@ ghost use Rattle.cfb_tables.specs.Listed.{EndsChain};
 ghost use Rattle.cfb_tables.specs.Refused.{ChangeRefused};
 ghost use Rattle.cfb_tables.specs.Room.{IsTooFewAfter};
 ghost use Rattle.cfb_tables.specs.Tables.{AreSizes, IsTooFew, first_or_end, sizes_of};
-ghost use Rattle.cfb_alloc.specs.Alloc.{HoldsTables, IsOtherHeaderByte, IsUsable};
-ghost use Rattle.cfb_alloc.specs.Frame.{Spares};
-ghost use Rattle.cfb_alloc.specs.ListedChain.{Lengthens};
-ghost use Rattle.cfb_chains.specs.ChainPlaces.{place_along};
-ghost use Rattle.cfb_mini_sectors.specs.State.{HoldsMini, bytes_of, mini_stream_of, table_of, tables_in, version_of};
-ghost use Rattle.cfb_mini_sectors.specs.Steps.{IsInMiniStream, IsNotHeld, IsSnugMini, IsTooFewAfterFor, IsZeroMini, KeepsHeader, SparesMini, system_sectors};
-ghost use Rattle.cfb_mini.specs.MiniSectors.{IsStill, IsWhole};
+ghost use Rattle.cfb_resizing.specs.cfb_alloc.Alloc.{HoldsTables, IsOtherHeaderByte, IsUsable};
+ghost use Rattle.cfb_resizing.specs.cfb_alloc.Frame.{Spares};
+ghost use Rattle.cfb_resizing.specs.cfb_alloc.ListedChain.{Lengthens};
+ghost use Rattle.cfb_resizing.specs.cfb_chains.ChainPlaces.{place_along};
+ghost use Rattle.cfb_resizing.specs.cfb_mini_sectors.State.{HoldsMini, bytes_of, mini_stream_of, table_of, tables_in, version_of};
+ghost use Rattle.cfb_resizing.specs.cfb_mini_sectors.Steps.{IsInMiniStream, IsNotHeld, IsSnugMini, IsTooFewAfterFor, IsZeroMini, KeepsHeader, SparesMini, system_sectors};
+ghost use Rattle.cfb_resizing.specs.cfb_mini.MiniSectors.{IsStill, IsOfWholeSectors};
 ghost use Rattle.cfb_content.specs.Changed.{SparesOthers};
 ghost use Rattle.cfb_content.specs.Contents.{IsNotChangeable, IsStreamOf, len_of, mini_place_along};
 ghost use Rattle.cfb_content.specs.Laws.{LacksNumbersFor};
@@ -27,16 +27,13 @@ ghost use Rattle.cfb_content.specs.Parts.{IsThereInMinis, IsThereInSectors, Stan
 ghost use Rattle.cfb_resizing.specs.Turning.{CarriesToMinis, CarriesToSectors, GoesUnnamed, IsPaddedAlong, KeepsAround, KeepsTablesTight, MovesSoundly, StopsOrBegun, TurnsSoundly};
 
 use crate::room::{room_for_move, stream_sectors};
-use cfb_alloc::alloc::Allocator;
 use cfb_content::in_minis::{get_from_minis, put_in_minis, whole_mini_chain};
 use cfb_content::in_sectors::get_from_sectors;
-use cfb_content::listed::whole_chain;
-use cfb_content::reading::content_in;
+use cfb_content::listed::{content_in, whole_chain};
+use cfb_content::{Allocator, MiniAllocator, lacks_for};
 use cfb_format::consts::MINI_SECTOR_LEN;
 use cfb_format::error::{Detail, Error};
 use cfb_format::medium::{Medium, ReadMedium};
-use cfb_mini::mini_allocator::MiniAllocator;
-use cfb_mini_sectors::growing::lacks_for;
 use cfb_sectors::sector::SectorInit;
 use cfb_tables::ends::first_number;
 use std::alloc::Allocator as Heap;
@@ -127,7 +124,7 @@ fn carry_to_minis<F: Medium, A: Heap>(
     ensures holds { IsTrue F.tells → (validation : Validation) → HoldsMini validation mini.old → AreDisjoint (system_sectors mini.old) list.now
         → IsUnnamed (tables_in mini.old).fat (first_or_end list.now) → OnOk result (HoldsMini validation mini.new) }
     ensures whole { IsTrue F.tells → (validation : Validation) → HoldsMini validation mini.old → AreDisjoint (system_sectors mini.old) list.now
-        → IsUnnamed (tables_in mini.old).fat (first_or_end list.now) → IsWhole (table_of mini.old) → OnOk result (IsWhole (table_of mini.new)) }
+        → IsUnnamed (tables_in mini.old).fat (first_or_end list.now) → IsOfWholeSectors (table_of mini.old) → OnOk result (IsOfWholeSectors (table_of mini.new)) }
     ensures spares { IsTrue F.tells → Spares (system_sectors mini.old ++ list.now) (table_of mini.old) (table_of mini.new) }
     ensures mini_spares { IsTrue F.tells → (validation : Validation) → HoldsMini validation mini.old → AreDisjoint (system_sectors mini.old) list.now
         → IsUnnamed (tables_in mini.old).fat (first_or_end list.now) → SparesMini [] mini.old mini.new }
@@ -228,7 +225,7 @@ fn begin_in_sectors<F: Medium, A: Heap>(
         → OnOk result (IsPaddedAlong (length bytes.now) (count * sector_len allocator.old.tables.version) (λ k. k)
         (place_along allocator.old.tables.version ids.new.items) bytes.now allocator.new.file.bytes) }
     ensures holds { IsTrue F.tells → (validation : Validation) → HoldsTables validation allocator.old → OnOk result (HoldsTables validation allocator.new) }
-    ensures whole { IsTrue F.tells → (validation : Validation) → HoldsTables validation allocator.old → IsWhole allocator.old → OnOk result (IsWhole allocator.new) }
+    ensures whole { IsTrue F.tells → (validation : Validation) → HoldsTables validation allocator.old → IsOfWholeSectors allocator.old → OnOk result (IsOfWholeSectors allocator.new) }
     ensures sizes { OnOk result (AreSizes allocator.new.tables.version (sizes_of allocator.new.tables)) }
     ensures spares { IsTrue F.tells → Spares [] allocator.old allocator.new }
     ensures header { IsTrue F.tells → (i : ℕ) → i < length allocator.old.file.bytes → IsOtherHeaderByte allocator.old.tables.version i
@@ -270,8 +267,8 @@ fn carry_to_sectors<F: Medium, A: Heap>(
     ensures holds { IsTrue F.tells → (validation : Validation) → HoldsMini validation mini.old → GoesUnnamed mini.old list.old.items → OnOk result (HoldsMini validation mini.new) }
     ensures wiped { IsTrue F.tells → (validation : Validation) → HoldsMini validation mini.old → GoesUnnamed mini.old list.old.items
         → OnOk result ((m : ℕ) → Contains list.old.items m → IsInMiniStream mini.new m → IsZeroMini mini.new m) }
-    ensures whole { IsTrue F.tells → (validation : Validation) → HoldsMini validation mini.old → GoesUnnamed mini.old list.old.items → IsWhole (table_of mini.old)
-        → OnOk result (IsWhole (table_of mini.new)) }
+    ensures whole { IsTrue F.tells → (validation : Validation) → HoldsMini validation mini.old → GoesUnnamed mini.old list.old.items → IsOfWholeSectors (table_of mini.old)
+        → OnOk result (IsOfWholeSectors (table_of mini.new)) }
     ensures spares { IsTrue F.tells → Spares (system_sectors mini.old) (table_of mini.old) (table_of mini.new) }
     ensures mini_spares { IsTrue F.tells → (validation : Validation) → HoldsMini validation mini.old → GoesUnnamed mini.old list.old.items → SparesMini list.old.items mini.old mini.new }
     ensures header { IsTrue F.tells → OnOk result (KeepsHeader mini.old mini.new) }

@@ -7,12 +7,12 @@ ghost use Rattle.cfb_format.specs.Refused.{AfterMedium, CountsFailure, IsInvalid
 ghost use Rattle.cfb_format.specs.Siblings.{entry_at};
 ghost use Rattle.cfb_sectors.specs.Sectors.{IsMediumError, IsRaised};
 ghost use Rattle.cfb_tables.specs.Refused.{ChangeRefused};
-ghost use Rattle.cfb_alloc.specs.Frame.{Spares};
-ghost use Rattle.cfb_directory.specs.Growing.{ArePlaced};
-ghost use Rattle.cfb_directory.specs.Steps.{KeepsWholeHeader};
-ghost use Rattle.cfb_mini_sectors.specs.State.{HoldsMini, entries_of, table_of, tables_in, version_of};
-ghost use Rattle.cfb_mini_sectors.specs.Steps.{KeepsLimits, KeepsMini, KeepsSystem};
-ghost use Rattle.cfb_mini.specs.MiniSectors.{IsStill};
+ghost use Rattle.cfb_resizing.specs.cfb_alloc.Frame.{Spares};
+ghost use Rattle.cfb_resizing.specs.cfb_directory.Growing.{ArePlaced};
+ghost use Rattle.cfb_resizing.specs.cfb_directory.Steps.{KeepsWholeHeader};
+ghost use Rattle.cfb_resizing.specs.cfb_mini_sectors.State.{HoldsMini, entries_of, table_of, tables_in, version_of};
+ghost use Rattle.cfb_resizing.specs.cfb_mini_sectors.Steps.{KeepsLimits, KeepsMini, KeepsSystem};
+ghost use Rattle.cfb_resizing.specs.cfb_mini.MiniSectors.{IsStill};
 ghost use Rattle.cfb_content.specs.Changed.{MovesAlone, SparesOthers, WasChanged};
 ghost use Rattle.cfb_content.specs.Contents.{IsNotChangeable, IsStreamOf, IsTooLongFor, MovesContent, len_of};
 ghost use Rattle.cfb_content.specs.Laws.{LacksNumbersFor};
@@ -22,13 +22,11 @@ use crate::in_place::{cut_in_minis, cut_in_sectors, grow_in_minis, grow_in_secto
 use crate::moving::{move_to_minis, move_to_sectors};
 use crate::room::room_for_move;
 use cfb_content::in_minis::whole_mini_chain;
-use cfb_content::listed::whole_chain_len;
-use cfb_content::reading::content_in;
-use cfb_entries::fields::Fields;
+use cfb_content::listed::{content_in, whole_chain_len};
+use cfb_content::{Fields, MiniAllocator};
 use cfb_format::consts::{MINI_SECTOR_LEN, MINI_STREAM_CUTOFF};
 use cfb_format::error::{Detail, Error};
 use cfb_format::medium::{Medium, ReadMedium};
-use cfb_mini::mini_allocator::MiniAllocator;
 use std::alloc::Allocator as Heap;
 
 /// A refusal of an entry that has no slot in the file.

@@ -10,18 +10,17 @@ ghost use Rattle.cfb_format.specs.Full.{freed};
 ghost use Rattle.cfb_format.specs.Refused.{IsInvalidData};
 ghost use Rattle.cfb_tables.specs.Refused.{ChangeRefused};
 ghost use Rattle.cfb_tables.specs.Room.{IsTooFewAfter};
-ghost use Rattle.cfb_mini_sectors.specs.State.{mini_stream_of, tables_in};
-ghost use Rattle.cfb_mini_sectors.specs.Steps.{CanGiveRoomBack, IsNotHeld};
+ghost use Rattle.cfb_resizing.specs.cfb_mini_sectors.State.{mini_stream_of, tables_in};
+ghost use Rattle.cfb_resizing.specs.cfb_mini_sectors.Steps.{CanGiveRoomBack, IsNotHeld};
 ghost use Rattle.cfb_content.specs.Contents.{IsNotChangeable, IsStreamOf, len_of, mini_sectors_owned};
 ghost use Rattle.cfb_content.specs.Room.{ComesFree, room_given};
 
 use cfb_content::in_minis::whole_mini_chain;
-use cfb_content::reading::content_in;
+use cfb_content::listed::content_in;
+use cfb_content::{MiniAllocator, Needs, can_give_back, needs_for};
 use cfb_format::consts::FREE_SECTOR;
 use cfb_format::error::{Detail, Error};
 use cfb_format::medium::ReadMedium;
-use cfb_mini::mini_allocator::MiniAllocator;
-use cfb_mini_sectors::giving::{Needs, can_give_back, needs_for};
 use std::alloc::Allocator as Heap;
 
 /// The sectors of the mini stream: none where its chain is none.

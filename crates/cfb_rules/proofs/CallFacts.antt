@@ -1,5 +1,5 @@
 -- Worked examples of calls by path.
-use Rattle.std.proofs.Common.{◌≡◌, ℕ, List, [], ◌∷◌, Bool, true, false, refl, replicate, length, map, inl, lit≤, inr}
+use Rattle.std.proofs.Common.{◌≡◌, ℕ, List, [], ◌∷◌, Bool, true, false, refl, replicate, length, map, inl, lit≤, inr, ap, ◌++◌}
 use Rattle.std.specs.Prelude.{codes, Option, Some, None, ⊤}
 use Rattle.cfb_format.specs.declared.objtype.ObjType.TheVariants.{Storage, Stream}
 use Rattle.cfb_format.specs.Names.{default_cases}
@@ -14,6 +14,7 @@ use Rattle.cfb_rules.specs.CallReplies.{reply_of}
 use Rattle.cfb_rules.specs.StreamCalls.{StreamState, read, write, seek, set_len, read_to_end, ask_position, from_start, got, count, offset, ready, not_done}
 use Rattle.cfb_rules.specs.Runs.{Setting, TreeState}
 use Rattle.cfb_rules.specs.Lists.{Deed, FileView, IsLegal, IsLegalRun, IsSeenAsBefore, tree_alone, Command, by_path, on_stream, creates_new, replied, streamed, opens, blame_in}
+use Rattle.cfb_rules.specs.Finding.{parent_names, last_name}
 
 abbrev run : List Call → Tree → Tree
 run [] tree = tree
@@ -342,3 +343,13 @@ pub blamed_once : blame_in medium_failed
     ∷ streamed (not_done medium_failed ∷ offset 7 ∷ not_done failed_earlier ∷ []) (Some failed_earlier)
     ∷ replied (refused failed_earlier) ∷ replied done ∷ []) ≡ 1
 blamed_once = refl
+
+pub parents_at : (above : List (List ℕ)) (name : List ℕ) → parent_names (above ++ name ∷ []) ≡ above
+parents_at [] name = refl
+parents_at (a ∷ []) name = refl
+parents_at (a ∷ b ∷ rest) name = ap (λ (names : List (List ℕ)). a ∷ names) (parents_at (b ∷ rest) name)
+
+pub last_at : (above : List (List ℕ)) (name : List ℕ) → last_name (above ++ name ∷ []) ≡ name
+last_at [] name = refl
+last_at (a ∷ []) name = refl
+last_at (a ∷ b ∷ rest) name = last_at (b ∷ rest) name

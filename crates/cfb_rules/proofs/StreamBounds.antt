@@ -134,7 +134,7 @@ length_written content bytes p n fits =
     let back = length-drop (p + n) content in
     omega (arith, all, front, mid, back, fits)
 
-length_resized : (content : List ℕ) (len : ℕ) → length (resized content len) ≡ len
+pub length_resized : (content : List ℕ) (len : ℕ) → length (resized content len) ≡ len
 length_resized content len =
     let all = length-append (take len content) (replicate (len - length content) 0) in
     let front = length-take len content in

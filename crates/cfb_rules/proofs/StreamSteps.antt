@@ -1,5 +1,5 @@
 -- Calls on a stream: refused ones change nothing.
-use Rattle.std.proofs.Common.{◌≡◌, ℕ, List, Bool, true, false, refl, ◌∙◌, ap, ◌≤◌, ◌+◌}
+use Rattle.std.proofs.Common.{◌≡◌, ℕ, List, Bool, true, false, refl, ◌∙◌, ap, ◌≤◌, ◌+◌, ◌-◌}
 use Rattle.std.specs.Prelude.{Option, Some, None, MatchOption, MatchBool, length, [], drop, min, nat_lt, nat_le, ◌==◌, ◌||◌, ◌&&◌}
 use Rattle.cfb_format.specs.Medium.{part}
 use Rattle.cfb_rules.specs.Refusal.{Refusal, invalid_input, invalid_data, not_sound}

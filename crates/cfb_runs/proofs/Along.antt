@@ -5,12 +5,12 @@ use Rattle.std.specs.List.{IsDistinct}
 use Rattle.std.proofs.lemmas.List.{get_or-replicate, length-replicate, take-replicate}
 use Rattle.cfb_format.specs.declared.version.Version.{Version}
 use Rattle.cfb_format.specs.Bytes.{sector_len}
-use Rattle.cfb_sectors.specs.Sectors.{SectorFile}
+use Rattle.cfb_runs.specs.cfb_sectors.Sectors.{SectorFile}
 use Rattle.cfb_runs.specs.Along.{ChangesOnlyPlaces, ChangesOnlyRun, StandAlong, StopsAlong}
 use Rattle.cfb_runs.specs.Runs.{place_along}
 use Rattle.cfb_runs.proofs.Runs.{placed_once, run_some}
-pub use Rattle.cfb_table_words.proofs.Answering.{all_err}
-pub use Rattle.cfb_table_words.proofs.Along.{StandsTo, only_more, only_range, only_refl, only_run, only_then, rest_at, rest_long, rest_of, rest_size, run_more, run_only, run_stands, stands_none, stands_on, stands_still}
+pub use Rattle.cfb_runs.proofs.cfb_table_words.Answering.{all_err}
+pub use Rattle.cfb_runs.proofs.cfb_table_words.Along.{StandsTo, only_more, only_range, only_refl, only_run, only_then, rest_at, rest_long, rest_of, rest_size, run_more, run_only, run_stands, stands_none, stands_on, stands_still}
 
 pub kept_after : (c b a : SectorFile) → c ≡ record b { len = c.len; bytes = c.bytes; failures = c.failures; begun = c.begun }
     → b ≡ record a { len = b.len; bytes = b.bytes; failures = b.failures; begun = b.begun } → c ≡ record a { len = c.len; bytes = c.bytes; failures = c.failures; begun = c.begun }

@@ -3,13 +3,13 @@ use Rattle.std.proofs.Common.{◌≤◌, ◌<◌, ◌+◌, ◌/◌, ℕ, List, s
 use Rattle.std.specs.Prelude.{slice_index}
 use Rattle.cfb_format.specs.declared.version.Version.{Version}
 use Rattle.cfb_format.specs.Bytes.{sector_len, sector_start}
-use Rattle.cfb_sectors.specs.Sectors.{SectorFile, sectors_end}
-use Rattle.cfb_tables.specs.Changes.{AreDisjoint}
-use Rattle.cfb_tables.specs.Tables.{TableState}
+use Rattle.cfb_runs.specs.cfb_sectors.Sectors.{SectorFile, sectors_end}
+use Rattle.cfb_runs.specs.cfb_tables.Changes.{AreDisjoint}
+use Rattle.cfb_runs.specs.cfb_tables.Tables.{TableState}
 use Rattle.cfb_alloc.specs.Alloc.{IsPlaced}
 use Rattle.cfb_alloc.specs.Frame.{LieOutside}
 use Rattle.cfb_runs.specs.Runs.{IsRun, place_along}
-pub use Rattle.cfb_table_words.proofs.Runs.{at_both, at_index, at_offset, found_byte, found_place, here_place, in_sector, listed_index, longest_from, longest_once, next_listed, next_place, offset_short, placed_at, placed_once, rest_short, run_among, run_below, run_ends, run_of_numbers, run_some, shorter_run}
+pub use Rattle.cfb_runs.proofs.cfb_table_words.Runs.{at_both, at_index, at_offset, found_byte, found_place, here_place, in_sector, listed_index, longest_from, longest_once, next_listed, next_place, offset_short, placed_at, placed_once, rest_short, run_among, run_below, run_ends, run_of_numbers, run_some, shorter_run}
 
 pub run_outside : (v : Version) (ids others : List ℕ) (at n : ℕ) → 0 < n → IsRun v ids at n → AreDisjoint ids others → LieOutside others v (place_along v ids at) n
 run_outside v ids others at n some run apart i m = run_among v ids at n some run i (λ mine. apart i mine m)

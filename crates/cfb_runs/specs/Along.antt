@@ -5,7 +5,7 @@ use Rattle.cfb_format.specs.declared.version.Version.{Version}
 use Rattle.cfb_format.specs.Bytes.{sector_len}
 use Rattle.cfb_alloc.specs.Alloc.{AllocatorState}
 use Rattle.cfb_runs.specs.Runs.{IsLongestRun, IsRun, place_along}
-pub use Rattle.cfb_table_words.specs.Along.{ChangesOnlyPlaces, ChangesOnlyRun, StandAlong}
+pub use Rattle.cfb_runs.specs.cfb_table_words.Along.{ChangesOnlyPlaces, ChangesOnlyRun, StandAlong}
 
 -- where byte k of these sectors stands in the file of this allocator
 abbrev pub place_in : AllocatorState → List ℕ → ℕ → ℕ

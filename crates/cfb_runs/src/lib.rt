@@ -5,3 +5,7 @@
 pub mod reading;
 pub mod run;
 pub mod writing;
+
+// What crates above name of those below.
+pub use cfb_alloc::alloc::Allocator;
+pub use cfb_alloc::{count_consecutive, first_number};

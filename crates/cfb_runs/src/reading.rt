@@ -3,7 +3,7 @@ ghost use Rattle.std.specs.Prelude.{◌≡◌, ℕ, ◌+◌, ◌/◌, ◌^◌, �
 ghost use Rattle.cfb_format.specs.Bytes.{sector_len};
 ghost use Rattle.cfb_format.specs.Medium.{part};
 ghost use Rattle.cfb_format.specs.Refused.{CountsFailure, IsInvalidData};
-ghost use Rattle.cfb_sectors.specs.Sectors.{IsMediumError};
+ghost use Rattle.cfb_runs.specs.cfb_sectors.Sectors.{IsMediumError};
 ghost use Rattle.cfb_runs.specs.Along.{IsListed, IsReadAtOnce, IsThereInSectors, OnlyReads, place_in};
 ghost use Rattle.cfb_runs.specs.Runs.{place_along};
 

@@ -5,17 +5,17 @@ ghost use Rattle.cfb_format.specs.declared.validate.Validation.{Validation};
 ghost use Rattle.cfb_format.specs.Bytes.{sector_len};
 ghost use Rattle.cfb_format.specs.Medium.{ChangesOnlyBytes, written};
 ghost use Rattle.cfb_format.specs.Refused.{CountsFailure};
-ghost use Rattle.cfb_sectors.specs.Sectors.{IsMediumError};
-ghost use Rattle.cfb_tables.specs.Changes.{AreDisjoint};
+ghost use Rattle.cfb_runs.specs.cfb_sectors.Sectors.{IsMediumError};
+ghost use Rattle.cfb_runs.specs.cfb_tables.Changes.{AreDisjoint};
 ghost use Rattle.cfb_alloc.specs.Alloc.{HoldsTables};
 ghost use Rattle.cfb_alloc.specs.Frame.{Spares, table_sectors};
 ghost use Rattle.cfb_runs.specs.Along.{ChangesOnlyPlaces, ChangesOnlyRun, IsKnown, IsListed, OnlyWrites, StandAlong, StopsAlong, byte_in, place_in};
 ghost use Rattle.cfb_runs.specs.Runs.{IsLongestRun, IsRun};
 
 use cfb_alloc::alloc::Allocator;
+use cfb_alloc::run_from;
 use cfb_format::error::Error;
 use cfb_format::medium::Medium;
-use cfb_table_words::run::run_from;
 use std::alloc::Allocator as Heap;
 
 /// Zeros, which no call has to make anew.

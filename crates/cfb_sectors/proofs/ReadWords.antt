@@ -8,6 +8,7 @@ use Rattle.cfb_format.specs.Bytes.{word_at, words, sector_words, sector_len, sec
 use Rattle.cfb_sectors.proofs.WordLemmas.{word_same}
 use Rattle.cfb_format.specs.Medium.{part}
 use Rattle.std.proofs.lemmas.Grind.{same_number_lists}
+use Rattle.cfb_format.proofs.Words.{words-length}
 
 -- ---- a word by its number
 
@@ -18,11 +19,6 @@ words-at (suc k) bytes zero d lt = refl
 words-at (suc k) bytes (suc i) d lt =
     let e : 4 + 4 * i ≡ 4 * suc i = omega arith in
     words-at k (drop 4 bytes) i d (omega arith) ∙ ap (from_le_bytes w32) (drop-drop (4 * i) 4 bytes) ∙ ap (λ n. from_le_bytes w32 (drop n bytes)) e
-
-pub words-length : (k : ℕ) (bytes : List ℕ) → length (words k bytes) ≡ k
-unfolding words
-words-length zero bytes = refl
-words-length (suc k) bytes = ap suc (words-length k (drop 4 bytes))
 
 -- words, one by one
 pub words_each : (bytes ws : List ℕ) → ((k : ℕ) → k < length ws → slice_index ws k ≡ word_at bytes (4 * k)) → ws ≡ words (length ws) bytes

@@ -6,6 +6,7 @@ use Rattle.cfb_rules.specs.CallChanges.{changed_at, fields_changed_at, removed_a
 use Rattle.cfb_rules.specs.Finding.{last_name, parent_names}
 use Rattle.cfb_sequences.specs.Laws.{NothingIsLeft, RemovedFromRoot, RemovedInside, RemovedWithContent, RemovedWithFields}
 use Rattle.cfb_sequences.proofs.Changes.{inside-same, inside-twice, last-behind, parents-behind, without-fields, without-inside}
+use Rattle.cfb_sequences.proofs.Ways.{same-way}
 
 module _ (cases : Cases) where
   abbrev removed_from : List (List ℕ) → Objects → Objects
@@ -60,12 +61,8 @@ pub removed-own : (cases : Cases) (content : List ℕ) (goal : List (List ℕ)) 
 removed-own cases content [] tree = refl
 removed-own cases content (name ∷ names) tree = λ d. record { root = tree.root; objects = removed-fields cases same_storage (with_content content) name names tree.objects d }
 
-same-names : (names : List (List ℕ)) → names ++ [] ≡ names
-same-names [] = refl
-same-names (name ∷ names) = ap (λ (l : List (List ℕ)). name ∷ l) (same-names names)
-
 pub removed-with-content : RemovedWithContent
-removed-with-content cases content goal [] tree = ap (λ (l : List (List ℕ)). removed_at cases goal (fields_changed_at cases same_storage (with_content content) l tree)) (same-names goal)
+removed-with-content cases content goal [] tree = ap (λ (l : List (List ℕ)). removed_at cases goal (fields_changed_at cases same_storage (with_content content) l tree)) (same-way goal)
     ∙ removed-own cases content goal tree
 removed-with-content cases content goal (name ∷ more) tree = removed-with-fields cases same_storage (with_content content) goal more name tree
 

@@ -18,7 +18,7 @@ use Rattle.cfb_siblings.specs.Children.{HasChildren, IsParent, IsAbsent, HasRedA
 use Rattle.cfb_siblings.specs.Laws.{grown_by}
 use Rattle.cfb_siblings.proofs.Removing.{above-on, below-on, increasing-on}
 
-past-is-unallocated : (more i : ℕ) → entry_at (replicate more unallocated_entry) i ≡ unallocated_entry
+pub past-is-unallocated : (more i : ℕ) → entry_at (replicate more unallocated_entry) i ≡ unallocated_entry
 past-is-unallocated more i = elim (cases_lt i more) [
   | inl l ↦ get_or-replicate more i unallocated_entry unallocated_entry l
   | inr g ↦ get_or_past (replicate more unallocated_entry) i unallocated_entry (omega (arith, g, length-replicate more unallocated_entry))

@@ -7,15 +7,15 @@ use Rattle.std.proofs.lemmas.List.Elements.{Contains-append_left, Contains-appen
 use Rattle.std.proofs.lemmas.Grind.{flat_map-append}
 use Rattle.cfb_format.specs.Bytes.{free_sector}
 use Rattle.cfb_format.specs.Chain.{value}
-use Rattle.cfb_tables.specs.Owners.{UseChanges, Takes, Frees}
-use Rattle.cfb_tables.proofs.Members.{Contains-nil, Contains-here, Contains-there, Contains-or, none_distinct, distinct-left, distinct-right, distinct-apart, distinct-join}
+use Rattle.cfb_sound_changes.specs.cfb_tables.Owners.{UseChanges, Takes, Frees}
 use Rattle.cfb_format.specs.Siblings.{entry_at}
 use Rattle.cfb_format.specs.Soundness.{streams, mini_stream_sectors, used_sectors}
-use Rattle.cfb_tables.proofs.UseLemmas.{taken-takes, given-back-frees}
+use Rattle.cfb_sound_changes.proofs.cfb_tables.UseLemmas.{taken-takes, given-back-frees}
 use Rattle.cfb_soundness.specs.Parts.{tables_and_directory}
 use Rattle.cfb_soundness.specs.Streams.{own_sectors}
 use Rattle.cfb_soundness.proofs.Decision.{used-by-streams}
 use Rattle.cfb_sound_changes.specs.Grown.{GrowsBy, AnyOrder, UsedGrows, TakenIsUsed, GivenBackIsUnused}
+use Rattle.cfb_format.proofs.Members.{Contains-nil, Contains-or, none_distinct, distinct-left, distinct-right, distinct-apart, distinct-join, same_flat}
 
 pub lists-stay : (xs : List ℕ) → GrowsBy xs xs []
 lists-stay xs = record {
@@ -60,10 +60,6 @@ lists-together xs xs' a ys ys' b f g = record {
 }
 
 -- ---- the lists of several streams
-
-same_flat : (f g : ℕ → List ℕ) (xs : List ℕ) → ((j : ℕ) → Contains xs j → g j ≡ f j) → flat_map g xs ≡ flat_map f xs
-same_flat f g [] h = refl
-same_flat f g (x ∷ xs) h = λ i. h x (Contains-here x xs) i ++ same_flat f g xs (λ j m. h j (Contains-there x xs j m)) i
 
 module _ (old new : ℕ → List ℕ) (before : List ℕ) (k : ℕ) (after more : List ℕ)
     (b : (j : ℕ) → Contains before j → new j ≡ old j) (a : (j : ℕ) → Contains after j → new j ≡ old j) where

@@ -1,16 +1,13 @@
 -- What keeps a file sound.
-use Rattle.std.proofs.Common.{◌≡◌, ◌≢◌, ◌≤◌, ◌<◌, ◌+◌, ◌*◌, inl, inr, min, ℕ, List, [], ◌∷◌, ◌++◌, Bool, true, false, refl, ◌∙◌, ap, subst, length, arith, length-take}
-use Rattle.std.specs.Prelude.{slice_index, slice_index_or, IsTrue, Contains, flat_map, Option, Some, None, unwrap_or, if◌then◌else◌, not, ◌&&◌, ◌==◌}
-use Rattle.std.proofs.lemmas.Bool.{leb-true}
+use Rattle.std.proofs.Common.{◌≡◌, ◌≢◌, ◌<◌, ◌+◌, ◌*◌, inl, inr, ℕ, List, [], ◌++◌, Bool, true, false, refl, ◌∙◌, subst, length, arith}
+use Rattle.std.specs.Prelude.{slice_index, IsTrue, Contains, flat_map, Option, Some, None, unwrap_or, if◌then◌else◌, not, ◌&&◌, ◌==◌}
 use Rattle.std.proofs.lemmas.List.{get_or_default}
-use Rattle.std.proofs.lemmas.List.FromFn.{get_or-map-range_with_len, length-map-range_with_len}
 use Rattle.std.proofs.lemmas.List.Elements.{Contains-append_left, Contains-append_right, Contains-append_cases}
 use Rattle.cfb_format.specs.declared.version.Version.{Version}
-use Rattle.cfb_format.specs.declared.version.Version.TheVariants.{V3, V4}
-use Rattle.cfb_format.specs.Bytes.{sector_count, is_whole_sector, is_regular, words_per_sector, free_sector, fat_sector, difat_sector}
+use Rattle.cfb_format.specs.Bytes.{sector_count, is_whole_sector, is_regular, words_per_sector, free_sector}
 use Rattle.cfb_format.specs.Chain.{value, chain_from}
 use Rattle.cfb_format.specs.Content.{sector_chain}
-use Rattle.cfb_format.specs.Fat.{fat_of, fat_value, raw_fat, fat_words, is_among, ended_past_file, FollowsDifat, next_difat}
+use Rattle.cfb_format.specs.Fat.{raw_fat}
 use Rattle.cfb_format.specs.Names.{Cases}
 use Rattle.cfb_format.specs.Reading.{Reading, Reads, root_entry}
 use Rattle.cfb_format.specs.Siblings.{entry_at}
@@ -18,16 +15,15 @@ use Rattle.cfb_format.specs.Soundness.{IsSound, PointsIntoFile, used_sectors, us
 use Rattle.cfb_format.proofs.Chains.{chain_from-IsChain}
 use Rattle.cfb_alloc.specs.Agreement.{WordsAgree}
 use Rattle.cfb_alloc.specs.Alloc.{AllocatorState}
-use Rattle.cfb_tables.specs.Owners.{Uses, UseChanges}
-use Rattle.cfb_tables.proofs.ChainLemmas.{follows-busy}
-use Rattle.cfb_alloc.proofs.HeldLemmas.{every_member}
-use Rattle.cfb_alloc.proofs.Listed.{among-Contains, Contains-among}
-use Rattle.cfb_tables.proofs.Members.{Contains-nil, Contains-cases, value-at, distinct-left, distinct-apart}
-use Rattle.cfb_alloc.proofs.SoundTables.{difat-listed, difat-whole, fat-length, fat-listed, raw_length, sound-held, whole-below}
-use Rattle.cfb_alloc.proofs.TableWords.{raw_fat-at, length-fat_words}
-use Rattle.cfb_tables.proofs.UseLemmas.{uses-kept}
-use Rattle.cfb_soundness.proofs.Members.{flat-Contains, among-not}
-use Rattle.cfb_sound_changes.specs.Kept.{IsReady}
+use Rattle.cfb_sound_changes.specs.cfb_tables.Owners.{Uses, UseChanges}
+use Rattle.cfb_sound_changes.proofs.cfb_tables.ChainLemmas.{follows-busy}
+use Rattle.cfb_alloc.proofs.SoundTables.{difat-listed, fat-length, fat-listed, raw_length, sound-held}
+use Rattle.cfb_alloc.proofs.TableWords.{raw_fat-at}
+use Rattle.cfb_sound_changes.proofs.cfb_tables.UseLemmas.{uses-kept}
+use Rattle.cfb_sound_changes.specs.Kept.{ShowsSoundness}
+use Rattle.cfb_format.proofs.Members.{Contains-nil, distinct-left, distinct-apart, flat-Contains, among-not, every_member}
+use Rattle.cfb_format.proofs.Walks.{value-at, difat-whole}
+use Rattle.cfb_format.proofs.Words.{whole-below}
 
 -- ---- what is used isn't free
 
@@ -111,7 +107,7 @@ agreeing-points bytes r a i lt apart regular =
 
 -- ---- sound again
 
-pub used-sound : (bytes : List ℕ) (r : Reading) → Uses r.fat (used_sectors r) → Uses r.minifat (used_mini_sectors r) → IsReady bytes r → IsSound bytes r
+pub used-sound : (bytes : List ℕ) (r : Reading) → Uses r.fat (used_sectors r) → Uses r.minifat (used_mini_sectors r) → ShowsSoundness bytes r → IsSound bytes r
 used-sound bytes r f m ready = record {
   covers = let a = ready.agrees.count in let b = ready.agrees.covers in omega (arith, a, b);
   mini_stream = ready.mini_stream;
@@ -132,7 +128,7 @@ tables_of bytes r = record {
   tables = record { version = r.header.version; max_sectors = 0; fat = r.fat; fat_sectors = r.fat_sectors; difat_sectors = r.difat_sectors };
 }
 
-pub sound-ready : (cases : Cases) (bytes : List ℕ) (r : Reading) → Reads cases bytes r → IsSound bytes r → IsReady bytes r
+pub sound-ready : (cases : Cases) (bytes : List ℕ) (r : Reading) → Reads cases bytes r → IsSound bytes r → ShowsSoundness bytes r
 sound-ready cases bytes r reads sound =
     let held = sound-held cases bytes r (tables_of bytes r) reads sound refl refl refl refl refl refl in
     record {
@@ -145,7 +141,7 @@ sound-ready cases bytes r reads sound =
 
 pub sound-kept : (cases : Cases) (bytes bytes' : List ℕ) (r r' : Reading) → Reads cases bytes r → IsSound bytes r
     → UseChanges r.fat (used_sectors r) r'.fat (used_sectors r') → UseChanges r.minifat (used_mini_sectors r) r'.minifat (used_mini_sectors r')
-    → IsReady bytes' r' → IsSound bytes' r'
+    → ShowsSoundness bytes' r' → IsSound bytes' r'
 sound-kept cases bytes bytes' r r' reads sound uses mini_uses ready =
     let u = sound-used cases bytes r reads sound in
     used-sound bytes' r' (uses-kept r.fat (used_sectors r) r'.fat (used_sectors r') uses u.0)

@@ -5,9 +5,9 @@ use Rattle.cfb_format.specs.Bytes.{sector_len, sector_start}
 use Rattle.cfb_format.specs.Content.{readable, is_large, sector_chain, mini_chain, mini_stream_chain, mini_sector_len}
 use Rattle.cfb_format.specs.DirectoryEntry.{Entry}
 use Rattle.cfb_format.specs.Reading.{Reading}
-use Rattle.cfb_tables.specs.Changes.{AreDisjoint}
-use Rattle.cfb_sectors.specs.Sectors.{SectorStays}
-use Rattle.cfb_sectors.specs.Words.{RangeStays}
+use Rattle.cfb_sound_changes.specs.cfb_tables.Changes.{AreDisjoint}
+use Rattle.cfb_sound_changes.specs.cfb_sectors.Sectors.{SectorStays}
+use Rattle.cfb_sound_changes.specs.cfb_sectors.Words.{RangeStays}
 use Rattle.cfb_soundness.specs.Layout.{IsWholeStream}
 use Rattle.cfb_soundness.specs.Places.{SamePiece, mini_start}
 

@@ -3,12 +3,12 @@ use Rattle.std.specs.Prelude.{ℕ, ◌≡◌, ◌≢◌, ◌⊎◌, List, [], �
 use Rattle.std.specs.List.{IsDistinct}
 use Rattle.cfb_format.specs.Bytes.{free_sector}
 use Rattle.cfb_format.specs.Chain.{value}
-use Rattle.cfb_tables.specs.Changes.{AreDisjoint, GivesBack}
+use Rattle.cfb_sound_changes.specs.cfb_tables.Changes.{AreDisjoint, GivesBack}
 use Rattle.cfb_format.specs.Reading.{Reading}
 use Rattle.cfb_format.specs.Siblings.{entry_at}
 use Rattle.cfb_format.specs.Soundness.{streams, mini_stream_sectors, used_sectors}
-use Rattle.cfb_tables.specs.Owners.{UseChanges, Takes, Frees}
-use Rattle.cfb_tables.specs.Tables.{TableState, HasTaken}
+use Rattle.cfb_sound_changes.specs.cfb_tables.Owners.{UseChanges, Takes, Frees}
+use Rattle.cfb_sound_changes.specs.cfb_tables.Tables.{TableState, HasTaken}
 use Rattle.cfb_soundness.specs.Streams.{own_sectors}
 
 -- these numbers more, in whatever order

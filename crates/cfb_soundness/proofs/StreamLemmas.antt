@@ -19,9 +19,9 @@ use Rattle.cfb_soundness.specs.Places.{mini_start}
 use Rattle.cfb_soundness.specs.Streams.{own_sectors, own_mini_sectors, StreamFits, StreamsFit}
 use Rattle.cfb_soundness.proofs.Layouts.{large-lies, small-lies}
 use Rattle.cfb_soundness.proofs.MarkLemmas.{fresh-none, marked-none, fresh-from, holds-more}
-use Rattle.cfb_soundness.proofs.Members.{Contains-nil, Contains-one, Contains-here, distinct-left, distinct-join}
 use Rattle.cfb_soundness.proofs.PiecesAlong.{read-pieces}
-use Rattle.cfb_soundness.proofs.Walks.{follows-member}
+use Rattle.cfb_format.proofs.Members.{Contains-nil, Contains-one, Contains-here, distinct-left, distinct-join}
+use Rattle.cfb_format.proofs.Walks.{follows-member}
 
 -- a stream is whole exactly if its pieces are long enough
 pub whole-along : (bytes : List ℕ) (r : Reading) (e : Entry) (len : ℕ) (start : ℕ → ℕ) (list : List ℕ) → LiesInPieces r e len start list

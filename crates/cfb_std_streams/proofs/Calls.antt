@@ -4,10 +4,10 @@ use Rattle.std.specs.Prelude.{◌==◌, ◌||◌, nat_lt, IsTrue, MatchBool, Mat
 use Rattle.std.proofs.lemmas.Bool.{eqb-true}
 use Rattle.std.proofs.lemmas.Grind.{common_steps}
 use Rattle.cfb_format.specs.Medium.{part}
-use Rattle.cfb_rules.specs.Refusal.{Refusal, failed_earlier, invalid_data, invalid_input}
-use Rattle.cfb_rules.specs.Runs.{Causes, IsStreamBroken, StreamBreaksOff, StreamCallRuns, StreamOnFailed, StreamRun, Work, is_never_refused, is_served, work_of}
-use Rattle.cfb_rules.specs.StreamCalls.{Consume, FillBuf, Moves, Read, Refuses, Seek, Serves, StreamCall, StreamReply, StreamSetting, StreamState, StreamStep, Whence, consume, fill_buf, got, not_done, offset, read, ready, seek, sought}
-use Rattle.cfb_rules.proofs.StreamSteps.{StreamStep-refused}
+use Rattle.cfb_std_streams.specs.cfb_rules.Refusal.{Refusal, failed_earlier, invalid_data, invalid_input}
+use Rattle.cfb_std_streams.specs.cfb_rules.Runs.{Causes, IsStreamBroken, StreamBreaksOff, StreamCallRuns, StreamOnFailed, StreamRun, Work, is_never_refused, is_served, work_of}
+use Rattle.cfb_std_streams.specs.cfb_rules.StreamCalls.{Consume, FillBuf, Moves, Read, Refuses, Seek, Serves, StreamCall, StreamReply, StreamSetting, StreamState, StreamStep, Whence, consume, fill_buf, got, not_done, offset, read, ready, seek, sought}
+use Rattle.cfb_std_streams.proofs.cfb_rules.StreamSteps.{StreamStep-refused}
 
 -- the same bytes, with the position at a place, and none kept back where none were
 pub record IsMoved (place : ℕ) (old new : StreamState) : Type 0 where

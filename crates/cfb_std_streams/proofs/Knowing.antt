@@ -11,10 +11,10 @@ use Rattle.std.specs.Io.KnownBytes.{Consumes, IsAtEnd, Keeps}
 use Rattle.std.specs.Io.Seek.{IsAtOffset, IsSeekTarget}
 use Rattle.std.specs.declared.io.traits.SeekFrom.{SeekFrom}
 use Rattle.std.specs.declared.io.traits.SeekFrom.TheVariants.{Start, End, Current}
-use Rattle.cfb_rules.specs.Refusal.{Refusal}
-use Rattle.cfb_rules.specs.Runs.{Causes}
-use Rattle.cfb_rules.specs.StreamCalls.{StreamCall, StreamState, consume, fill_buf, got, natural, not_done, offset, place_from, place_within, read, ready, seek, sought}
-use Rattle.cfb_stream_buffer.specs.Contents.{Stored, stream_setting_of}
+use Rattle.cfb_std_streams.specs.cfb_rules.Refusal.{Refusal}
+use Rattle.cfb_std_streams.specs.cfb_rules.Runs.{Causes}
+use Rattle.cfb_std_streams.specs.cfb_rules.StreamCalls.{StreamCall, StreamState, consume, fill_buf, got, natural, not_done, offset, place_from, place_within, read, ready, seek, sought}
+use Rattle.cfb_std_streams.specs.cfb_stream_buffer.Contents.{Stored, stream_setting_of}
 use Rattle.cfb_stream_window.specs.Windows.{LiesOver, Runs, Suits, Window, run_of, state_of, whence_of}
 use Rattle.cfb_stream_window.proofs.Carrying.{length-over}
 use Rattle.cfb_std_streams.specs.Known.{is_known, is_whole, known_content, known_position, known_rest, rest_of}

@@ -1,2 +1,3 @@
+pub use Rattle.cfb_stream_window.proofs.cfb_rules
 pub mod Calls
 pub mod Knowing

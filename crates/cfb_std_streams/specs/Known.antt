@@ -1,6 +1,6 @@
 -- What is known of a stream where std's traits ask for it.
 use Rattle.std.specs.Prelude.{ℕ, ◌+◌, List, Bool, ◌&&◌, not, nat_le, length, drop, Option, Some, None, if◌then◌else◌}
-use Rattle.cfb_stream_buffer.specs.Contents.{Stored}
+use Rattle.cfb_std_streams.specs.cfb_stream_buffer.Contents.{Stored}
 use Rattle.cfb_stream_window.specs.Windows.{Window, state_of}
 
 -- the bytes that can be read from the position on

@@ -1,6 +1,6 @@
 -- Bytes that were lent are consumed.
 use Rattle.std.proofs.Common.{refl, ℕ, ◌+◌, ◌-◌, ◌≡◌, min, sym, subst, arith, IsTrue}
-use Rattle.cfb_rules.specs.StreamCalls.{StreamStep, consume, ready, Moves}
+use Rattle.cfb_stream_window.specs.cfb_rules.StreamCalls.{StreamStep, consume, ready, Moves}
 use Rattle.cfb_stream_buffer.specs.Contents.{Stored, stream_setting_of}
 use Rattle.cfb_stream_window.specs.Windows.{Window, LiesOver, state_of}
 

@@ -7,12 +7,13 @@ use Rattle.cfb_format.specs.Refused.{CountsError, IsMemory, number_of, IsBreak}
 use Rattle.cfb_format.specs.declared.medium.MediumFault.{MediumFault}
 use Rattle.cfb_format.specs.declared.error.Error.{Error}
 use Rattle.cfb_format.specs.declared.error.Error.TheVariants.{NotFound, AlreadyExists, InvalidInput, InvalidData, Medium, Memory, Full, Unsound, Failed}
-use Rattle.cfb_rules.specs.Refusal.{Refusal, IsRefusal, not_found, already_exists, invalid_input, invalid_data, medium_failed, out_of_memory, file_full, not_sound, failed_earlier}
-use Rattle.cfb_rules.specs.StreamCalls.{StreamCall}
-use Rattle.cfb_rules.specs.Runs.{Causes, Work, reading, moving, writing_out, overwriting, appending, resizing, work_of, WorkMayBreak, BlamesOneOf, StaysUnfailed, may_leave_failed, StreamBreaksOff, IsAllowed, Closes}
+use Rattle.cfb_stream_window.specs.cfb_rules.Refusal.{Refusal, IsRefusal, not_found, already_exists, invalid_input, invalid_data, medium_failed, out_of_memory, file_full, not_sound, failed_earlier}
+use Rattle.cfb_stream_window.specs.cfb_rules.StreamCalls.{StreamCall}
+use Rattle.cfb_stream_window.specs.cfb_rules.Runs.{Causes, Work, reading, moving, writing_out, overwriting, appending, resizing, work_of, WorkMayBreak, BlamesOneOf, StaysUnfailed, may_leave_failed, StreamBreaksOff, IsAllowed, Closes}
 use Rattle.cfb_stream_buffer.specs.Contents.{Stored, IsMediumFault, KeptOrFailed, stream_setting_of}
 use Rattle.cfb_stream_window.specs.Windows.{Window, Stays, BrokeOff, CalmBrokeOff, ReadBrokeOff, WriteBrokeOff, LengthBrokeOff, IsMemoryOrFull, IsLost, Runs, IsCallRefused, state_of, run_of}
 use Rattle.cfb_stream_window.specs.Answers.{AtRefusal}
+use Rattle.cfb_stream_buffer.proofs.Breaks.{not_full}
 
 pub match_true : (b : Bool) (P Q : Type 0) → b ≡ true → P → MatchBool b P Q
 match_true true P Q is p = p
@@ -47,9 +48,6 @@ break_but P Q (InvalidInput d) never b = absurd b
 break_but P Q (InvalidData d) never b = absurd b
 break_but P Q Unsound never b = absurd b
 break_but P Q Failed never b = absurd b
-
-pub not_full : (Q : Type 0) (e : Error) → IsBreak ⊥ e → IsBreak Q e
-not_full Q e b = break_more ⊥ Q (λ (h : ⊥). absurd h) e b
 
 -- the rules refuse by none of these
 pub break_untouched : (P Q R : Type 0) (e : Error) → IsBreak P e → AtRefusal Q R e

@@ -2,7 +2,7 @@
 use Rattle.std.proofs.Common.{refl, ℕ, ◌+◌, ◌≡◌, ◌<◌, ◌≤◌, max, true, false, List, [], ◌∷◌, length, take, drop, sym, ◌∙◌, ◌⊎◌, ap, subst, arith, inl, inr}
 use Rattle.cfb_format.specs.declared.error.Error.{Error}
 use Rattle.cfb_stream_buffer.specs.Contents.{Stored, laid, IsFitting, IsRefusedRead}
-use Rattle.cfb_rules.specs.StreamCalls.{opened}
+use Rattle.cfb_stream_window.specs.cfb_rules.StreamCalls.{opened}
 use Rattle.cfb_stream_window.specs.Windows.{Window, LiesOver, Suits, Carries, Stays, CalmBrokeOff, Unreadable, state_of, settled, window_settled, window_at, IsLoaded, window_over}
 use Rattle.cfb_stream_buffer.specs.Buffers.{Buffered}
 use Rattle.cfb_stream_buffer.proofs.Lists.{length-laid, laid-nothing, laid-own, laid-twice}

@@ -6,9 +6,9 @@ use Rattle.std.proofs.lemmas.List.{take_all, take-append-drop, drop_all, drop_at
 use Rattle.cfb_format.specs.Refused.{CountsError, IsMemory}
 use Rattle.cfb_format.specs.declared.medium.MediumFault.{MediumFault}
 use Rattle.cfb_format.specs.declared.error.Error.{Error}
-use Rattle.cfb_rules.specs.Refusal.{invalid_data}
-use Rattle.cfb_rules.specs.StreamCalls.{read_to_end, StreamReply, got, Moves}
-use Rattle.cfb_rules.specs.Runs.{Causes}
+use Rattle.cfb_stream_window.specs.cfb_rules.Refusal.{invalid_data}
+use Rattle.cfb_stream_window.specs.cfb_rules.StreamCalls.{read_to_end, StreamReply, got, Moves}
+use Rattle.cfb_stream_window.specs.cfb_rules.Runs.{Causes}
 use Rattle.cfb_stream_buffer.specs.Contents.{Stored, laid}
 use Rattle.cfb_stream_window.specs.Windows.{Window, LiesOver, Carries, ReadBrokeOff, Runs, IsCallRefused, state_of, window_at, WentTo, IsReadable, IsUnreadable, Appended}
 use Rattle.cfb_stream_buffer.proofs.Lists.{rest-laid}

@@ -1,3 +1,4 @@
+pub use Rattle.cfb_stream_buffer.proofs.cfb_rules
 pub mod Carrying
 pub mod Asking
 pub mod Breaking

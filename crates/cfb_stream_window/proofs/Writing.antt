@@ -2,23 +2,25 @@
 use Rattle.std.proofs.Common.{refl, ℕ, ◌+◌, ◌-◌, ◌≡◌, ◌≢◌, ◌<◌, ◌≤◌, ◌⊎◌, min, max, Bool, true, false, ◌==◌, IsTrue, List, [], ◌++◌, length, take, drop, sym, ◌∙◌, ap, subst, arith, length-append, length-drop, length-take, replicate, nat_lt, nat_le, if◌then◌else◌, inl, inr}
 use Rattle.std.proofs.lemmas.Bool.{cases_lt}
 use Rattle.std.proofs.lemmas.Bool.Decides.{nat_tests}
-use Rattle.std.proofs.lemmas.List.{append-nil, length-replicate, take_all}
+use Rattle.std.proofs.lemmas.List.{append-nil, take_all}
 use Rattle.cfb_format.specs.declared.error.Detail.{Detail}
 use Rattle.cfb_format.specs.declared.error.Error.{Error}
 use Rattle.cfb_format.specs.declared.error.Error.TheVariants.{Full, InvalidInput, Unsound}
 use Rattle.cfb_format.specs.declared.medium.MediumFault.{MediumFault}
 use Rattle.cfb_format.specs.Medium.{Rises}
 use Rattle.cfb_format.specs.Refused.{CountsError, IsBreak, IsMemory}
-use Rattle.cfb_rules.specs.Refusal.{invalid_input, not_sound}
-use Rattle.cfb_rules.specs.StreamCalls.{write, set_len, ready, count, Wrote, resized}
-use Rattle.cfb_rules.specs.Runs.{Causes, no_work, overwriting, appending, resizing, work_of}
+use Rattle.cfb_stream_window.specs.cfb_rules.Refusal.{invalid_input, not_sound}
+use Rattle.cfb_stream_window.specs.cfb_rules.StreamCalls.{write, set_len, ready, count, Wrote, resized}
+use Rattle.cfb_stream_window.specs.cfb_rules.Runs.{Causes, no_work, overwriting, appending, resizing, work_of}
 use Rattle.cfb_stream_buffer.specs.Contents.{Stored, Fails, laid, stored_after_write, stored_after_resize}
 use Rattle.cfb_stream_window.specs.Windows.{Window, LiesOver, Carries, Stays, IsLengthened, IsLost, IsMemoryOrFull, LengthBrokeOff, WriteBrokeOff, Runs, IsCallRefused, settled, state_of, window_kept, window_past, window_settled, window_within, WroteStraight, Resized}
 use Rattle.cfb_stream_buffer.proofs.Lists.{length-laid, laid-nothing, laid-resized, laid-write, resized-before}
 use Rattle.cfb_stream_window.proofs.Carrying.{settled_whole}
 use Rattle.cfb_stream_window.proofs.Asking.{agrees_moved}
-use Rattle.cfb_stream_window.proofs.Breaking.{match_true, match_false, not_full, break_but, memory_break, overwritten_broken, appended_broken}
+use Rattle.cfb_stream_window.proofs.Breaking.{match_true, match_false, break_but, memory_break, overwritten_broken, appended_broken}
 use Rattle.cfb_stream_window.proofs.Reading.{step_runs, stays, eq_test}
+use Rattle.cfb_stream_buffer.proofs.Breaks.{not_full}
+use Rattle.cfb_stream_window.proofs.cfb_rules.StreamBounds.{length_resized}
 
 -- ---- writing
 
@@ -177,9 +179,6 @@ module _ (s t : Stored) (w v : Window) (bytes : List ℕ) (k : Carries s w t v) 
 
 -- ---- the length
 
-pub length-resized : (c : List ℕ) (n : ℕ) → length (resized c n) ≡ n
-length-resized c n = omega (arith, length-append (take n c) (replicate (n - length c) 0), length-take n c, length-replicate {A = ℕ} (n - length c) 0)
-
 -- the window in a stream of another length, over the list that was cut or padded
 pub record Cut (size : ℕ) (s : Stored) (w : Window) (t : Stored) (v : Window) : Type 0 where
   pub agrees : LiesOver t v
@@ -198,9 +197,9 @@ module _ (s : Stored) (w : Window) (size : ℕ) (a : LiesOver s w) (sound : s.so
       begins = inside;
       total = omega (arith, length-take (size - w.base) w.filled);
       within = fits;
-      readable = omega (arith, length-resized s.content size);
-      whole = λ (h : s.sound ≡ true). length-resized s.content size;
-      placed = λ (h : 0 < length (take (size - w.base) w.filled)). omega (arith, length-resized s.content size);
+      readable = omega (arith, length_resized s.content size);
+      whole = λ (h : s.sound ≡ true). length_resized s.content size;
+      placed = λ (h : 0 < length (take (size - w.base) w.filled)). omega (arith, length_resized s.content size);
       clean = λ (h : w.pending ≡ false). absurd (cc);
       clean_size = λ (h : w.pending ≡ false). refl;
       trusted = λ (h : w.pending ≡ true). sound;
@@ -217,8 +216,8 @@ module _ (s : Stored) (w : Window) (size : ℕ) (a : LiesOver s w) (sound : s.so
       begins = omega arith;
       total = omega arith;
       within = fits;
-      readable = omega (arith, length-resized s.content size);
-      whole = λ (h : s.sound ≡ true). length-resized s.content size;
+      readable = omega (arith, length_resized s.content size);
+      whole = λ (h : s.sound ≡ true). length_resized s.content size;
       placed = λ (h : 0 < 0). absurd (omega arith);
       clean = λ (h : w.pending ≡ false). laid-nothing (min (w.base + w.cursor) size) (resized s.content size);
       clean_size = λ (h : w.pending ≡ false). refl;

@@ -4,9 +4,9 @@ use Rattle.cfb_format.specs.Medium.{Rises}
 use Rattle.cfb_format.specs.Refused.{CountsFailure, HasReason, at_every_error}
 use Rattle.cfb_format.specs.declared.error.Error.{Error}
 use Rattle.cfb_format.specs.declared.error.Error.TheVariants.{Failed}
-use Rattle.cfb_rules.specs.Refusal.{Refusal, IsRefusal}
-use Rattle.cfb_rules.specs.StreamCalls.{StreamCall, StreamReply, set_len, ready}
-use Rattle.cfb_rules.specs.Runs.{Causes, Closes}
+use Rattle.cfb_stream_window.specs.cfb_rules.Refusal.{Refusal, IsRefusal}
+use Rattle.cfb_stream_window.specs.cfb_rules.StreamCalls.{StreamCall, StreamReply, set_len, ready}
+use Rattle.cfb_stream_window.specs.cfb_rules.Runs.{Causes, Closes}
 use Rattle.cfb_stream_buffer.specs.declared.content.ReadContents as reading
 use Rattle.cfb_stream_buffer.specs.declared.content.Contents as writing
 use Rattle.cfb_stream_buffer.specs.Contents.{CanHave, KeptOrFailed}

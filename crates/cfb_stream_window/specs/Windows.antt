@@ -4,9 +4,9 @@ use Rattle.std.specs.declared.io.traits.SeekFrom.{SeekFrom}
 use Rattle.std.specs.declared.io.traits.SeekFrom.TheVariants.{Start, End, Current}
 use Rattle.cfb_format.specs.Refused.{HasReason, IsInvalidData, IsMemory, no_error, IsBreak}
 use Rattle.cfb_format.specs.declared.error.Error.{Error}
-use Rattle.cfb_rules.specs.Refusal.{Refusal, IsRefusal}
-use Rattle.cfb_rules.specs.StreamCalls.{StreamState, StreamCall, StreamReply, not_done, Whence, from_start, from_end, from_current, place_within, place_from, resized}
-use Rattle.cfb_rules.specs.Runs.{Causes, StreamRun, StreamCallRuns}
+use Rattle.cfb_stream_window.specs.cfb_rules.Refusal.{Refusal, IsRefusal}
+use Rattle.cfb_stream_window.specs.cfb_rules.StreamCalls.{StreamState, StreamCall, StreamReply, not_done, Whence, from_start, from_end, from_current, place_within, place_from, resized}
+use Rattle.cfb_stream_window.specs.cfb_rules.Runs.{Causes, StreamRun, StreamCallRuns}
 use Rattle.cfb_stream_buffer.specs.Buffers.{Buffered}
 use Rattle.cfb_stream_buffer.specs.Contents.{Stored, stream_setting_of, laid, Fails}
 

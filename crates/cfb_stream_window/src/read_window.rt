@@ -1,7 +1,7 @@
 //! The buffered stream that is only read. Lengths and places are in bytes.
 ghost use Rattle.std.specs.Prelude.{◌≡◌, ◌+◌, ◌-◌, ◌<◌, ◌≤◌, ◌==◌, ◌⊎◌, ◌++◌, min, max, ℕ, false, OnOk, OnErr, IfOk, IfErr, length, take, drop, Some, None, ⊤};
 ghost use Rattle.cfb_format.specs.Refused.{HasReason, IsMemory, no_error};
-ghost use Rattle.cfb_rules.specs.StreamCalls.{StreamStep, read, fill_buf, consume, seek, read_to_end, ask_len, ask_position, ask_is_empty, ready, got, offset, answered, opened};
+ghost use Rattle.cfb_stream_window.specs.cfb_rules.StreamCalls.{StreamStep, read, fill_buf, consume, seek, read_to_end, ask_len, ask_position, ask_is_empty, ready, got, offset, answered, opened};
 ghost use Rattle.cfb_stream_buffer.specs.Contents.{Stored, stream_setting_of, IsFitting};
 ghost use Rattle.cfb_stream_window.specs.Windows.{state_of, LiesOver, Carries, ReadBrokeOff, Unreadable, StandsInside, WentTo, window_opened, target_of, whence_of, ReadPast};
 ghost use Rattle.cfb_stream_window.specs.Answers.{IsOpen, IsReady, RunsReading, IsRefusedReading, GoesOn, HeedsReading};

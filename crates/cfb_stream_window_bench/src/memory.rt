@@ -3,7 +3,7 @@ ghost use Rattle.std.specs.Prelude.{◌≡◌, ◌+◌, ◌-◌, ◌^◌, ◌≤
 ghost use Rattle.cfb_format.specs.Refused.{CountsFailure};
 ghost use Rattle.cfb_stream_buffer.specs.Contents.{laid, IsMediumFault};
 ghost use Rattle.cfb_stream_window_bench.specs.Memory.{stored_in};
-ghost use Rattle.cfb_rules.specs.StreamCalls.{resized};
+ghost use Rattle.cfb_stream_window_bench.specs.cfb_rules.StreamCalls.{resized};
 
 use cfb_format::error::{Detail, Error};
 use cfb_format::medium::MediumFault;
@@ -31,9 +31,9 @@ pub struct MemoryContents {
 
 impl Model for MemoryContents {
     ghost use Rattle.std.specs.Prelude.{◌≤◌, ◌+◌, length};
-    ghost use Rattle.cfb_stream_window_bench.specs.Memory.{MemoryState};
+    ghost use Rattle.cfb_stream_window_bench.specs.Memory.{ListState};
 
-    ghost Value = { MemoryState };
+    ghost Value = { ListState };
 
     ghost view = { λ m. record { bytes = m.bytes.items; missing = m.missing; limit = m.limit; room = m.room; failed = m.failed; failures = m.failures } };
 
@@ -128,9 +128,9 @@ impl ReadContents for MemoryContents {
 
     ghost stored = { λ m _. stored_in m };
 
-    ghost use Rattle.cfb_stream_window_bench.specs.Memory.{MemoryState};
+    ghost use Rattle.cfb_stream_window_bench.specs.Memory.{ListState};
 
-    ghost Kept = { MemoryState };
+    ghost Kept = { ListState };
 
     ghost kept = { λ m. record m { failures = 0 } };
 

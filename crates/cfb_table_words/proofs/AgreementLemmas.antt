@@ -3,7 +3,7 @@ use Rattle.std.proofs.Common.{◌≡◌, ◌≢◌, ◌≤◌, ◌<◌, ◌+◌,
 use Rattle.std.specs.Prelude.{if◌then◌else◌, slice_index, slice_index_or, nat_le, nat_eq, IsTrue, Contains, not, ◌&&◌, ◌==◌}
 use Rattle.std.specs.List.{IsDistinct, range_with_len, list_all}
 use Rattle.std.proofs.lemmas.Bool.{cases_eq, cases_lt, lt-leb}
-use Rattle.std.proofs.lemmas.List.{get_or_append_left, get_or_default, get_or_past}
+use Rattle.std.proofs.lemmas.List.{get_or_append_left, get_or_past}
 use Rattle.std.proofs.lemmas.List.Elements.{Contains-append_left, Contains-append_right, Contains-append_cases}
 use Rattle.std.proofs.lemmas.List.FromFn.{get_or-map-range_with_len, length-map-range_with_len}
 use Rattle.std.proofs.lemmas.Grind.{same_number_lists}
@@ -14,9 +14,10 @@ use Rattle.cfb_format.specs.Fat.{fat_of, fat_value, raw_fat, fat_words, fat_padd
 use Rattle.cfb_sectors.specs.Words.{with_word}
 use Rattle.cfb_table_words.specs.Agreement.{word_home, word_of, AgreesBut, WordsAgree, HasSectors, KeepsSectors}
 use Rattle.cfb_tables.specs.Changes.{PointsWithin}
-use Rattle.cfb_table_words.proofs.Listed.{not_in_nil, in_cons, among-Contains, among-not, joined_distinct}
 use Rattle.cfb_sectors.proofs.WordLemmas.{word_with_word, length-with_word}
 use Rattle.cfb_table_words.proofs.TableWords.{raw_fat-at, fat_words-at, length-fat_words, home_inside, other_word, kept_word}
+use Rattle.cfb_format.proofs.Members.{Contains-nil, Contains-cases, among-Contains, among-not, distinct-join}
+use Rattle.cfb_format.proofs.Walks.{value-at}
 
 -- ---- what agrees is what is read
 
@@ -45,7 +46,7 @@ agreeing_read version bytes list own table a =
     go i below inside false e false f =
         let covered : i < length list * words_per_sector version = let c = a.covers in omega (arith, inside, c) in
         let same : slice_index_or (raw_fat version bytes list) i free_sector ≡ slice_index table i =
-        raw_fat-at version bytes list i below covered ∙ a.words i inside (among-not list i e) (among-not own i f) (not_in_nil i) in
+        raw_fat-at version bytes list i below covered ∙ a.words i inside (among-not list i e) (among-not own i f) (Contains-nil i) in
         ap (ended_past_file (sector_count version bytes)) same
         ∙ within-stays (sector_count version bytes) (slice_index table i) (λ r. let w = a.within i inside r in let c = a.count in omega (arith, w, c))
 
@@ -89,7 +90,7 @@ written_agrees version bytes list own table late x lt fits whole a =
         | inl e ↦ subst (λ n. word_of version after list n ≡ slice_index table n) (sym e) (word_with_word bytes home (slice_index table x) fits)
         | inr ne ↦
             other_word version bytes list x i (slice_index table x) a.once (λ s. ne (sym s)) covered (let c = a.covers in omega (arith, inside, c))
-            ∙ a.words i inside no_fat no_difat (λ m. elim (in_cons x late i m) [ inl s ↦ ne (sym s) | inr r ↦ not_late r ])
+            ∙ a.words i inside no_fat no_difat (λ m. elim (Contains-cases x late i m) [ inl s ↦ ne (sym s) | inr r ↦ not_late r ])
       ];
       padding = λ i past below.
           let ne : x ≢ i = omega (arith, lt, past) in
@@ -97,9 +98,6 @@ written_agrees version bytes list own table late x lt fits whole a =
     }
 
 -- ---- the table changes
-
-pub value-at : (table : List ℕ) (i : ℕ) → i < length table → value table i ≡ slice_index table i
-value-at table i lt = get_or_default table i free_sector 0 lt
 
 pub changed_late : (version : Version) (bytes list own old new touched late : List ℕ) → length new ≡ length old
     → ((i : ℕ) → (Contains touched i → ⊥) → value new i ≡ value old i) → PointsWithin new
@@ -154,7 +152,7 @@ appended_late version bytes bytes' list own table late more more_own added a who
     record {
       count = count;
       covers = covers;
-      once = joined_distinct list more a.once once (λ x m n. let l = (a.fat_marks x m).0 in let g = (fat x n).0 in omega (arith, l, g));
+      once = distinct-join list more a.once once (λ x m n. let l = (a.fat_marks x m).0 in let g = (fat x n).0 in omega (arith, l, g));
       fat_marks = λ i m. elim (Contains-append_cases list more i m) [
         | inl l ↦
             let f = a.fat_marks i l in

@@ -10,7 +10,6 @@ use Rattle.std.proofs.lemmas.List.Sums.{AllPass-from_list_all, list_all-from_All
 use Rattle.cfb_format.specs.declared.version.Version.{Version}
 use Rattle.cfb_format.specs.declared.version.Version.TheVariants.{V3, V4}
 use Rattle.cfb_format.specs.declared.validate.Validation.{Validation}
-use Rattle.cfb_format.specs.declared.validate.Validation.TheVariants.{Permissive, Strict}
 use Rattle.cfb_format.specs.declared.header.Header.{Header}
 use Rattle.cfb_format.specs.Bytes.{word_at, sector_len, sector_start, sector_words, words_per_sector, is_whole_sector, is_regular, is_regular_or_free, max_regular_sector, free_sector}
 use Rattle.cfb_format.specs.Header.{IsHeader, IfStrict, first_difat_of, header_difat_len, padded_difat, stored_difat}
@@ -21,15 +20,15 @@ use Rattle.cfb_table_words.specs.Difat.{ListsTables, difat_places, header_place,
 use Rattle.cfb_sectors.specs.Words.{RangeStays, with_word}
 use Rattle.cfb_table_words.proofs.DifatEntries.{is_free, Fills, kept, filled_of, fills_is, set_fills, set_ends, unpadded_end, end_unpadded}
 use Rattle.cfb_table_words.proofs.DifatHeader.{Within, within_word, within_if, within_words, SameFields, count_changed, later_changed, then_changed, with_lists, header_on, header_stays, stored_short, stored_same, stored_more, padded_more, length-padded, all_push}
-use Rattle.cfb_table_words.proofs.DifatWalk.{all_same, flat_same, flat_len, flat_set, whole_on, member_whole, lists_numbers, follows_on}
+use Rattle.cfb_table_words.proofs.DifatWalk.{all_same, flat_len, flat_set, whole_on, lists_numbers, follows_on}
 use Rattle.cfb_table_words.proofs.DifatWords.{stays_words, words_set}
 use Rattle.cfb_sectors.proofs.WordLemmas.{word_with_word}
+use Rattle.cfb_format.proofs.FullChains.{header_entries}
+use Rattle.cfb_format.proofs.Members.{same_flat}
+use Rattle.cfb_format.proofs.Walks.{difat-whole}
+use Rattle.cfb_format.proofs.Tests.{if_strict}
 
 -- ---- small facts
-
-pub on_strict : (validation : Validation) (A B : Type 0) → (A → B) → IfStrict validation A → IfStrict validation B
-on_strict Permissive A B f s = tt
-on_strict Strict A B f s = f s
 
 abbrev pub entries_at : Version → List ℕ → List ℕ → List ℕ → List ℕ
 entries_at v first bytes own = first ++ flat_map (difat_entries v bytes) own
@@ -62,9 +61,9 @@ stays_in : (validation : Validation) (a b list own : List ℕ) (h : Header) → 
 stays_in validation a b list own h is d s long stays keeps =
     let v = h.version in
     let words : (i : ℕ) → Contains own i → sector_words v b i ≡ sector_words v a i = λ i m.
-    stays_words v i a b (keeps i m) (whole-end v a i (member_whole v a h.first_difat_sector own d.sectors i m)) in
+    stays_words v i a b (keeps i m) (whole-end v a i (difat-whole v a h.first_difat_sector own d.sectors i m)) in
     let flat : flat_map (difat_entries v b) own ≡ flat_map (difat_entries v a) own =
-    flat_same (difat_entries v a) (difat_entries v b) own (λ i m. same_entries v a b i (words i m)) in
+    same_flat (difat_entries v a) (difat_entries v b) own (λ i m. same_entries v a b i (words i m)) in
     let longer = stays.no_shorter in
     record {
       header = h;
@@ -76,7 +75,7 @@ stays_in validation a b list own h is d s long stays keeps =
         entries = d.entries ∙ ap (λ (xs : List ℕ). without_end is_free (without_padding h (h.initial_difat_entries ++ xs))) (sym flat);
         in_file = whole_list v a b list longer d.in_file;
       };
-      strict = on_strict validation (IsStrictDifat a h list own) (IsStrictDifat b h list own)
+      strict = if_strict validation (IsStrictDifat a h list own) (IsStrictDifat b h list own)
           (λ t. record {
             ended = all_same (λ i. not (next_difat v a i == free_sector)) (λ i. not (next_difat v b i == free_sector)) own
                 (λ i m. ap (λ w. not (w == free_sector)) (same_next v a b i (words i m))) t.ended;
@@ -93,9 +92,6 @@ listing_stays validation version bytes bytes' list own l =
     (stays_in validation bytes bytes' list own l.header l.is_header l.difat l.strict)
 
 -- ---- a FAT sector more is listed
-
-pub initial_length : (a : List ℕ) (h : Header) → IsHeader a h → length h.initial_difat_entries ≡ header_difat_len
-initial_length a h is = ap (λ (xs : List ℕ). length xs) is.difat ∙ length-padded (stored_difat a) (stored_short a)
 
 -- a list that ends in the header is all that the header stores
 stored_all : (m : ℕ) (stored more list : List ℕ) → header_difat_len ≤ m → length stored ≤ header_difat_len → list_all is_regular stored ≡ true
@@ -168,9 +164,9 @@ in_header validation a list own sector h is d s long low regular whole =
     let words : (i : ℕ) → sector_words v b i ≡ sector_words v a i = λ i.
     let past = past_header v i in
     within_words v i three (λ _. omega (arith, past)) ∙ within_words v i two (λ _. omega (arith, past, low)) ∙ within_words v i one (λ _. past) in
-    let len : length first ≡ header_difat_len = initial_length a h is in
+    let len : length first ≡ header_difat_len = header_entries a h is in
     let listed = flat_map (difat_entries v a) own in
-    let flat : flat_map (difat_entries v b) own ≡ listed = flat_same (difat_entries v a) (difat_entries v b) own (λ i m. same_entries v a b i (words i)) in
+    let flat : flat_map (difat_entries v b) own ≡ listed = same_flat (difat_entries v a) (difat_entries v b) own (λ i m. same_entries v a b i (words i)) in
     let fills = filled_of (max header_difat_len h.num_fat_sectors) (first ++ listed) list d.entries in
     let all_stored : length (stored_difat a) ≡ k =
     stored_all (max header_difat_len h.num_fat_sectors) (stored_difat a) listed list (omega arith) (stored_short a) is.difat_entries low
@@ -204,7 +200,7 @@ in_header validation a list own sector h is d s long low regular whole =
         entries = set_list v first (set first k sector) a b own list h.num_fat_sectors sector room regular is_set d.entries;
         in_file = all_push (is_whole_sector v b) list sector (whole_list v a b list longer d.in_file) (whole_on v a b sector longer whole);
       };
-      strict = on_strict validation (IsStrictDifat a h list own) (IsStrictDifat b h' (list ++ sector ∷ []) own)
+      strict = if_strict validation (IsStrictDifat a h list own) (IsStrictDifat b h' (list ++ sector ∷ []) own)
           (λ t. record {
             ended = all_same (λ i. not (next_difat v a i == free_sector)) (λ i. not (next_difat v b i == free_sector)) own
                 (λ i m. ap (λ w. not (w == free_sector)) (same_next v a b i (words i))) t.ended;
@@ -281,7 +277,7 @@ in_sector validation a list own sector h is d s long full places small regular w
       | inl is_x ↦ subst (λ j. lists_numbers v b j) (sym is_x) (numbers_x (subst (λ j. lists_numbers v a j) is_x all))
       | inr ne ↦ same_numbers v a b i (same_entries v a b i (others i ne)) all
     ] in
-    let len : length first ≡ header_difat_len = initial_length a h is in
+    let len : length first ≡ header_difat_len = header_entries a h is in
     let flat : flat_map (difat_entries v b) own ≡ set listed n sector =
     flat_set (difat_entries v a) (difat_entries v b) e (some_places v) (length-entries v a) own n sector d.distinct (omega (arith, places, full))
     (λ i m ne. same_entries v a b i (others i ne)) here_entries in
@@ -306,7 +302,7 @@ in_sector validation a list own sector h is d s long full places small regular w
         entries = set_list v first first a b own list h.num_fat_sectors sector room regular is_set d.entries;
         in_file = all_push (is_whole_sector v b) list sector (whole_list v a b list longer d.in_file) (whole_on v a b sector longer whole);
       };
-      strict = on_strict validation (IsStrictDifat a h list own) (IsStrictDifat b h' (list ++ sector ∷ []) own)
+      strict = if_strict validation (IsStrictDifat a h list own) (IsStrictDifat b h' (list ++ sector ∷ []) own)
           (λ t. record {
             ended = all_same (λ i. not (next_difat v a i == free_sector)) (λ i. not (next_difat v b i == free_sector)) own (λ i m. ap (λ w. not (w == free_sector)) (next i)) t.ended;
             unpadded = set_whole v first first a b own list h.num_fat_sectors sector room regular is_set t.fat_count t.unpadded;

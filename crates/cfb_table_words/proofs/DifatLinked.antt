@@ -19,11 +19,14 @@ use Rattle.cfb_table_words.specs.Difat.{ListsTables, difat_places, header_place,
 use Rattle.cfb_sectors.specs.Words.{with_word}
 use Rattle.cfb_table_words.proofs.DifatEntries.{is_free, kept, filled_of, fills_is, more_fills, more_ends, end_unpadded}
 use Rattle.cfb_table_words.proofs.DifatHeader.{Within, within_word, within_words, SameFields, later_changed, then_changed, with_lists, header_on, stored_same, all_push}
-use Rattle.cfb_table_words.proofs.DifatLemmas.{on_strict, regular_not_free, same_entries, same_next, same_numbers, whole_list, past_header, initial_length, some_places, length-entries, other_apart}
-use Rattle.cfb_table_words.proofs.DifatWalk.{flat_same, flat_len, whole_on, follows_more}
+use Rattle.cfb_table_words.proofs.DifatLemmas.{regular_not_free, same_entries, same_next, same_numbers, whole_list, past_header, some_places, length-entries, other_apart}
+use Rattle.cfb_table_words.proofs.DifatWalk.{flat_len, whole_on, follows_more}
 use Rattle.cfb_table_words.proofs.DifatWords.{words_set}
-use Rattle.cfb_table_words.proofs.Listed.{joined_distinct, place_once, in_cons, not_in_nil}
+use Rattle.cfb_table_words.proofs.Listed.{place_once}
 use Rattle.cfb_sectors.proofs.WordLemmas.{word_with_word}
+use Rattle.cfb_format.proofs.Members.{distinct-join, Contains-cases, Contains-nil, same_flat}
+use Rattle.cfb_format.proofs.FullChains.{header_entries}
+use Rattle.cfb_format.proofs.Tests.{if_strict}
 
 -- ---- the fresh sector
 
@@ -179,10 +182,10 @@ relinked validation a b list own sector h is d s long full fresh empty l =
     let all : first ++ flat_map (difat_entries v b) (own ++ sector ∷ []) ≡ (first ++ listed) ++ rest =
     ap (λ (xs : List ℕ). first ++ xs)
     (flat_map-append (difat_entries v b) own (sector ∷ [])
-    ∙ (λ j. flat_same (difat_entries v a) (difat_entries v b) own (λ i n. l.entries i) j ++ tail j))
+    ∙ (λ j. same_flat (difat_entries v a) (difat_entries v b) own (λ i n. l.entries i) j ++ tail j))
     ∙ sym (append_assoc first listed rest) in
     let len_all = flat_len (difat_entries v a) (difat_entries v b) e (some_places v) (length-entries v a) own in
-    let filled : length (first ++ listed) ≤ length list = omega (arith, length-append first listed, initial_length a h is, len_all, full) in
+    let filled : length (first ++ listed) ≤ length list = omega (arith, length-append first listed, header_entries a h is, len_all, full) in
     let h' = with_lists h h.num_fat_sectors (first_difat_of (word_at b 68)) (length own + 1) first in
     record {
       header = h';
@@ -191,13 +194,13 @@ relinked validation a b list own sector h is d s long full fresh empty l =
       same_version = refl;
       difat = record {
         sectors = l.walk;
-        distinct = joined_distinct own (sector ∷ []) d.distinct (alone sector)
-            (λ i n lone. elim (in_cons sector [] i lone) [ inl same ↦ fresh (subst (Contains own) (sym same) n) | inr none ↦ not_in_nil i none ]);
+        distinct = distinct-join own (sector ∷ []) d.distinct (alone sector)
+            (λ i n lone. elim (Contains-cases sector [] i lone) [ inl same ↦ fresh (subst (Contains own) (sym same) n) | inr none ↦ Contains-nil i none ]);
         entries = fills_is m ((first ++ listed) ++ rest) list (more_fills m e (first ++ listed) list (some_places v) filled (filled_of m (first ++ listed) list d.entries))
             ∙ ap (λ (xs : List ℕ). without_end is_free (kept m xs)) (sym all);
         in_file = whole_list v a b list l.same.longer d.in_file;
       };
-      strict = on_strict validation (IsStrictDifat a h list own) (IsStrictDifat b h' list (own ++ sector ∷ []))
+      strict = if_strict validation (IsStrictDifat a h list own) (IsStrictDifat b h' list (own ++ sector ∷ []))
           (λ t. record {
             ended = l.ended t.ended;
             unpadded = subst (λ (xs : List ℕ). length (kept m xs) ≡ length xs) (sym all) (end_unpadded m ((first ++ listed) ++ rest) (more_ends m e (first ++ listed) list (some_places v)));

@@ -1,5 +1,5 @@
 -- The walk over the DIFAT sectors, and all that they list, after one of them is written in or one comes behind them (MS-CFB 2.5).
-use Rattle.std.proofs.Common.{◌≡◌, ◌≢◌, inl, inr, ℕ, zero, suc, ◌+◌, ◌-◌, ◌*◌, ◌/◌, ◌%◌, ◌<◌, ◌≤◌, List, [], ◌∷◌, ◌++◌, Bool, true, length, set, refl, sym, ◌∙◌, ap, subst, arith, mod-lt, length-append}
+use Rattle.std.proofs.Common.{◌≡◌, ◌≢◌, inl, inr, ℕ, suc, ◌+◌, ◌-◌, ◌*◌, ◌/◌, ◌%◌, ◌<◌, ◌≤◌, List, [], ◌∷◌, ◌++◌, Bool, true, length, set, refl, sym, ◌∙◌, ap, subst, arith, mod-lt, length-append}
 use Rattle.std.specs.Prelude.{slice_index, nat_eq, Contains, flat_map, ◌&&◌}
 use Rattle.std.specs.List.{IsDistinct, list_all}
 use Rattle.std.proofs.Math.Nat.{div-lt_iff_lt-mul}
@@ -11,23 +11,16 @@ use Rattle.cfb_format.specs.declared.version.Version.{Version}
 use Rattle.cfb_format.specs.Bytes.{sector_len, sector_start, is_whole_sector, is_regular_or_free}
 use Rattle.cfb_format.specs.Fat.{FollowsDifat, difat_entries, next_difat}
 use Rattle.cfb_format.proofs.Words.{whole-end}
-use Rattle.cfb_table_words.proofs.Listed.{head_alone, in_rest}
+use Rattle.cfb_format.proofs.Members.{cons-distinct, Contains-there, Contains-here, same_flat}
 
 -- ---- lists
-
-pub head_in : (x : ℕ) (xs : List ℕ) → Contains (x ∷ xs) x
-head_in x xs = (0, omega arith, refl)
 
 pub all_same : (p q : ℕ → Bool) (xs : List ℕ) → ((i : ℕ) → Contains xs i → q i ≡ p i) → list_all p xs ≡ true → list_all q xs ≡ true
 all_same p q xs same all = go xs same ∙ all
   where
     go : (ys : List ℕ) → ((i : ℕ) → Contains ys i → q i ≡ p i) → list_all q ys ≡ list_all p ys
     go [] each = refl
-    go (y ∷ ys) each = λ j. each y (head_in y ys) j && go ys (λ i m. each i (in_rest y ys i m)) j
-
-pub flat_same : (f g : ℕ → List ℕ) (xs : List ℕ) → ((i : ℕ) → Contains xs i → g i ≡ f i) → flat_map g xs ≡ flat_map f xs
-flat_same f g [] each = refl
-flat_same f g (x ∷ xs) each = λ j. each x (head_in x xs) j ++ flat_same f g xs (λ i m. each i (in_rest x xs i m)) j
+    go (y ∷ ys) each = λ j. each y (Contains-here y ys) j && go ys (λ i m. each i (Contains-there y ys i m)) j
 
 -- lists of one length one after the other, and an element of one of them is set
 module _ (f g : ℕ → List ℕ) (e : ℕ) (pos : 0 < e) (even : (i : ℕ) → length (f i) ≡ e) where
@@ -46,7 +39,7 @@ module _ (f g : ℕ → List ℕ) (e : ℕ) (pos : 0 < e) (even : (i : ℕ) → 
         let s = same_from_place (n / e) (n % e) 0 n e (mod-lt n pos) less (div-add-mod' n e ∙ (let z : n ≡ 0 * e + n = omega arith in z)) in
         let mine : slice_index (x ∷ xs) (n / e) ≡ x = ap (slice_index (x ∷ xs)) s.0 in
         let inside : n < length (f x) = let m = even x in omega (arith, m, less) in
-        (λ j. subst (λ k. g k ≡ set (f k) (n % e) v) mine here j ++ flat_same f g xs (λ i m. others i (in_rest x xs i m) (λ same. head_alone x xs once.0 (subst (Contains xs) (same ∙ mine) m))) j)
+        (λ j. subst (λ k. g k ≡ set (f k) (n % e) v) mine here j ++ same_flat f g xs (λ i m. others i (Contains-there x xs i m) (λ same. cons-distinct x xs once.0 (subst (Contains xs) (same ∙ mine) m))) j)
         ∙ ap (λ k. set (f x) k v ++ flat_map f xs) s.1
         ∙ sym (set-append_left (f x) (flat_map f xs) n v inside)
     | inr ge ↦
@@ -59,8 +52,8 @@ module _ (f g : ℕ → List ℕ) (e : ℕ) (pos : 0 < e) (even : (i : ℕ) → 
         let below : (n - e) / e < length xs = (div-lt_iff_lt-mul pos).1 low in
         let mine : slice_index (x ∷ xs) (n / e) ≡ slice_index xs ((n - e) / e) = ap (slice_index (x ∷ xs)) s.0 in
         let in_xs : Contains xs (slice_index xs ((n - e) / e)) = Contains-get_or xs ((n - e) / e) 0 below in
-        (λ j. others x (head_in x xs) (λ same. head_alone x xs once.0 (subst (Contains xs) (sym (same ∙ mine)) in_xs)) j
-        ++ flat_set xs (n - e) v once.1 low (λ i m ne. others i (in_rest x xs i m) (λ same. ne (same ∙ mine)))
+        (λ j. others x (Contains-here x xs) (λ same. cons-distinct x xs once.0 (subst (Contains xs) (sym (same ∙ mine)) in_xs)) j
+        ++ flat_set xs (n - e) v once.1 low (λ i m ne. others i (Contains-there x xs i m) (λ same. ne (same ∙ mine)))
         (subst (λ k. g k ≡ set (f k) ((n - e) % e) v) mine (here ∙ ap (λ k. set (f (slice_index (x ∷ xs) (n / e))) k v) s.1)) j)
         ∙ sym (set-append_right (f x) (flat_map f xs) e n v (even x) ge)
   ]
@@ -69,12 +62,6 @@ module _ (f g : ℕ → List ℕ) (e : ℕ) (pos : 0 < e) (even : (i : ℕ) → 
 
 pub whole_on : (v : Version) (a b : List ℕ) (i : ℕ) → length a ≤ length b → is_whole_sector v a i ≡ true → is_whole_sector v b i ≡ true
 whole_on v a b i longer whole = le-leb (sector_start v i + sector_len v) (length b) (omega (arith, longer, whole-end v a i whole))
-
--- each DIFAT sector is whole
-pub member_whole : (v : Version) (a : List ℕ) (s : ℕ) (own : List ℕ) → FollowsDifat v a s own → (i : ℕ) → Contains own i → is_whole_sector v a i ≡ true
-member_whole v a s [] f i (k, lt, is) = absurd (omega (arith, lt))
-member_whole v a s (x ∷ own) f i (zero, lt, is) = subst (λ n. is_whole_sector v a n ≡ true) is f.2
-member_whole v a s (x ∷ own) f i (suc k, lt, is) = member_whole v a (next_difat v a x) own f.4 i (k, omega (arith, lt), is)
 
 abbrev pub lists_numbers : Version → List ℕ → ℕ → Type 0
 lists_numbers v a i = list_all is_regular_or_free (difat_entries v a i) ≡ true
@@ -87,9 +74,9 @@ module _ (v : Version) (a b : List ℕ) (longer : length a ≤ length b) where
     f.0,
     f.1,
     whole_on v a b i longer f.2,
-    numbers i (head_in i own) f.3,
-    subst (λ n. FollowsDifat v b n own) (sym (next i (head_in i own)))
-        (follows_on (next_difat v a i) own (λ j m. numbers j (in_rest i own j m)) (λ j m. next j (in_rest i own j m)) f.4),
+    numbers i (Contains-here i own) f.3,
+    subst (λ n. FollowsDifat v b n own) (sym (next i (Contains-here i own)))
+        (follows_on (next_difat v a i) own (λ j m. numbers j (Contains-there i own j m)) (λ j m. next j (Contains-there i own j m)) f.4),
   )
 
   -- the last of them names one more
@@ -101,14 +88,14 @@ module _ (v : Version) (a b : List ℕ) (longer : length a ≤ length b) where
     f.0,
     f.1,
     whole_on v a b x longer f.2,
-    numbers x (head_in x []) f.3,
+    numbers x (Contains-here x []) f.3,
     subst (λ n. FollowsDifat v b n (sector ∷ [])) (sym last) more,
   )
   follows_more s x (y ∷ own) sector numbers next last more f = (
     f.0,
     f.1,
     whole_on v a b x longer f.2,
-    numbers x (head_in x (y ∷ own)) f.3,
+    numbers x (Contains-here x (y ∷ own)) f.3,
     subst (λ n. FollowsDifat v b n ((y ∷ own) ++ sector ∷ [])) (sym (next 0 (omega arith)))
-        (follows_more (next_difat v a x) y own sector (λ j m. numbers j (in_rest x (y ∷ own) j m)) (λ k low. next (suc k) (omega (arith, low))) last more f.4),
+        (follows_more (next_difat v a x) y own sector (λ j m. numbers j (Contains-there x (y ∷ own) j m)) (λ k low. next (suc k) (omega (arith, low))) last more f.4),
   )

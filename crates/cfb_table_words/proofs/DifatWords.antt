@@ -5,7 +5,6 @@ use Rattle.std.specs.List.{AllByRecursion}
 use Rattle.std.proofs.lemmas.Bool.{cases_eq}
 use Rattle.std.proofs.lemmas.Grind.{same_number_lists}
 use Rattle.std.proofs.lemmas.List.{length-replicate, length-set, get_or-set_same, get_or-set_other}
-use Rattle.std.proofs.lemmas.Nat.{from_le_bytes-to_le_bytes_4}
 use Rattle.cfb_format.specs.declared.version.Version.{Version}
 use Rattle.cfb_format.specs.declared.version.Version.TheVariants.{V3, V4}
 use Rattle.cfb_format.specs.Bytes.{word_at, words, word_bytes, sector_len, sector_start, sector_words, words_per_sector, end_of_chain, free_sector}
@@ -18,15 +17,11 @@ use Rattle.cfb_sectors.specs.Sectors.{SectorStays, init_bytes}
 use Rattle.cfb_sectors.specs.declared.sector.SectorInit.TheVariants.{Fat, Difat}
 use Rattle.cfb_sectors.proofs.WordLemmas.{word_with_word, word_with_word_apart}
 use Rattle.cfb_sectors.proofs.SectorLemmas.{word_in_sector}
+use Rattle.cfb_format.proofs.HeaderFacts.{words-word_bytes}
 
 -- ---- fresh sectors
 
-words_back : (xs : List ℕ) → AllByRecursion (λ x. x < 2 ^ 32) xs → words (length xs) (word_bytes xs) ≡ xs
-unfolding words word_bytes
-words_back [] h = refl
-words_back (x ∷ xs) h = λ i. from_le_bytes-to_le_bytes_4 x h.0 i ∷ words_back xs h.1 i
-
-length-word_bytes : (xs : List ℕ) → length (word_bytes xs) ≡ 4 * length xs
+pub length-word_bytes : (xs : List ℕ) → length (word_bytes xs) ≡ 4 * length xs
 unfolding word_bytes
 length-word_bytes [] = refl
 length-word_bytes (x ∷ xs) = omega (arith, length-word_bytes xs)
@@ -36,7 +31,7 @@ words_written : (bytes : List ℕ) (at : ℕ) (xs : List ℕ) → AllByRecursion
 words_written bytes at xs fits =
     words-same (length xs) (drop at (written bytes at (word_bytes xs))) (word_bytes xs)
     (λ i low. get_or-drop at (written bytes at (word_bytes xs)) i 0 ∙ written_at bytes at (word_bytes xs) i (omega (arith, low, length-word_bytes xs)))
-    ∙ words_back xs fits
+    ∙ words-word_bytes xs fits
 
 small_replicate : (k v : ℕ) (rest : List ℕ) → v < 2 ^ 32 → AllByRecursion (λ x. x < 2 ^ 32) rest → AllByRecursion (λ x. x < 2 ^ 32) (replicate k v ++ rest)
 small_replicate zero v rest small more = more

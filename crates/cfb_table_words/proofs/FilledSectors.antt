@@ -16,11 +16,13 @@ use Rattle.cfb_sectors.specs.Sectors.{SectorFile, SectorStays, init_bytes, place
 use Rattle.cfb_sectors.specs.Words.{RangeStays}
 use Rattle.cfb_sectors.proofs.SectorLemmas.{Stays_apart, sector_apart}
 use Rattle.cfb_table_words.specs.Along.{AreFilledFrom, byte_given}
-use Rattle.cfb_table_words.specs.Holding.{ChangesSectors, IsFilled}
+use Rattle.cfb_table_words.specs.Holding.{ChangesSectors, IsAsFilled}
 use Rattle.cfb_table_words.specs.Runs.{IsLongestRun, place_along}
 use Rattle.cfb_table_words.proofs.FrameLemmas.{before_sector}
-use Rattle.cfb_table_words.proofs.HeldLemmas.{length-init, sector_past_header}
+use Rattle.cfb_table_words.proofs.HeldLemmas.{length-init}
 use Rattle.cfb_table_words.proofs.Runs.{here_place, run_among, run_below}
+use Rattle.cfb_table_words.proofs.DifatLemmas.{past_header}
+use Rattle.cfb_format.proofs.Along.{first_rest}
 
 -- ---- a run that is put
 
@@ -61,7 +63,7 @@ put_changes v ids index offset n xs a b short some longest change =
 -- and the header does not
 pub put_front : (v : Version) (sector offset n : ℕ) (a b : List ℕ) → ChangesOnlyBytes (sector_start v sector + offset) n a b → RangeStays 0 512 a b
 put_front v sector offset n a b change =
-    let past = sector_past_header v sector in
+    let past = past_header v sector in
     Stays_apart (sector_start v sector + offset) n 0 512 a b change (λ low. absurd (omega (arith, past, low)))
 
 -- the length that is kept follows
@@ -158,10 +160,6 @@ rest_low : (v : Version) (j : ℕ) → j % sector_len v < sector_len v
 rest_low V3 j = omega arith
 rest_low V4 j = omega arith
 
-low_rest : (v : Version) (j : ℕ) → j < sector_len v → j % sector_len v ≡ j
-low_rest V3 j low = omega (arith, low)
-low_rest V4 j low = omega (arith, low)
-
 pub zeros_repeat : (v : Version) (n : ℕ) (fresh : List ℕ) → fresh ≡ replicate n 0 → (j : ℕ) → j < length fresh → slice_index fresh j ≡ slice_index fresh (j % sector_len v)
 zeros_repeat v n fresh is j low =
     let size = ap length is ∙ length-replicate {A = ℕ} n 0 in
@@ -170,7 +168,7 @@ zeros_repeat v n fresh is j low =
     ∙ sym (ap (λ (xs : List ℕ). slice_index xs (j % sector_len v)) is)
 
 pub one_repeats : (v : Version) (fresh : List ℕ) → length fresh ≡ sector_len v → (j : ℕ) → j < length fresh → slice_index fresh j ≡ slice_index fresh (j % sector_len v)
-one_repeats v fresh size j low = sym (ap (slice_index fresh) (low_rest v j (omega (arith, low, size))))
+one_repeats v fresh size j low = sym (ap (slice_index fresh) (first_rest v j (omega (arith, low, size))))
 
 -- zeros are the bytes of a fresh sector of zeros
 pub zero_given : (v : Version) (n : ℕ) (from fresh zeros : List ℕ) (k : ℕ) → fresh ≡ replicate n 0 → sector_len v ≤ n → zeros ≡ replicate (sector_len v) 0
@@ -212,7 +210,7 @@ filled_whole_each v init from bytes ids all i (index, low, is) =
     let start = ap (sector_start v) (get_or_default ids index 0 i low ∙ is) in
     omega (arith, there, here, start, last.1)
 
-pub filled_each : (v : Version) (init : SectorInit) (bytes ids : List ℕ) → AreFilledFrom v init [] bytes ids → (i : ℕ) → Contains ids i → IsFilled v init bytes i
+pub filled_each : (v : Version) (init : SectorInit) (bytes ids : List ℕ) → AreFilledFrom v init [] bytes ids → (i : ℕ) → Contains ids i → IsAsFilled v init bytes i
 filled_each v init bytes ids all i (index, low, is) =
     let whole = filled_whole_each v init [] bytes ids all i (index, low, is) in
     let size = length-init v init in

@@ -6,8 +6,8 @@ use Rattle.cfb_format.specs.declared.version.Version.TheVariants.{V3, V4}
 use Rattle.cfb_format.specs.Bytes.{sector_len, sector_start}
 use Rattle.cfb_format.specs.Medium.{ChangesOnlyBytes}
 use Rattle.cfb_table_words.specs.Holding.{ChangesSectors, IsOtherHeaderByte, IsTablesWord}
-use Rattle.cfb_table_words.proofs.Listed.{not_in_nil}
 use Rattle.cfb_sectors.proofs.SectorLemmas.{SectorStays_refl, SectorStays_trans, other_sector, after_header}
+use Rattle.cfb_format.proofs.Members.{Contains-nil}
 
 pub changes_refl : (touched : List ℕ) (v : Version) (a : List ℕ) → ChangesSectors touched v a a
 changes_refl touched v a = record { no_shorter = omega arith; sectors = λ i out. SectorStays_refl v i a; header = λ i lt other. refl }
@@ -72,9 +72,9 @@ changes_in_header v at a b word change = record {
 -- a change after one that touches nothing but the header
 pub changes_after : (touched : List ℕ) (v w : Version) (a b c : List ℕ) → w ≡ v → ChangesSectors [] v a b → ChangesSectors touched w b c → ChangesSectors touched v a c
 changes_after touched v w a b c same first second =
-    changes_trans touched v a b c (changes_more [] touched v a b (λ i m. absurd (not_in_nil i m)) first) (subst (λ (u : Version). ChangesSectors touched u b c) same second)
+    changes_trans touched v a b c (changes_more [] touched v a b (λ i m. absurd (Contains-nil i m)) first) (subst (λ (u : Version). ChangesSectors touched u b c) same second)
 
 -- and before one
 pub changes_before : (touched : List ℕ) (v w : Version) (a b c : List ℕ) → w ≡ v → ChangesSectors touched v a b → ChangesSectors [] w b c → ChangesSectors touched v a c
 changes_before touched v w a b c same first second =
-    changes_trans touched v a b c first (changes_more [] touched v b c (λ i m. absurd (not_in_nil i m)) (subst (λ (u : Version). ChangesSectors [] u b c) same second))
+    changes_trans touched v a b c first (changes_more [] touched v b c (λ i m. absurd (Contains-nil i m)) (subst (λ (u : Version). ChangesSectors [] u b c) same second))

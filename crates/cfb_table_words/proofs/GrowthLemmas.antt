@@ -13,7 +13,7 @@ use Rattle.cfb_format.specs.Chain.{value}
 use Rattle.cfb_format.specs.Fat.{is_fat_padding}
 use Rattle.cfb_table_words.specs.Agreement.{AgreesBut, IsStrictBut, HasSectors, KeepsSectors, word_of}
 use Rattle.cfb_tables.specs.Changes.{PointsWithin}
-use Rattle.cfb_table_words.specs.Holding.{HoldsBut, IsMeasured, IsFilled, ChangesSectors}
+use Rattle.cfb_table_words.specs.Holding.{HoldsBut, IsMeasured, IsAsFilled, ChangesSectors}
 use Rattle.std.proofs.Math.Seq.{drop-append_seam}
 use Rattle.cfb_tables.specs.Changes.{AreDisjoint}
 use Rattle.cfb_tables.specs.Clean.{IsClean}
@@ -22,15 +22,16 @@ use Rattle.cfb_table_words.specs.Difat.{ListsTables}
 use Rattle.cfb_sectors.specs.Sectors.{SectorFile}
 use Rattle.cfb_tables.specs.Tables.{TableState, HasTaken}
 use Rattle.cfb_table_words.proofs.AgreementLemmas.{appended_late, changed_late}
-use Rattle.cfb_table_words.proofs.StrictLemmas.{if_strict, strict_grown}
+use Rattle.cfb_table_words.proofs.StrictLemmas.{strict_grown}
 use Rattle.cfb_format.proofs.Words.{sector_words-at, whole-end}
 use Rattle.cfb_sectors.specs.declared.sector.SectorInit.TheVariants.{Fat}
-use Rattle.cfb_table_words.proofs.DifatWalk.{member_whole}
 use Rattle.cfb_table_words.proofs.DifatWords.{fresh_fat_words}
 use Rattle.cfb_table_words.proofs.TableWords.{home_sector, some_words}
 use Rattle.cfb_table_words.proofs.HeldLemmas.{listed_whole, filled_fat}
-use Rattle.cfb_table_words.proofs.Listed.{joined_distinct, not_in_nil}
-use Rattle.cfb_tables.proofs.Members.{value-below, value-past, Contains-or}
+use Rattle.cfb_tables.proofs.Members.{value-past}
+use Rattle.cfb_format.proofs.Members.{distinct-join, Contains-nil, Contains-or}
+use Rattle.cfb_format.proofs.Walks.{value-below, difat-whole}
+use Rattle.cfb_format.proofs.Tests.{if_strict}
 
 -- more words may be late
 pub agrees_more : (few many : List ℕ) (v : Version) (bytes list own table : List ℕ) → ((i : ℕ) → Contains few i → Contains many i)
@@ -182,7 +183,7 @@ module _ (t0 t : TableState) (touched more : List ℕ) (taken : HasTaken t0 t to
         (λ i m. let f = new_fat i m in (f.0, omega (arith, f.1, big_len), big_high i 0 f.0 ∙ f.2))
         (λ i m. let d = new_difat i m in (d.0, λ out. big_high i 0 d.0 ∙ d.2))
         late
-        (λ i m. absurd (not_in_nil i m))
+        (λ i m. absurd (Contains-nil i m))
         (λ i ge lt. last_taken late cover i ge (omega (arith, lt, big_len)))
         (λ i past from below. subst (λ (xs : List ℕ). IsTrue (is_fat_padding (word_of v bytes' xs i))) lists
         (padding i (omega (arith, past, big_len)) from (subst (λ (xs : List ℕ). i < length xs * words_per_sector v) (sym lists) below))) in
@@ -206,7 +207,7 @@ module _ (t0 t : TableState) (touched more : List ℕ) (taken : HasTaken t0 t to
   module _ (validation : Validation) (file : SectorFile) (h : HoldsBut validation [] file t0) where
     pub grown_fats_once : IsDistinct nat_eq t.fat_sectors
     grown_fats_once = subst (IsDistinct nat_eq) (sym taken.fat_sectors)
-        (joined_distinct t0.fat_sectors taken.fats h.agrees.once taken.fats_once (λ i m n. let l = (h.agrees.fat_marks i m).0 in let p = (new_fat i n).0 in omega (arith, l, p)))
+        (distinct-join t0.fat_sectors taken.fats h.agrees.once taken.fats_once (λ i m n. let l = (h.agrees.fat_marks i m).0 in let p = (new_fat i n).0 in omega (arith, l, p)))
 
     difat_low : (i : ℕ) → Contains t0.difat_sectors i → i < n0
     difat_low i m =
@@ -215,7 +216,7 @@ module _ (t0 t : TableState) (touched more : List ℕ) (taken : HasTaken t0 t to
 
     pub grown_difats_once : IsDistinct nat_eq t.difat_sectors
     grown_difats_once = subst (IsDistinct nat_eq) (sym taken.difat_sectors)
-        (joined_distinct t0.difat_sectors taken.difats h.listed.difat.distinct taken.difats_once (λ i m n. let l = difat_low i m in let p = (new_difat i n).0 in omega (arith, l, p)))
+        (distinct-join t0.difat_sectors taken.difats h.listed.difat.distinct taken.difats_once (λ i m n. let l = difat_low i m in let p = (new_difat i n).0 in omega (arith, l, p)))
 
     pub grown_apart : AreDisjoint t.fat_sectors t.difat_sectors
     grown_apart i m n = elim (Contains-append_cases t0.fat_sectors taken.fats i (subst (λ (xs : List ℕ). Contains xs i) taken.fat_sectors m)) [
@@ -232,7 +233,7 @@ module _ (t0 t : TableState) (touched more : List ℕ) (taken : HasTaken t0 t to
 -- ---- the whole of it
 
 -- words in a fresh FAT sector are free
-fresh_word : (v : Version) (bytes list : List ℕ) (from i : ℕ) → ((k : ℕ) → from ≤ k → k < length list → IsFilled v Fat bytes (slice_index list k))
+fresh_word : (v : Version) (bytes list : List ℕ) (from i : ℕ) → ((k : ℕ) → from ≤ k → k < length list → IsAsFilled v Fat bytes (slice_index list k))
     → from * words_per_sector v ≤ i → i < length list * words_per_sector v → word_of v bytes list i ≡ free_sector
 fresh_word v bytes list from i filled low high =
     let k = i / words_per_sector v in
@@ -274,7 +275,7 @@ module _ (validation : Validation) (t0 t : TableState) (touched more : List ℕ)
       go : (i : ℕ) → length t0.fat ≤ i → Contains (touched ++ more ++ taken.fats ++ taken.difats) i → sector_start t.version i + sector_len t.version ≤ length s2.bytes
       go i ge m = elim (Contains-append_cases (touched ++ more ++ taken.fats) taken.difats i m) [
         | inr d ↦ whole-end t.version s2.bytes i (subst (λ (w : Version). is_whole_sector w s2.bytes i ≡ true) listed.same_version
-            (member_whole listed.header.version s2.bytes listed.header.first_difat_sector t.difat_sectors listed.difat.sectors i
+            (difat-whole listed.header.version s2.bytes listed.header.first_difat_sector t.difat_sectors listed.difat.sectors i
             (subst (λ (xs : List ℕ). Contains xs i) (sym taken.difat_sectors) (Contains-append_right t0.difat_sectors taken.difats i d))))
         | inl l ↦ elim (Contains-append_cases (touched ++ more) taken.fats i l) [
           | inr f ↦ listed_whole validation t.version s2.bytes t.fat_sectors t.difat_sectors listed i
@@ -290,7 +291,7 @@ module _ (validation : Validation) (t0 t : TableState) (touched more : List ℕ)
   pub grown_holds : (late : List ℕ) → ((i : ℕ) → Contains (touched ++ more ++ taken.fats ++ taken.difats) i → Contains late i)
       → HoldsBut validation [] s0 t0 → 512 ≤ length s0.bytes → length s0.bytes ≤ length s2.bytes → IsMeasured s2 → s2.len ≤ sector_start t.version (length t.fat)
       → ListsTables validation t.version s2.bytes t.fat_sectors t.difat_sectors → IsClean t.fat
-      → ((k : ℕ) → length t0.fat_sectors ≤ k → k < length t.fat_sectors → IsFilled t.version Fat s2.bytes (slice_index t.fat_sectors k))
+      → ((k : ℕ) → length t0.fat_sectors ≤ k → k < length t.fat_sectors → IsAsFilled t.version Fat s2.bytes (slice_index t.fat_sectors k))
       → ((i : ℕ) → Contains more i → sector_start t.version i + sector_len t.version ≤ length s2.bytes) → KeepsSectors t.version t0.fat_sectors s0.bytes s2.bytes
       → HoldsBut validation late s2 t
   grown_holds late cover h long longer measured end listed clean fats filled keeps =

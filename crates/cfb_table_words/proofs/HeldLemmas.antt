@@ -1,7 +1,7 @@
 -- The tables in memory and the bytes that hold them, under single writes.
-use Rattle.std.proofs.Common.{refl, inl, inr, ◌≡◌, ◌⊎◌, ℕ, ◌+◌, ◌*◌, ◌/◌, ◌%◌, ◌^◌, ◌<◌, ◌≤◌, max, min, ◌-◌, Bool, true, false, List, [], ◌∷◌, ◌++◌, replicate, length, drop, take, slice_index, sym, ◌∙◌, ap, subst, arith, add-zero, le-leb, get_or-take, length-take, get_or-drop, length-drop}
-use Rattle.std.specs.Prelude.{Contains, nat_eq, ◌&&◌}
-use Rattle.std.specs.List.{list_all, IsDistinct}
+use Rattle.std.proofs.Common.{refl, ◌≡◌, ℕ, ◌+◌, ◌*◌, ◌/◌, ◌%◌, ◌^◌, ◌<◌, ◌≤◌, max, min, ◌-◌, true, List, [], ◌∷◌, ◌++◌, replicate, length, drop, take, slice_index, sym, ◌∙◌, ap, subst, arith, add-zero, le-leb, get_or-take, length-take, get_or-drop, length-drop}
+use Rattle.std.specs.Prelude.{Contains, nat_eq}
+use Rattle.std.specs.List.{IsDistinct}
 use Rattle.std.proofs.lemmas.List.{get_or_default}
 use Rattle.std.proofs.lemmas.List.Elements.{Contains-get_or}
 use Rattle.std.proofs.lemmas.Grind.{same_number_lists}
@@ -20,25 +20,18 @@ use Rattle.cfb_sectors.specs.Sectors.{SectorFile, SectorStays, init_bytes}
 use Rattle.cfb_table_words.specs.Agreement.{AgreesBut, IsStrictBut, HasSectors, word_home}
 use Rattle.cfb_table_words.specs.Difat.{ListsTables, ListingStays, FreshFatWords, FreshDifatWords}
 use Rattle.cfb_tables.specs.Tables.{TableState}
-use Rattle.cfb_table_words.specs.Holding.{HoldsBut, IsFilled, IsTablesWord, ChangesSectors}
+use Rattle.cfb_table_words.specs.Holding.{HoldsBut, IsAsFilled, IsTablesWord, ChangesSectors}
 use Rattle.cfb_table_words.proofs.FrameLemmas.{word_inside}
 use Rattle.cfb_table_words.proofs.AgreementLemmas.{written_agrees}
-use Rattle.cfb_table_words.proofs.StrictLemmas.{if_strict, strict_written}
-use Rattle.cfb_table_words.proofs.Listed.{not_in_nil, in_cons, place_once}
+use Rattle.cfb_table_words.proofs.StrictLemmas.{strict_written}
+use Rattle.cfb_table_words.proofs.Listed.{place_once}
 use Rattle.cfb_sectors.proofs.SectorLemmas.{other_sector, Stays_apart}
 use Rattle.cfb_table_words.proofs.TableWords.{home_sector, home_fits}
 use Rattle.cfb_sectors.proofs.ReadWords.{words_fit, words_of_part}
 use Rattle.cfb_sectors.proofs.WordLemmas.{length-with_word}
-
--- what a test on all members says of one
-pub every_member : (p : ℕ → Bool) (xs : List ℕ) → list_all p xs ≡ true → (i : ℕ) → Contains xs i → p i ≡ true
-every_member p [] all i m = absurd (not_in_nil i m)
-every_member p (x ∷ xs) all i m = go (p x) refl all (in_cons x xs i m) (λ rest r. every_member p xs rest i r)
-  where
-    go : (b : Bool) → p x ≡ b → (b && list_all p xs) ≡ true → (x ≡ i) ⊎ Contains xs i → (list_all p xs ≡ true → Contains xs i → p i ≡ true) → p i ≡ true
-    go true e rest (inl same) more = subst (λ n. p n ≡ true) same e
-    go true e rest (inr r) more = more rest r
-    go false e rest c more = cc
+use Rattle.cfb_format.proofs.Members.{every_member}
+use Rattle.cfb_table_words.proofs.DifatLemmas.{past_header}
+use Rattle.cfb_format.proofs.Tests.{if_strict}
 
 -- the listed FAT sectors are whole
 pub listed_whole : (validation : Validation) (v : Version) (bytes list own : List ℕ) → ListsTables validation v bytes list own → HasSectors v bytes list
@@ -57,7 +50,7 @@ length-init V4 Difat = refl
 length-init V4 Dir = refl
 
 -- a sector that was just filled
-pub filled_sector : (v : Version) (init : SectorInit) (bytes new : List ℕ) (i : ℕ) → new ≡ written bytes (sector_start v i + 0) (init_bytes v init) → IsFilled v init new i
+pub filled_sector : (v : Version) (init : SectorInit) (bytes new : List ℕ) (i : ℕ) → new ≡ written bytes (sector_start v i + 0) (init_bytes v init) → IsAsFilled v init new i
 filled_sector v init bytes new i is =
     let at : sector_start v i + 0 ≡ sector_start v i = add-zero (sector_start v i) in
     let there : new ≡ written bytes (sector_start v i) (init_bytes v init) = is ∙ ap (λ n. written bytes n (init_bytes v init)) at in
@@ -88,7 +81,7 @@ measured_init v init i len len' bytes new measured longer is =
     omega (arith, measured, longer, l, all)
 
 -- a sector that was filled and stays is filled
-pub stays_filled : (v : Version) (init : SectorInit) (i : ℕ) (a b : List ℕ) → SectorStays v i a b → IsFilled v init a i → IsFilled v init b i
+pub stays_filled : (v : Version) (init : SectorInit) (i : ℕ) (a b : List ℕ) → SectorStays v i a b → IsAsFilled v init a i → IsAsFilled v init b i
 unfolding SectorStays
 stays_filled v init i a b stays f =
     let longer = stays.no_shorter in
@@ -97,10 +90,6 @@ stays_filled v init i a b stays f =
       whole = omega (arith, longer, whole);
       filled = part_stays (sector_start v i) (sector_len v) a b longer whole (λ k low. stays.each (sector_start v i + k) (omega (arith, low, whole)) (omega arith) (in_next v i k low)) ∙ f.filled;
     }
-
-pub sector_past_header : (v : Version) (i : ℕ) → 512 ≤ sector_start v i
-sector_past_header V3 i = omega arith
-sector_past_header V4 i = omega arith
 
 pub header_long : (v : Version) (len : ℕ) → sector_len v ≤ len → 512 ≤ len
 header_long V3 len h = h
@@ -120,18 +109,18 @@ measured_header v at w len len' bytes new word long measured same is =
     omega (arith, measured, same, all, header_long v len long, word_inside at word)
 
 -- the words of a sector that was filled
-filled_words : (v : Version) (init : SectorInit) (bytes : List ℕ) (i : ℕ) → IsFilled v init bytes i → sector_words v bytes i ≡ words (words_per_sector v) (init_bytes v init)
+filled_words : (v : Version) (init : SectorInit) (bytes : List ℕ) (i : ℕ) → IsAsFilled v init bytes i → sector_words v bytes i ≡ words (words_per_sector v) (init_bytes v init)
 filled_words v init bytes i f =
     sym (words_of_part (words_per_sector v) bytes (sector_start v i) (sector_len v) (words_fit v)) ∙ ap (words (words_per_sector v)) f.filled
 
-pub filled_fat : FreshFatWords → (v : Version) (bytes : List ℕ) (i : ℕ) → IsFilled v Fat bytes i → sector_words v bytes i ≡ replicate (words_per_sector v) free_sector
+pub filled_fat : FreshFatWords → (v : Version) (bytes : List ℕ) (i : ℕ) → IsAsFilled v Fat bytes i → sector_words v bytes i ≡ replicate (words_per_sector v) free_sector
 filled_fat fresh v bytes i f =
     let at = add-zero (sector_start v i) in
     filled_words v Fat bytes i f
     ∙ sym (filled_words v Fat (written [] (sector_start v i) (init_bytes v Fat)) i (filled_sector v Fat [] _ i (ap (λ n. written [] n (init_bytes v Fat)) (sym at))))
     ∙ fresh v [] i
 
-pub filled_difat : FreshDifatWords → (v : Version) (bytes : List ℕ) (i : ℕ) → IsFilled v Difat bytes i
+pub filled_difat : FreshDifatWords → (v : Version) (bytes : List ℕ) (i : ℕ) → IsAsFilled v Difat bytes i
     → sector_words v bytes i ≡ replicate (words_per_sector v - 1) free_sector ++ end_of_chain ∷ []
 filled_difat fresh v bytes i f =
     let at = add-zero (sector_start v i) in
@@ -139,7 +128,7 @@ filled_difat fresh v bytes i f =
     ∙ sym (filled_words v Difat (written [] (sector_start v i) (init_bytes v Difat)) i (filled_sector v Difat [] _ i (ap (λ n. written [] n (init_bytes v Difat)) (sym at))))
     ∙ fresh v [] i
 
-pub filled_whole : (v : Version) (init : SectorInit) (bytes : List ℕ) (i : ℕ) → IsFilled v init bytes i → is_whole_sector v bytes i ≡ true
+pub filled_whole : (v : Version) (init : SectorInit) (bytes : List ℕ) (i : ℕ) → IsAsFilled v init bytes i → is_whole_sector v bytes i ≡ true
 filled_whole v init bytes i f = le-leb (sector_start v i + sector_len v) (length bytes) f.whole
 
 -- what is listed stays while a sector is filled that is no DIFAT sector
@@ -183,7 +172,7 @@ module _ (validation : Validation) (late : List ℕ) (old new : SectorFile) (t :
       let whole = listed_whole validation v old.bytes t.fat_sectors t.difat_sectors h.listed in
       let covered : x < length t.fat_sectors * words_per_sector v = let c = h.agrees.covers in omega (arith, lt, c) in
       let mine : Contains t.fat_sectors home_of = Contains-get_or t.fat_sectors (x / words_per_sector v) 0 (home_sector v x (length t.fat_sectors) covered) in
-      let past = sector_past_header v home_of in
+      let past = past_header v home_of in
       record {
         measured = len ∙ ap (λ n. max n (home + 4)) h.measured ∙ sym (length-with_word old.bytes home (slice_index t.fat x)) ∙ ap length (sym is);
         listed = stays validation v old.bytes new.bytes t.fat_sectors t.difat_sectors h.listed long

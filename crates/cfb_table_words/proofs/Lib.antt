@@ -1,3 +1,4 @@
+pub use Rattle.cfb_sectors.proofs as cfb_sectors
 pub mod TableWords
 pub mod Listed
 pub mod AgreementLemmas

@@ -1,5 +1,5 @@
 -- Words of numbers that follow each other, in one FAT sector, under one write.
-use Rattle.std.proofs.Common.{refl, ◌≡◌, ℕ, zero, suc, ◌+◌, ◌*◌, ◌/◌, ◌%◌, ◌^◌, ◌<◌, ◌≤◌, max, List, [], ◌∷◌, ◌++◌, length, drop, take, slice_index, sym, ◌∙◌, ap, subst, arith, length-append}
+use Rattle.std.proofs.Common.{refl, ◌≡◌, ℕ, zero, suc, ◌+◌, ◌*◌, ◌/◌, ◌%◌, ◌^◌, ◌<◌, ◌≤◌, max, List, [], ◌∷◌, ◌++◌, length, drop, take, slice_index, sym, ◌∙◌, ap, subst, arith}
 use Rattle.cfb_format.specs.declared.version.Version.{Version}
 use Rattle.cfb_format.specs.declared.version.Version.TheVariants.{V3, V4}
 use Rattle.cfb_format.specs.declared.validate.Validation.{Validation}
@@ -29,10 +29,6 @@ pub words_most : (v : Version) → words_per_sector v ≤ 1024
 words_most V3 = omega arith
 words_most V4 = omega arith
 
-pub four_words : (v : Version) → 4 * words_per_sector v ≡ sector_len v
-four_words V3 = refl
-four_words V4 = refl
-
 -- so many numbers from one on
 abbrev pub counting : ℕ → ℕ → List ℕ
 counting x zero = []
@@ -52,11 +48,6 @@ next_home V4 list x n within =
 next_within : (v : Version) (x n : ℕ) → x % words_per_sector v + suc (suc n) ≤ words_per_sector v → (x + 1) % words_per_sector v + suc n ≤ words_per_sector v
 next_within V3 x n within = omega (arith, within)
 next_within V4 x n within = omega (arith, within)
-
-pub length-word_bytes : (ws : List ℕ) → length (word_bytes ws) ≡ 4 * length ws
-unfolding word_bytes
-length-word_bytes [] = refl
-length-word_bytes (w ∷ ws) = let both = length-append (to_le_bytes w32 w) (word_bytes ws) in let rest = length-word_bytes ws in let four : length (to_le_bytes w32 w) ≡ 4 = refl in omega (arith, both, rest, four)
 
 -- one word
 one_word : (b : List ℕ) (at w : ℕ) → written b at (word_bytes (w ∷ [])) ≡ with_word b at w

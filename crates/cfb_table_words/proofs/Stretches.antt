@@ -10,13 +10,13 @@ use Rattle.cfb_format.specs.declared.validate.Validation.{Validation}
 use Rattle.cfb_format.specs.Bytes.{words_per_sector}
 use Rattle.cfb_tables.specs.Consecutive.{FollowOn}
 use Rattle.cfb_tables.specs.Tables.{TableState}
-use Rattle.cfb_tables.proofs.Members.{Contains-here, Contains-there}
 use Rattle.cfb_sectors.specs.Sectors.{SectorFile}
 use Rattle.cfb_table_words.specs.Agreement.{IsStrictBut}
 use Rattle.cfb_table_words.specs.Holding.{HoldsBut}
 use Rattle.cfb_table_words.specs.Stretches.{FallOff, LateBut, LieWithin}
-use Rattle.cfb_table_words.proofs.StrictLemmas.{if_strict}
 use Rattle.cfb_table_words.proofs.RunWords.{counting}
+use Rattle.cfb_format.proofs.Members.{Contains-here, Contains-there}
+use Rattle.cfb_format.proofs.Tests.{if_strict}
 
 -- what holds but for some late numbers holds but for more
 pub held_more : (validation : Validation) (before late : List ℕ) (f : SectorFile) (t : TableState) → ((i : ℕ) → Contains before i → Contains late i) → HoldsBut validation before f t → HoldsBut validation late f t

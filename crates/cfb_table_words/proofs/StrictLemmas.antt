@@ -3,22 +3,14 @@ use Rattle.std.proofs.Common.{◌≡◌, ◌≢◌, ◌≤◌, ◌<◌, ◌*◌,
 use Rattle.std.specs.Prelude.{slice_index, Contains}
 use Rattle.std.proofs.lemmas.Bool.{cases_eq, cases_lt}
 use Rattle.cfb_format.specs.declared.version.Version.{Version}
-use Rattle.cfb_format.specs.declared.validate.Validation.{Validation}
-use Rattle.cfb_format.specs.declared.validate.Validation.TheVariants.{Permissive, Strict}
 use Rattle.cfb_format.specs.Bytes.{words_per_sector, free_sector}
 use Rattle.cfb_format.specs.Chain.{value}
-use Rattle.cfb_format.specs.Header.{IfStrict}
 use Rattle.cfb_sectors.specs.Words.{with_word}
 use Rattle.cfb_table_words.specs.Agreement.{word_home, word_of, AgreesBut, IsStrictBut, HasSectors, KeepsSectors}
-use Rattle.cfb_table_words.proofs.AgreementLemmas.{value-at}
-use Rattle.cfb_table_words.proofs.Listed.{not_in_nil, in_cons}
 use Rattle.cfb_table_words.proofs.TableWords.{other_word, kept_word}
 use Rattle.cfb_sectors.proofs.WordLemmas.{word_with_word}
-
--- what follows from a demand of strict opening is one
-pub if_strict : (validation : Validation) (P Q : Type 0) → (P → Q) → IfStrict validation P → IfStrict validation Q
-if_strict Permissive P Q f p = tt
-if_strict Strict P Q f p = f p
+use Rattle.cfb_format.proofs.Walks.{value-at}
+use Rattle.cfb_format.proofs.Members.{Contains-nil, Contains-cases}
 
 -- a late word is written
 pub strict_written : (version : Version) (bytes list own table late : List ℕ) (x : ℕ) → x < length table → slice_index table x < 2 ^ 32
@@ -33,7 +25,7 @@ strict_written version bytes list own table late x lt fits a s =
         | inl e ↦ subst (λ n. word_of version after list n ≡ slice_index table n) (sym e) (word_with_word bytes home (slice_index table x) fits)
         | inr ne ↦
             other_word version bytes list x i (slice_index table x) a.once (λ e. ne (sym e)) covered (let c = a.covers in omega (arith, inside, c))
-            ∙ s.words i inside (λ m. elim (in_cons x late i m) [ inl e ↦ ne (sym e) | inr r ↦ not_late r ])
+            ∙ s.words i inside (λ m. elim (Contains-cases x late i m) [ inl e ↦ ne (sym e) | inr r ↦ not_late r ])
       ];
       padding = λ i past below.
           let ne : x ≢ i = omega (arith, lt, past) in
@@ -46,7 +38,7 @@ pub strict_changed : (version : Version) (bytes list old new late : List ℕ) �
 strict_changed version bytes list old new late same only s = record {
   words = λ i inside not_late.
       let inside' : i < length old = omega (arith, inside, same) in
-      s.words i inside' (not_in_nil i) ∙ sym (value-at old i inside') ∙ sym (only i not_late) ∙ value-at new i inside;
+      s.words i inside' (Contains-nil i) ∙ sym (value-at old i inside') ∙ sym (only i not_late) ∙ value-at new i inside;
   padding = λ i past below. s.padding i (let p = past in omega (arith, p, same)) below;
 }
 
@@ -61,7 +53,7 @@ strict_grown version bytes bytes' list more old new late s covers whole keeps lo
   words = λ i inside not_late. elim (cases_lt i (length old)) [
     | inl lt ↦
         kept_word version bytes bytes' list more i whole keeps (omega (arith, lt, covers))
-        ∙ s.words i lt (not_in_nil i) ∙ sym (value-at old i lt) ∙ sym (only i not_late) ∙ value-at new i inside
+        ∙ s.words i lt (Contains-nil i) ∙ sym (value-at old i lt) ∙ sym (only i not_late) ∙ value-at new i inside
     | inr ge ↦ absurd (not_late (added i ge inside))
   ];
   padding = λ i past below. elim (cases_lt i (length list * words_per_sector version)) [

@@ -14,9 +14,10 @@ use Rattle.cfb_format.specs.Fat.{raw_fat, fat_words}
 use Rattle.cfb_table_words.specs.Agreement.{word_home, word_of, HasSectors, KeepsSectors}
 use Rattle.cfb_sectors.specs.Words.{with_word}
 use Rattle.cfb_table_words.proofs.Listed.{place_once}
-use Rattle.cfb_sectors.proofs.ReadWords.{words-at, words-length}
+use Rattle.cfb_sectors.proofs.ReadWords.{words-at}
 use Rattle.cfb_sectors.proofs.SectorLemmas.{word_in_sector}
 use Rattle.cfb_sectors.proofs.WordLemmas.{word_with_word_apart}
+use Rattle.cfb_format.proofs.Words.{words-length}
 
 -- an element of lists of one length one after the other
 module _ (f : ℕ → List ℕ) (e : ℕ) (pos : 0 < e) (even : (i : ℕ) → length (f i) ≡ e) where

@@ -34,7 +34,7 @@ pub record HoldsBut (validation : Validation) (late : List ℕ) (file : SectorFi
   pub apart : AreDisjoint t.fat_sectors t.difat_sectors
 
 -- the sector is whole and as it was filled
-pub record IsFilled (version : Version) (init : SectorInit) (bytes : List ℕ) (i : ℕ) : Type 0 where
+pub record IsAsFilled (version : Version) (init : SectorInit) (bytes : List ℕ) (i : ℕ) : Type 0 where
   pub whole : sector_start version i + sector_len version ≤ length bytes
   pub filled : sector_bytes version bytes i ≡ init_bytes version init
 

@@ -1,3 +1,4 @@
+pub use Rattle.cfb_sectors.specs as cfb_sectors
 pub mod Agreement
 pub mod Difat
 pub mod Holding

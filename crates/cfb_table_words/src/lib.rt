@@ -7,3 +7,6 @@ pub mod filling;
 pub mod run;
 pub mod stretch;
 pub mod writing;
+
+// What crates above name of those below.
+pub use cfb_sectors::sector::{SectorInit, Sectors};

@@ -16,7 +16,7 @@ ghost use Rattle.cfb_tables.specs.Tables.{TableState, HasTaken, IsCovered};
 ghost use Rattle.cfb_table_words.specs.Along.{AreFilledFrom};
 ghost use Rattle.cfb_table_words.specs.Difat.{ListsTables, difat_places, difat_place, freed_behind, listed_in_header, listed_in_sector, linked, link_place};
 ghost use Rattle.cfb_table_words.specs.Stretches.{LateBut};
-ghost use Rattle.cfb_table_words.specs.Holding.{IsPlaced, IsMeasured, HoldsBut, IsFilled, IsTablesWord, ChangesSectors};
+ghost use Rattle.cfb_table_words.specs.Holding.{IsPlaced, IsMeasured, HoldsBut, IsAsFilled, IsTablesWord, ChangesSectors};
 
 use crate::filling::fill_sectors;
 use crate::stretch::{Stretch, stretch_at};
@@ -54,7 +54,7 @@ fn fill_sector<F: Medium>(
     ensures measured { IsTrue F.tells
         → IsMeasured sectors.old → OnOk result (IsMeasured sectors.new) }
     ensures filled { IsTrue F.tells
-        → OnOk result (IsFilled sectors.old.version init sectors.new.bytes number) }
+        → OnOk result (IsAsFilled sectors.old.version init sectors.new.bytes number) }
     ensures changes { IsTrue F.tells
         → ChangesSectors (number ∷ []) sectors.old.version sectors.old.bytes sectors.new.bytes }
     ensures front { IsTrue F.tells → RangeStays 0 512 sectors.old.bytes sectors.new.bytes }
@@ -558,7 +558,7 @@ fn add_fat_sector<F: Medium>(
         → IfOk result (λ n. ListsTables validation sectors.old.version sectors.new.bytes
         (take (index + 1) fat_sectors.now) (take n difat_sectors.now)) }
     ensures filled { IsTrue F.tells → AreDisjoint fat_sectors.now difat_sectors.now → OnOk result
-        (IsFilled sectors.old.version Fat sectors.new.bytes (slice_index fat_sectors.now index)) }
+        (IsAsFilled sectors.old.version Fat sectors.new.bytes (slice_index fat_sectors.now index)) }
     ensures measured { IsTrue F.tells
         → IsMeasured sectors.old → OnOk result (IsMeasured sectors.new) }
     ensures changes { IsTrue F.tells → ChangesSectors (slice_index fat_sectors.now index
@@ -607,7 +607,7 @@ fn write_table_sectors<F: Medium>(
     ensures filled { IsTrue F.tells
         → IsDistinct nat_eq fat_sectors.now → AreDisjoint fat_sectors.now difat_sectors.now
         → OnOk result ((k : ℕ) → fats ≤ k → k < length fat_sectors.now
-        → IsFilled sectors.old.version Fat sectors.new.bytes (slice_index fat_sectors.now k)) }
+        → IsAsFilled sectors.old.version Fat sectors.new.bytes (slice_index fat_sectors.now k)) }
     ensures measured { IsTrue F.tells
         → IsMeasured sectors.old → OnOk result (IsMeasured sectors.new) }
     ensures changes { IsTrue F.tells → ChangesSectors (drop fats fat_sectors.now
@@ -662,7 +662,7 @@ fn add_sectors<F: Medium>(
     ensures fats { IsTrue F.tells → IsDistinct nat_eq fat_sectors.now
         → AreDisjoint fat_sectors.now difat_sectors.now → AreDisjoint fat_sectors.now more.now
         → OnOk result ((k : ℕ) → before.fats ≤ k → k < length fat_sectors.now
-        → IsFilled sectors.old.version Fat sectors.new.bytes (slice_index fat_sectors.now k)) }
+        → IsAsFilled sectors.old.version Fat sectors.new.bytes (slice_index fat_sectors.now k)) }
     ensures filled { IsTrue F.tells → IsDistinct nat_eq more.now → OnOk result
         (AreFilledFrom sectors.old.version init from.now sectors.new.bytes more.now) }
     ensures measured { IsTrue F.tells

@@ -8,11 +8,13 @@ use Rattle.cfb_format.specs.Bytes.{free_sector, end_of_chain, max_regular_sector
 use Rattle.cfb_format.specs.Chain.{value, IsChain}
 use Rattle.cfb_tables.specs.Changes.{GivesBack}
 use Rattle.cfb_tables.specs.Tables.{TableState, Kept, HasTaken, Added, Extended, sizes_of, first_or_end, wiped}
-use Rattle.cfb_tables.proofs.Members.{Contains-nil, Contains-here, Contains-there, Contains-cases, Contains-one, Contains-or, in_three, first_of_three, second_of_three, third_of_three, value-below, value-set, value-set_other, distinct-apart, distinct-left}
-use Rattle.cfb_tables.proofs.ChainLemmas.{chain-stays, chain-turn, chain-rest, chain-apart, members-busy, regular-le, le-regular}
+use Rattle.cfb_tables.proofs.Members.{in_three, first_of_three, second_of_three, third_of_three, value-set, value-set_other}
+use Rattle.cfb_tables.proofs.ChainLemmas.{chain-stays, chain-turn, chain-rest, chain-apart, members-busy}
 use Rattle.cfb_tables.proofs.TableCounts.{HasPlaces, taken-places}
 use Rattle.cfb_tables.proofs.TakenLemmas.{taken-link, taken-then, taken-none, taken-keeps}
 use Rattle.cfb_tables.proofs.PreparedLemmas.{chain-one}
+use Rattle.cfb_format.proofs.Members.{Contains-nil, Contains-here, Contains-there, Contains-cases, Contains-one, Contains-or, distinct-apart, distinct-left}
+use Rattle.cfb_format.proofs.Walks.{value-below, regular-le, le-regular}
 
 -- ---- a chain goes on
 

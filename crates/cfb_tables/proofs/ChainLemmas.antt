@@ -2,21 +2,12 @@
 use Rattle.std.proofs.Common.{◌≡◌, ◌≢◌, ◌<◌, ◌≤◌, ◌⊎◌, inl, inr, ℕ, List, [], ◌∷◌, ◌++◌, refl, sym, ◌∙◌, ap, subst, length, arith}
 use Rattle.std.specs.Prelude.{slice_index, Contains, IsTrue}
 use Rattle.std.proofs.lemmas.List.Elements.{Contains-append_left}
-use Rattle.std.proofs.lemmas.Bool.{leb-true, le-leb}
 use Rattle.cfb_format.specs.Bytes.{end_of_chain, free_sector, is_regular, max_regular_sector}
 use Rattle.cfb_format.specs.Chain.{value, Follows, IsChain}
 use Rattle.cfb_format.proofs.Chains.{Follows-distinct}
 use Rattle.cfb_tables.specs.Changes.{AreDisjoint, ChangesOnlyValues}
-use Rattle.cfb_tables.proofs.Members.{Contains-here, Contains-there, Contains-nil, Contains-cases, value-at, value-below, distinct-apart}
-
-pub regular-le : (i : ℕ) → IsTrue (is_regular i) → i ≤ max_regular_sector
-regular-le i h = leb-true i max_regular_sector h
-
-pub le-regular : (i : ℕ) → i ≤ max_regular_sector → IsTrue (is_regular i)
-le-regular i h = le-leb i max_regular_sector h
-
-pub chain_of : (table : List ℕ) (s : ℕ) (list : List ℕ) → Follows table s list → IsChain table s list
-chain_of table s list f = record { follows = f; distinct = Follows-distinct table s list f }
+use Rattle.cfb_format.proofs.Members.{Contains-here, Contains-there, Contains-nil, Contains-cases, distinct-apart}
+use Rattle.cfb_format.proofs.Walks.{value-at, value-below, regular-le, chain_of, follows-member}
 
 -- a member's value names the next one or is the end
 pub follows-values : (table : List ℕ) (s : ℕ) (list : List ℕ) → Follows table s list → (i : ℕ) → Contains list i
@@ -35,13 +26,6 @@ follows-values table s (x ∷ y ∷ list) f i m = elim (Contains-cases x (y ∷ 
 
 pub follows-busy : (table : List ℕ) (s : ℕ) (list : List ℕ) → Follows table s list → (i : ℕ) → Contains list i → value table i ≢ free_sector
 follows-busy table s list f i m e = elim (follows-values table s list f i m) [ inl le ↦ omega (arith, le, e) | inr is ↦ omega (arith, is, e) ]
-
-pub follows-member : (table : List ℕ) (s : ℕ) (list : List ℕ) → Follows table s list → (i : ℕ) → Contains list i → (i < length table) × IsTrue (is_regular i)
-follows-member table s [] f i m = absurd (Contains-nil i m)
-follows-member table s (x ∷ list) f i m = elim (Contains-cases x list i m) [
-  | inl same ↦ (subst (λ k. k < length table) same f.2, subst (λ k. IsTrue (is_regular k)) same f.4)
-  | inr r ↦ follows-member table (slice_index table x) list f.3 i r
-]
 
 pub members-busy : (table : List ℕ) (s : ℕ) (list : List ℕ) → IsChain table s list → (i : ℕ) → Contains list i
     → (value table i ≢ free_sector) × (i < length table) × IsTrue (is_regular i)

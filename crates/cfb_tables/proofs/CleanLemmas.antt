@@ -13,9 +13,11 @@ use Rattle.cfb_tables.specs.Changes.{PointsWithin}
 use Rattle.cfb_tables.specs.Changes.{GivesBack}
 use Rattle.cfb_tables.specs.Clean.{IsClean}
 use Rattle.cfb_tables.specs.Tables.{TableState, HasTaken, Extended}
-use Rattle.cfb_tables.proofs.Members.{Contains-nil, Contains-here, Contains-there, Contains-cases, Contains-or, in_three, first_of_three, distinct-cons, cons-distinct, distinct-apart, value-at, value-below}
-use Rattle.cfb_tables.proofs.ChainLemmas.{regular-le, follows-rest, chain_of}
+use Rattle.cfb_tables.proofs.Members.{in_three, first_of_three}
+use Rattle.cfb_tables.proofs.ChainLemmas.{follows-rest}
 use Rattle.cfb_tables.proofs.TakenLemmas.{taken-busy}
+use Rattle.cfb_format.proofs.Members.{Contains-nil, Contains-here, Contains-there, Contains-cases, Contains-or, distinct-cons, cons-distinct, distinct-apart}
+use Rattle.cfb_format.proofs.Walks.{value-at, value-below, regular-le, chain_of}
 
 -- ---- pointers one by one
 

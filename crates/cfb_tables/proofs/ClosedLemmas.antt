@@ -6,8 +6,10 @@ use Rattle.cfb_format.specs.Bytes.{free_sector, is_regular}
 use Rattle.cfb_format.specs.Chain.{value, IsChain}
 use Rattle.cfb_format.proofs.Unique.{IsChain-unique}
 use Rattle.cfb_tables.specs.Owners.{ChainsAreClosed, MarksAreClosed, ClosedTogether, OwnedStartIsUnnamed}
-use Rattle.cfb_tables.proofs.ChainLemmas.{regular-le, chain-rest}
-use Rattle.cfb_tables.proofs.Members.{Contains-here, Contains-there, Contains-or, Contains-split, in_three, second_of_three, distinct-left, distinct-apart}
+use Rattle.cfb_tables.proofs.ChainLemmas.{chain-rest}
+use Rattle.cfb_tables.proofs.Members.{in_three, second_of_three}
+use Rattle.cfb_format.proofs.Walks.{regular-le}
+use Rattle.cfb_format.proofs.Members.{Contains-here, Contains-there, Contains-or, Contains-split, distinct-left, distinct-apart}
 
 -- a chain that doesn't end at once has its start as a member
 start_in : (table : List ℕ) (s : ℕ) (list : List ℕ) → IsChain table s list → 0 < length list → Contains list s

@@ -5,7 +5,7 @@ use Rattle.std.specs.List.{IsDistinct}
 use Rattle.std.proofs.lemmas.Bool.{eqb-true, eq-eqb, ne_eqb}
 use Rattle.std.proofs.lemmas.List.Elements.{Contains-append_cases, Contains-append_right}
 use Rattle.cfb_tables.specs.Owners.{tally, TallyOfBoth, TakingByCount, FreeingByCount}
-use Rattle.cfb_tables.proofs.Members.{Contains-nil, Contains-or, Contains-cases, Contains-here, Contains-there, distinct-cons, cons-distinct}
+use Rattle.cfb_format.proofs.Members.{Contains-nil, Contains-or, Contains-cases, Contains-here, Contains-there, distinct-cons, cons-distinct}
 
 pub tally-append : TallyOfBoth
 tally-append k [] ys = omega arith

@@ -11,8 +11,8 @@ use Rattle.cfb_format.specs.Bytes.{is_regular, max_regular_sector, free_sector, 
 use Rattle.cfb_format.specs.Fat.{fat_value, is_among, ended_past_file, HasDistinctPointers}
 use Rattle.cfb_tables.specs.Changes.{PointsWithin}
 use Rattle.cfb_tables.specs.ReadFat.{fat_of_words}
-use Rattle.cfb_tables.proofs.ChainLemmas.{regular-le}
-use Rattle.cfb_tables.proofs.Members.{Contains-nil, Contains-here, Contains-one, none_distinct, distinct-push, distinct-left, distinct-apart}
+use Rattle.cfb_format.proofs.Walks.{regular-le}
+use Rattle.cfb_format.proofs.Members.{Contains-nil, Contains-here, Contains-one, none_distinct, distinct-push, distinct-left, distinct-apart}
 
 -- ---- which sectors were pointed to so far
 

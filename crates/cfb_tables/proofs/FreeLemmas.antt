@@ -8,7 +8,9 @@ use Rattle.std.proofs.lemmas.Bool.{cases_eq, cases_lt}
 use Rattle.cfb_format.specs.Bytes.{free_sector}
 use Rattle.cfb_format.specs.Chain.{value}
 use Rattle.cfb_tables.specs.Changes.{ListsFree, NoneFree}
-use Rattle.cfb_tables.proofs.Members.{Contains-nil, Contains-here, Contains-there, Contains-cases, none_distinct, distinct-left, distinct-right, distinct-apart, distinct-push, value-below, value-past, value-set, value-set_other, value-left, value-right}
+use Rattle.cfb_tables.proofs.Members.{value-past, value-set, value-set_other, value-left, value-right}
+use Rattle.cfb_format.proofs.Members.{Contains-nil, Contains-here, Contains-there, Contains-cases, none_distinct, distinct-left, distinct-right, distinct-apart, distinct-push}
+use Rattle.cfb_format.proofs.Walks.{value-below}
 
 -- going up through the table
 
@@ -120,7 +122,7 @@ bit_yes y e = rw e refl
 bit_no : (y : ℕ) → y ≢ free_sector → bit y ≡ 0
 bit_no y ne = ap (λ (b : Bool). cond {A = ℕ} b 1 0) (ne_eqb y free_sector ne)
 
-count-cons : (y : ℕ) (table : List ℕ) → free_count (y ∷ table) ≡ bit y + free_count table
+pub count-cons : (y : ℕ) (table : List ℕ) → free_count (y ∷ table) ≡ bit y + free_count table
 count-cons y table = sum_by-cons bit y table
 
 pub count-most : (table : List ℕ) → free_count table ≤ length table

@@ -19,3 +19,4 @@ pub mod ListedLemmas
 pub mod WordLemmas
 pub mod Counts
 pub mod ClosedLemmas
+pub mod Refusals

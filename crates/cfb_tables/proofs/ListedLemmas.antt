@@ -10,11 +10,12 @@ use Rattle.cfb_tables.specs.Changes.{GivesBack}
 use Rattle.cfb_format.proofs.Unique.{IsChain-unique}
 use Rattle.cfb_tables.specs.Tables.{TableState, IsKept, HasTaken, Added, wiped, ending, first_or_end}
 use Rattle.cfb_tables.specs.Listed.{WhatIsLeftIsChain, WhatIsLeftEnds, EndsChain, last_or_end, ends_of, gained}
-use Rattle.cfb_tables.proofs.Members.{Contains-here, distinct-apart, value-below}
-use Rattle.cfb_tables.proofs.ChainLemmas.{chain_of, chain-turn, chain-rest, members-busy, regular-le}
+use Rattle.cfb_tables.proofs.ChainLemmas.{chain-turn, chain-rest, members-busy}
 use Rattle.cfb_tables.proofs.FreeLemmas.{lists-count, count-most}
 use Rattle.cfb_tables.proofs.KeptLemmas.{kept-push}
 use Rattle.cfb_tables.proofs.AttachLemmas.{wiped-freed, extended, last-known}
+use Rattle.cfb_format.proofs.Members.{Contains-here, distinct-apart}
+use Rattle.cfb_format.proofs.Walks.{value-below, chain_of, regular-le}
 
 -- ---- room in the list of free numbers
 

@@ -5,11 +5,11 @@ use Rattle.cfb_format.specs.Bytes.{end_of_chain, max_regular_sector}
 use Rattle.cfb_format.specs.Chain.{value, IsChain}
 use Rattle.cfb_tables.specs.declared.lists.Sizes.{Sizes}
 use Rattle.cfb_tables.specs.Tables.{TableState, Kept, IsKept, IsPrepared, CanHold, AreSizes, HasTaken, TakesNext, sizes_of, sizes_after, grown_sizes, numbers_needed, grown_state}
-use Rattle.cfb_tables.proofs.Members.{value-at, value-below, value-set}
-use Rattle.cfb_tables.proofs.ChainLemmas.{chain_of, le-regular}
+use Rattle.cfb_tables.proofs.Members.{value-set}
 use Rattle.cfb_tables.proofs.SizeLemmas.{after-one, sizes-rise, are-sizes-grown}
 use Rattle.cfb_tables.proofs.KeptLemmas.{sizes-grown}
 use Rattle.cfb_tables.proofs.TakenLemmas.{taken-pop, taken-grown, grown-ended}
+use Rattle.cfb_format.proofs.Walks.{value-at, value-below, chain_of, le-regular}
 
 module _ (k : Kept) (n : ℕ) (p : IsPrepared k (suc n)) (none : k.free ≡ []) where
   abbrev grown_once : Sizes

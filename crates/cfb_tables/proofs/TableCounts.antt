@@ -75,7 +75,7 @@ counts-grown v s places = elim (needed-cases v s) [
 
 -- ---- one growth after another
 
-fats-rise : (v : Version) (n m : ℕ) → n ≤ m → rounded_up n (words_per_sector v) ≤ rounded_up m (words_per_sector v)
+pub fats-rise : (v : Version) (n m : ℕ) → n ≤ m → rounded_up n (words_per_sector v) ≤ rounded_up m (words_per_sector v)
 fats-rise V3 n m h = omega (arith, h)
 fats-rise V4 n m h = omega (arith, h)
 

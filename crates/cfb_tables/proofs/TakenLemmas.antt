@@ -12,11 +12,13 @@ use Rattle.cfb_format.specs.Full.{free_count, rounded_up}
 use Rattle.cfb_format.specs.Header.{header_difat_len}
 use Rattle.cfb_tables.specs.Changes.{NoneFree}
 use Rattle.cfb_tables.specs.Tables.{TableState, HasTaken, AreExactTables, IsKept, sizes_of, sizes_after, numbers_needed, grown_sizes, grown_state}
-use Rattle.cfb_tables.proofs.Members.{Contains-nil, Contains-cases, Contains-one, Contains-or, in_three, first_of_three, second_of_three, third_of_three, none_distinct, one_distinct, distinct-join, value-below, value-past, value-set, value-set_other, value-left, value-right}
+use Rattle.cfb_tables.proofs.Members.{in_three, first_of_three, second_of_three, third_of_three, value-past, value-set, value-set_other, value-left, value-right}
 use Rattle.cfb_tables.proofs.FreeLemmas.{none-free, count-set, count-busy, count-none}
 use Rattle.cfb_tables.proofs.SizeLemmas.{needed-cases, after-none, after-one, after-more}
 use Rattle.cfb_tables.proofs.KeptLemmas.{sizes-grown}
 use Rattle.cfb_tables.proofs.TableCounts.{Counts, HasPlaces, counts-same, counts-grown, counts-then, counts-of}
+use Rattle.cfb_format.proofs.Members.{Contains-nil, Contains-cases, Contains-one, Contains-or, none_distinct, one_distinct, distinct-join}
+use Rattle.cfb_format.proofs.Walks.{value-below}
 
 -- the sizes are the same
 counts-set : (t : TableState) (fat : List ℕ) → length fat ≡ length t.fat → HasPlaces t.version (sizes_of t) → Counts t.version t.version (sizes_of t) (sizes_of (record t { fat = fat }))

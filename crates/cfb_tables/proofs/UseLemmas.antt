@@ -1,16 +1,16 @@
 -- What is used of a table, and how that changes.
-use Rattle.std.proofs.Common.{◌≡◌, ◌≢◌, ℕ, ◌⊎◌, inl, inr, List, [], ◌∷◌, ◌++◌, sym, ◌∙◌, ap, subst, arith}
+use Rattle.std.proofs.Common.{◌≢◌, ℕ, ◌⊎◌, inl, inr, List, ◌++◌, sym, ◌∙◌, subst, arith}
 use Rattle.std.specs.Prelude.{Contains, nat_eq, IsTrue}
 use Rattle.std.specs.List.{IsDistinct}
 use Rattle.std.proofs.lemmas.List.Elements.{Contains-append_left, Contains-append_right, Contains-append_cases}
-use Rattle.cfb_format.specs.Bytes.{is_regular, free_sector, end_of_chain}
+use Rattle.cfb_format.specs.Bytes.{is_regular, free_sector}
 use Rattle.cfb_format.specs.Chain.{value}
 use Rattle.cfb_format.specs.Soundness.{IsLoose}
-use Rattle.cfb_tables.specs.Changes.{GivesBack}
 use Rattle.cfb_tables.specs.Tables.{TableState, HasTaken}
 use Rattle.cfb_tables.specs.Owners.{Uses, AllUsed, UseChanges, Takes, Frees, GivenBackIsFreeing}
-use Rattle.cfb_tables.proofs.Members.{Contains-nil, Contains-one, Contains-or, in_three, distinct-left, distinct-right, distinct-apart, distinct-join, first_of_three, second_of_three, third_of_three}
+use Rattle.cfb_tables.proofs.Members.{in_three, first_of_three, second_of_three, third_of_three}
 use Rattle.cfb_tables.proofs.TakenLemmas.{taken-busy, three-distinct}
+use Rattle.cfb_format.proofs.Members.{Contains-or, distinct-left, distinct-right, distinct-apart, distinct-join}
 
 -- ---- members of three lists one after the other
 

@@ -14,7 +14,7 @@ use Rattle.cfb_format.specs.Header.{IfStrict}
 use Rattle.cfb_format.proofs.Words.{whole-below}
 use Rattle.cfb_tables.specs.ReadFat.{AcceptsFat, HasStrictWords, is_padding_in}
 use Rattle.cfb_tables.specs.ReadWords.{PaddingIsApart, TableSectorsAreInFile, DifatSectorsAreFew}
-use Rattle.cfb_tables.proofs.Members.{Contains-nil, Contains-cases}
+use Rattle.cfb_format.proofs.Members.{Contains-nil, Contains-cases}
 
 -- ---- padding
 

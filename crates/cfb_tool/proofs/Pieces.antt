@@ -9,7 +9,7 @@ use Rattle.cfb_format.specs.declared.medium.MediumFault.{MediumFault}
 use Rattle.cfb_format.specs.Refused.{number_of}
 use Rattle.cfb_rules.specs.Lists.{Command}
 use Rattle.cfb_rules.specs.Refusal.{refusal_number}
-use Rattle.cfb_agreement.specs.Files.{FileState}
+use Rattle.cfb_tool.specs.cfb_agreement.Files.{FileState}
 use Rattle.cfb_commands.specs.declared.command.Command.{Command as TheCommand}
 use Rattle.cfb_commands.specs.Commands.{command_of, refusal_of}
 use Rattle.cfb_tool.specs.Playing.{ArePlayed, IsPlayed}

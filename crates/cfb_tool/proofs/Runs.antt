@@ -7,18 +7,18 @@ use Rattle.cfb_format.specs.declared.medium.MediumFault.{MediumFault}
 use Rattle.cfb_rules.specs.Lists.{Command, CommandReply, Deed, FileView, IsLegalRun}
 use Rattle.cfb_rules.specs.Refusal.{Refusal, medium_failed, out_of_memory}
 use Rattle.cfb_rules.specs.Runs.{Setting}
-use Rattle.cfb_agreement.specs.Files.{FileState}
-use Rattle.cfb_path_changes.specs.Answers.{setting_of}
+use Rattle.cfb_tool.specs.cfb_agreement.Files.{FileState}
+use Rattle.cfb_tool.specs.cfb_path_changes.Answers.{setting_of}
 use Rattle.cfb_commands.specs.Promised.{promised}
 use Rattle.cfb_commands.specs.Seen.{seen_as, standing_at}
-use Rattle.cfb_commands.proofs.Before.{setting_same}
 use Rattle.cfb_commands.proofs.Made.{run_stays}
 use Rattle.cfb_commands.specs.declared.command.Command.{Command as TheCommand}
 use Rattle.cfb_commands.specs.declared.command.Reply.{Reply as TheReply}
 use Rattle.cfb_commands.specs.Commands.{command_of, refusal_of, reply_of}
 use Rattle.cfb_commands.specs.Working.{RunsLegally}
-use Rattle.cfb_tool.specs.Playing.{AddsAll, ArePlayed, IsAdded, IsPlayed, PlaysOnce, PlaysOne, addition, bytes_written, is_all_done, path_written, taken_in, told_line, told_lines}
+use Rattle.cfb_tool.specs.Playing.{AddsInTurn, ArePlayed, IsAdded, IsPlayed, PlaysOnce, addition, bytes_written, is_all_done, path_written, told_line, told_lines}
 use Rattle.cfb_tool.proofs.Turns.{adds_more, adds_not, adds_nothing, adds_refused, adds_stuck, done_more, done_not, lines_more, plays_more, plays_on, plays_refused}
+use Rattle.cfb_commands.proofs.Before.{setting_same}
 
 module _ {S : Type 0} (seen : S → FileView) (promised : S → Deed → S → Type 0) (setting : Setting) where
   legal_then : (old middle new : S) (commands others : List Command) (replies later : List CommandReply)
@@ -71,15 +71,15 @@ module _ (can_give : MediumFault → Bool) (old : FileState) (path bytes : List 
   pub record IsAdding (rest : List ℕ) (now : FileState) : Type 0 where
     pub commands : List Command
     pub replies : List CommandReply
-    pub goes : (others : List Command) (later : List CommandReply) (told : Option Refusal) → AddsAll path rest others later told
-        → AddsAll path bytes (commands ++ others) (replies ++ later) told
+    pub goes : (others : List Command) (later : List CommandReply) (told : Option Refusal) → AddsInTurn path rest others later told
+        → AddsInTurn path bytes (commands ++ others) (replies ++ later) told
     pub runs : RunsLegally can_give old commands replies now
 
   pub adding_none : IsAdding bytes old
   adding_none = record { commands = []; replies = []; goes = λ others later told h. h; runs = runs_none can_give old }
 
   module _ (rest : List ℕ) (now : FileState) (a : IsAdding rest now) where
-    added : (next : FileState) (others : List Command) (later : List CommandReply) (told : Option Refusal) → AddsAll path rest others later told → RunsLegally can_give now others later next
+    added : (next : FileState) (others : List Command) (later : List CommandReply) (told : Option Refusal) → AddsInTurn path rest others later told → RunsLegally can_give now others later next
         → IsAdded can_give old path bytes told next
     added next others later told adds runs = record {
       commands = a.commands ++ others;
@@ -107,10 +107,10 @@ module _ (can_give : MediumFault → Bool) (old : FileState) (path bytes : List 
         commands = a.commands ++ addition path rest ∷ [];
         replies = a.replies ++ h.0 ∷ [];
         goes = λ others later told adds.
-            subst (λ (cs : List Command). AddsAll path bytes cs ((a.replies ++ h.0 ∷ []) ++ later) told) (sym (append_assoc {A = Command} a.commands (addition path rest ∷ []) others))
-            (subst (λ (rs : List CommandReply). AddsAll path bytes (a.commands ++ addition path rest ∷ others) rs told) (sym (append_assoc {A = CommandReply} a.replies (h.0 ∷ []) later))
+            subst (λ (cs : List Command). AddsInTurn path bytes cs ((a.replies ++ h.0 ∷ []) ++ later) told) (sym (append_assoc {A = Command} a.commands (addition path rest ∷ []) others))
+            (subst (λ (rs : List CommandReply). AddsInTurn path bytes (a.commands ++ addition path rest ∷ others) rs told) (sym (append_assoc {A = CommandReply} a.replies (h.0 ∷ []) later))
             (a.goes (addition path rest ∷ others) (h.0 ∷ later) told (adds_more path rest some h.0 others later told h.2.0 (subst (λ (m : ℕ). 0 < m) h.2.1 took)
-            (subst (λ (m : ℕ). AddsAll path (drop m rest) others later told) h.2.1 adds))));
+            (subst (λ (m : ℕ). AddsInTurn path (drop m rest) others later told) h.2.1 adds))));
         runs = runs_then can_give old now next a.commands (addition path rest ∷ []) a.replies (h.0 ∷ []) a.runs h.1;
       }
 
@@ -132,7 +132,7 @@ module _ (can_give : MediumFault → Bool) (old : FileState) (asked : Command) w
       commands = asked ∷ a.commands;
       replies = h.0 ∷ a.replies;
       plays = plays_on asked h.0 a.commands a.replies told h.2.0
-          (subst (λ (m : ℕ). AddsAll (path_written asked) (drop m (bytes_written asked)) a.commands a.replies told) h.2.1 a.adds);
+          (subst (λ (m : ℕ). AddsInTurn (path_written asked) (drop m (bytes_written asked)) a.commands a.replies told) h.2.1 a.adds);
       runs = runs_then can_give old middle new (asked ∷ []) a.commands (h.0 ∷ []) a.replies h.1 a.runs;
     }
 

@@ -23,7 +23,7 @@ use Rattle.cfb_rules.proofs.DoneSteps.{allowed_test, done_step, no_refusal}
 use Rattle.cfb_rules.proofs.FoundAfter.{emptied_stream}
 use Rattle.cfb_tool.specs.Content.{HasStream, WritesAll, WritesOn}
 use Rattle.cfb_tool.specs.Laws.{AddedIsStored, Keeps, PutIsStored, WrittenIsStored}
-use Rattle.cfb_tool.specs.Playing.{AddsAll, PlaysOne, Unless, addition, bytes_written, first_of, first_refusal, path_written, refusal_in, refusal_of_call, refusal_of_work, taken_by_work, taken_in}
+use Rattle.cfb_tool.specs.Playing.{AddsInTurn, PlaysOne, Unless, addition, bytes_written, first_of, first_refusal, path_written, refusal_in, refusal_of_call, refusal_of_work, taken_by_work, taken_in}
 
 -- ---- a stream that was made or emptied
 
@@ -345,7 +345,7 @@ module _ {S : Type 0} (seen : S → FileView) (promised : S → Deed → S → T
 
   -- what is left is added in turn
   adds_all : (old new : S) (path before bytes : List ℕ) (commands : List Command) (replies : List CommandReply) → Keeps seen promised setting old path before
-      → AddsAll path bytes commands replies None → IsLegalRun seen promised setting old commands replies new → Keeps seen promised setting new path (before ++ bytes)
+      → AddsInTurn path bytes commands replies None → IsLegalRun seen promised setting old commands replies new → Keeps seen promised setting new path (before ++ bytes)
   adds_all old new path before bytes [] [] keeps adds run = go (length bytes == 0) refl adds
     where
       none_not_some : IsTold None (Some out_of_memory) → ⊥
@@ -360,10 +360,10 @@ module _ {S : Type 0} (seen : S → FileView) (promised : S → Deed → S → T
   adds_all old new path before bytes (command ∷ commands) (reply ∷ replies) keeps adds (middle, runs, rest) =
       go (λ added more. adds_all middle new path (before ++ take (taken_in reply) bytes) (drop (taken_in reply) bytes) commands replies added more rest) (length bytes == 0) adds
     where
-      goes : ((added : Keeps seen promised setting middle path (before ++ take (taken_in reply) bytes)) → AddsAll path (drop (taken_in reply) bytes) commands replies None
+      goes : ((added : Keeps seen promised setting middle path (before ++ take (taken_in reply) bytes)) → AddsInTurn path (drop (taken_in reply) bytes) commands replies None
           → Keeps seen promised setting new path (before ++ take (taken_in reply) bytes ++ drop (taken_in reply) bytes))
           → command ≡ addition path bytes → (o : Option Refusal) → refusal_in reply ≡ o → (b : Bool)
-          → Unless o commands replies None (MatchBool b ((commands ≡ []) × (replies ≡ []) × IsTold None (Some medium_failed)) (AddsAll path (drop (taken_in reply) bytes) commands replies None))
+          → Unless o commands replies None (MatchBool b ((commands ≡ []) × (replies ≡ []) × IsTold None (Some medium_failed)) (AddsInTurn path (drop (taken_in reply) bytes) commands replies None))
           → Keeps seen promised setting new path (before ++ bytes)
       goes next is (Some r) e b h = absurd (some_not_none r (sym h.2))
       goes next is None e true h = absurd (some_not_none medium_failed (sym h.2))
@@ -373,12 +373,12 @@ module _ {S : Type 0} (seen : S → FileView) (promised : S → Deed → S → T
           (append_assoc {A = ℕ} before (take (taken_in reply) bytes) (drop (taken_in reply) bytes) ∙ ap (λ (bs : List ℕ). before ++ bs) (take-append-drop (taken_in reply) bytes))
           (next (add_some old middle path before bytes reply keeps.1 e run_added) h)
 
-      go : ((added : Keeps seen promised setting middle path (before ++ take (taken_in reply) bytes)) → AddsAll path (drop (taken_in reply) bytes) commands replies None
+      go : ((added : Keeps seen promised setting middle path (before ++ take (taken_in reply) bytes)) → AddsInTurn path (drop (taken_in reply) bytes) commands replies None
           → Keeps seen promised setting new path (before ++ take (taken_in reply) bytes ++ drop (taken_in reply) bytes))
           → (b : Bool) → MatchBool b ⊥ ((command ≡ addition path bytes) × Unless (refusal_in reply) commands replies None (
           MatchBool (taken_in reply == 0)
           ((commands ≡ []) × (replies ≡ []) × IsTold None (Some medium_failed))
-          (AddsAll path (drop (taken_in reply) bytes) commands replies None)
+          (AddsInTurn path (drop (taken_in reply) bytes) commands replies None)
           )) → Keeps seen promised setting new path (before ++ bytes)
       go next true h = absurd h
       go next false h = goes next h.0 (refusal_in reply) refl (taken_in reply == 0) h.1
@@ -397,13 +397,13 @@ module _ {S : Type 0} (seen : S → FileView) (promised : S → Deed → S → T
   played_on setting old new asked path before bytes (command ∷ commands) (reply ∷ replies) at is first plays (middle, runs, rest) = go (refusal_in reply) refl plays.1
     where
       go : (o : Option Refusal) → refusal_in reply ≡ o
-          → Unless o commands replies None (AddsAll (path_written asked) (drop (taken_in reply) (bytes_written asked)) commands replies None)
+          → Unless o commands replies None (AddsInTurn (path_written asked) (drop (taken_in reply) (bytes_written asked)) commands replies None)
           → Keeps seen promised setting new path (before ++ bytes)
       go (Some r) e h = absurd (some_not_none r (sym h.2))
       go None e h =
           let run_asked = subst (λ (c : Command). CommandRuns seen promised setting old c reply middle) plays.0 runs in
-          let adds = subst (λ (p : List ℕ). AddsAll p (drop (taken_in reply) bytes) commands replies None) at
-          (subst (λ (bs : List ℕ). AddsAll (path_written asked) (drop (taken_in reply) bs) commands replies None) is h) in
+          let adds = subst (λ (p : List ℕ). AddsInTurn p (drop (taken_in reply) bytes) commands replies None) at
+          (subst (λ (bs : List ℕ). AddsInTurn (path_written asked) (drop (taken_in reply) bs) commands replies None) is h) in
           subst (λ (bs : List ℕ). Keeps seen promised setting new path bs)
           (append_assoc {A = ℕ} before (take (taken_in reply) bytes) (drop (taken_in reply) bytes) ∙ ap (λ (bs : List ℕ). before ++ bs) (take-append-drop (taken_in reply) bytes))
           (adds_all seen promised setting middle new path (before ++ take (taken_in reply) bytes) (drop (taken_in reply) bytes) commands replies (first middle reply e run_asked) adds rest)

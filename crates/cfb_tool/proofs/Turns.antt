@@ -4,7 +4,7 @@ use Rattle.std.proofs.lemmas.Bool.{eqb-true}
 use Rattle.std.specs.Prelude.{MatchBool, Option, Some, None}
 use Rattle.cfb_rules.specs.Lists.{Command, CommandReply}
 use Rattle.cfb_rules.specs.Refusal.{Refusal, medium_failed, out_of_memory}
-use Rattle.cfb_tool.specs.Playing.{AddsAll, PlaysAll, PlaysOne, Unless, addition, bytes_written, is_all_done, path_written, refusal_in, taken_in, told_line, told_lines}
+use Rattle.cfb_tool.specs.Playing.{AddsInTurn, PlaysAll, PlaysOne, Unless, addition, bytes_written, is_all_done, path_written, refusal_in, taken_in, told_line, told_lines}
 
 -- ---- what is left is added
 
@@ -20,11 +20,11 @@ Stops commands replies told = (commands ≡ []) × (replies ≡ []) × (told ≡
 abbrev Tells : Option Refusal → Option Refusal → Type 0
 Tells told what = told ≡ what
 
-pub adds_nothing : (path bytes : List ℕ) → length bytes ≡ 0 → AddsAll path bytes [] [] None
+pub adds_nothing : (path bytes : List ℕ) → length bytes ≡ 0 → AddsInTurn path bytes [] [] None
 adds_nothing path bytes e = subst (λ (b : Bool). MatchBool b (Tells None None) (Tells None (Some out_of_memory))) (sym (none_left (length bytes) e)) refl
 
 -- memory was refused for the command
-pub adds_not : (path bytes : List ℕ) → 0 < length bytes → AddsAll path bytes [] [] (Some out_of_memory)
+pub adds_not : (path bytes : List ℕ) → 0 < length bytes → AddsInTurn path bytes [] [] (Some out_of_memory)
 adds_not path bytes some = subst (λ (b : Bool). MatchBool b (Tells (Some out_of_memory) None) (Tells (Some out_of_memory) (Some out_of_memory))) (sym (some_left (length bytes) some)) refl
 
 module _ (path bytes : List ℕ) (some : 0 < length bytes) (reply : CommandReply) where
@@ -33,29 +33,29 @@ module _ (path bytes : List ℕ) (some : 0 < length bytes) (reply : CommandReply
   Follows commands replies told refusal = Unless refusal commands replies told (
       MatchBool (taken_in reply == 0)
       ((commands ≡ []) × (replies ≡ []) × (told ≡ Some medium_failed))
-      (AddsAll path (drop (taken_in reply) bytes) commands replies told)
+      (AddsInTurn path (drop (taken_in reply) bytes) commands replies told)
       )
 
   adds_so : (commands : List Command) (replies : List CommandReply) (told : Option Refusal) → Follows commands replies told (refusal_in reply)
-      → AddsAll path bytes (addition path bytes ∷ commands) (reply ∷ replies) told
+      → AddsInTurn path bytes (addition path bytes ∷ commands) (reply ∷ replies) told
   adds_so commands replies told h =
       subst (λ (b : Bool). MatchBool b ⊥ ((addition path bytes ≡ addition path bytes) × Follows commands replies told (refusal_in reply))) (sym (some_left (length bytes) some)) (refl, h)
 
   -- it was refused
-  pub adds_refused : (refusal : Refusal) → refusal_in reply ≡ Some refusal → AddsAll path bytes (addition path bytes ∷ []) (reply ∷ []) (Some refusal)
+  pub adds_refused : (refusal : Refusal) → refusal_in reply ≡ Some refusal → AddsInTurn path bytes (addition path bytes ∷ []) (reply ∷ []) (Some refusal)
   adds_refused refusal is = adds_so [] [] (Some refusal) (subst (λ (o : Option Refusal). Follows [] [] (Some refusal) o) (sym is) (refl, refl, refl))
 
   -- it took nothing
-  pub adds_stuck : refusal_in reply ≡ None → taken_in reply ≡ 0 → AddsAll path bytes (addition path bytes ∷ []) (reply ∷ []) (Some medium_failed)
+  pub adds_stuck : refusal_in reply ≡ None → taken_in reply ≡ 0 → AddsInTurn path bytes (addition path bytes ∷ []) (reply ∷ []) (Some medium_failed)
   adds_stuck is none = adds_so [] [] (Some medium_failed) (subst (λ (o : Option Refusal). Follows [] [] (Some medium_failed) o) (sym is)
-      (subst (λ (b : Bool). MatchBool b (Stops [] [] (Some medium_failed)) (AddsAll path (drop (taken_in reply) bytes) [] [] (Some medium_failed)))
+      (subst (λ (b : Bool). MatchBool b (Stops [] [] (Some medium_failed)) (AddsInTurn path (drop (taken_in reply) bytes) [] [] (Some medium_failed)))
       (sym (none_left (taken_in reply) none)) (refl, refl, refl)))
 
   -- it took some
   pub adds_more : (commands : List Command) (replies : List CommandReply) (told : Option Refusal) → refusal_in reply ≡ None → 0 < taken_in reply
-      → AddsAll path (drop (taken_in reply) bytes) commands replies told → AddsAll path bytes (addition path bytes ∷ commands) (reply ∷ replies) told
+      → AddsInTurn path (drop (taken_in reply) bytes) commands replies told → AddsInTurn path bytes (addition path bytes ∷ commands) (reply ∷ replies) told
   adds_more commands replies told is took h = adds_so commands replies told (subst (λ (o : Option Refusal). Follows commands replies told o) (sym is)
-      (subst (λ (b : Bool). MatchBool b ((commands ≡ []) × (replies ≡ []) × (told ≡ Some medium_failed)) (AddsAll path (drop (taken_in reply) bytes) commands replies told))
+      (subst (λ (b : Bool). MatchBool b ((commands ≡ []) × (replies ≡ []) × (told ≡ Some medium_failed)) (AddsInTurn path (drop (taken_in reply) bytes) commands replies told))
       (sym (some_left (taken_in reply) took)) h))
 
 -- ---- one command
@@ -64,15 +64,15 @@ module _ (asked : Command) (reply : CommandReply) where
   pub plays_refused : (refusal : Refusal) → refusal_in reply ≡ Some refusal → PlaysOne asked (asked ∷ []) (reply ∷ []) (Some refusal)
   plays_refused refusal is = (
     refl,
-    subst (λ (o : Option Refusal). Unless o [] [] (Some refusal) (AddsAll (path_written asked) (drop (taken_in reply) (bytes_written asked)) [] [] (Some refusal)))
+    subst (λ (o : Option Refusal). Unless o [] [] (Some refusal) (AddsInTurn (path_written asked) (drop (taken_in reply) (bytes_written asked)) [] [] (Some refusal)))
         (sym is) (refl, refl, refl),
   )
 
   pub plays_on : (commands : List Command) (replies : List CommandReply) (told : Option Refusal) → refusal_in reply ≡ None
-      → AddsAll (path_written asked) (drop (taken_in reply) (bytes_written asked)) commands replies told → PlaysOne asked (asked ∷ commands) (reply ∷ replies) told
+      → AddsInTurn (path_written asked) (drop (taken_in reply) (bytes_written asked)) commands replies told → PlaysOne asked (asked ∷ commands) (reply ∷ replies) told
   plays_on commands replies told is adds = (
     refl,
-    subst (λ (o : Option Refusal). Unless o commands replies told (AddsAll (path_written asked) (drop (taken_in reply) (bytes_written asked)) commands replies told))
+    subst (λ (o : Option Refusal). Unless o commands replies told (AddsInTurn (path_written asked) (drop (taken_in reply) (bytes_written asked)) commands replies told))
         (sym is) adds,
   )
 

@@ -1,40 +1,29 @@
 -- What is put is stored.
-use Rattle.std.proofs.Common.{◌≡◌, ◌∙◌, ℕ, Bool, true, false, List, [], ◌∷◌, refl, sym, ap, subst}
+use Rattle.std.proofs.Common.{ℕ, Bool, List, [], ◌∷◌, refl, sym, subst}
 use Rattle.std.specs.Prelude.{None, OnOk, Result, Ok, Err}
-use Rattle.cfb_format.specs.Created.{empty_tree}
 use Rattle.cfb_format.specs.declared.error.Error.{Error}
 use Rattle.cfb_format.specs.declared.medium.MediumFault.{MediumFault}
 use Rattle.cfb_format.specs.Names.{Cases}
 use Rattle.cfb_format.specs.Tree.{Tree}
 use Rattle.cfb_format.proofs.Unique.{Means-unique}
 use Rattle.cfb_rules.specs.Lists.{creates, on_stream}
-use Rattle.cfb_mini_sectors.specs.State.{bytes_of, cases_of}
-use Rattle.cfb_agreement.specs.Files.{Agrees, FileState, is_failed}
-use Rattle.cfb_agreement.proofs.HeldBytes.{held-means-its-tree}
-use Rattle.cfb_path_changes.specs.Answers.{MeansTree, setting_of}
+use Rattle.cfb_tool.specs.cfb_mini_sectors.State.{bytes_of, cases_of}
+use Rattle.cfb_tool.specs.cfb_agreement.Files.{Agrees, FileState}
+use Rattle.cfb_tool.specs.cfb_path_changes.Answers.{MeansTree, setting_of}
 use Rattle.cfb_commands.specs.Promised.{promised}
 use Rattle.cfb_commands.specs.Seen.{seen_as, standing_at}
-use Rattle.cfb_commands.proofs.CallSteps.{setting_none}
 use Rattle.cfb_commands.proofs.Made.{run_stays}
 use Rattle.cfb_commands.specs.Commands.{closing_of}
 use Rattle.cfb_tool.specs.Content.{HasStream, HoldsStream, IsPut}
 use Rattle.cfb_tool.proofs.Stored.{written_is_stored}
-
--- the bytes of each file mean some tree, unless it has failed
-some_tree : (file : FileState) → Agrees file → (tree : Tree) × MeansTree file tree
-some_tree file agrees = go (is_failed file) refl
-  where
-    go : (b : Bool) → is_failed file ≡ b → (tree : Tree) × MeansTree file tree
-    go true failed = (empty_tree, λ calm. absurd (let w : true ≡ false = sym failed ∙ calm in cc))
-    go false calm =
-        let held = agrees calm in
-        (_, λ _. held-means-its-tree file held.outline held held.reads.outline)
+use Rattle.cfb_tool.proofs.cfb_volume.Settings.{setting-same}
+use Rattle.cfb_commands.proofs.Runs.{some_tree}
 
 module _ (can_give : MediumFault → Bool) (old new : FileState) (path bytes : List ℕ) where
   stored : Agrees old → IsPut can_give old path bytes None new → (tree : Tree) → MeansTree new tree → HasStream (cases_of new.base) tree path bytes
   stored agrees put tree means =
       let t = some_tree old agrees in
-      let a = put.answers old t.0 (setting_none old) t.1 in
+      let a = put.answers old t.0 (setting-same old) t.1 in
       let stays = run_stays can_give (setting_of old) (standing_at old t.0) (standing_at new a.0) (on_stream creates path put.calls ∷ []) (put.reply ∷ []) (standing_at new a.0, a.2, refl) in
       let kept = written_is_stored seen_as (promised can_give) (setting_of old) (standing_at old t.0) (standing_at new a.0) path bytes put.calls put.reply put.writes (sym put.tells) a.2 in
       subst (λ (u : Tree). HasStream (cases_of new.base) u path bytes)

@@ -4,6 +4,8 @@ use Rattle.std.proofs.lemmas.Bool.{ltb-false}
 use Rattle.std.specs.Prelude.{◌⊎◌, ◌&&◌, Err, IsTrue, MatchBool, MatchOption, Option, Result, Some, None, nat_lt, option_and_then, unwrap_or, ⊤}
 use Rattle.std.specs.Option.{option_map_or}
 use Rattle.cfb_format.specs.declared.error.Error.{Error}
+use Rattle.cfb_format.specs.declared.error.Error.TheVariants.{NotFound, AlreadyExists, InvalidInput, InvalidData, Medium, Memory, Full, Unsound, Failed}
+use Rattle.cfb_format.specs.Refused.{CountsError}
 use Rattle.cfb_format.specs.declared.medium.MediumFault.{MediumFault}
 use Rattle.cfb_format.specs.Names.{Cases}
 use Rattle.cfb_format.specs.Path.{names_of_path}
@@ -16,15 +18,16 @@ use Rattle.cfb_rules.specs.Refusal.{Refusal, failed_earlier, invalid_data, inval
 use Rattle.cfb_rules.specs.Runs.{BlamesOneOf, CallRuns, Causes, Closes, FollowsRules, IsBroken, IsStreamBroken, Setting, StreamCallRuns, StreamOnFailed, StreamRun, TreeState, opened_by_path, stream_fields}
 use Rattle.cfb_rules.specs.StreamCalls.{Moves, ReadToEnd, StreamReply, StreamSetting, StreamState, StreamStep, got, not_done, opened, read_to_end}
 use Rattle.cfb_rules.proofs.DoneSteps.{allowed_object, done_step}
-use Rattle.cfb_mini_sectors.specs.State.{cases_of}
-use Rattle.cfb_agreement.specs.Files.{FileState, is_failed}
-use Rattle.cfb_path_changes.specs.Answers.{Answers, MeansTree, RunsOn, causes_of_call, setting_of, state_with}
-use Rattle.cfb_compound_file.specs.OpenedStreams.{BeginsAt, IsOpenedAt}
-use Rattle.cfb_compound_file.specs.StreamAnswers.{IsStreamRefused, OpenStream, StreamRunsBy, causes_of_reading, closing_of, run_in, stored_in, stream_in}
-use Rattle.cfb_stream_buffer.specs.Contents.{stream_setting_of}
+use Rattle.cfb_tool.specs.cfb_mini_sectors.State.{cases_of}
+use Rattle.cfb_tool.specs.cfb_agreement.Files.{FileState, failures_of, is_failed}
+use Rattle.cfb_tool.specs.cfb_path_changes.Answers.{Answers, MeansTree, RunsOn, causes_of_call, setting_of, state_with}
+use Rattle.cfb_tool.specs.cfb_compound_file.Asking.{IsOfOpeningStream}
+use Rattle.cfb_tool.specs.cfb_compound_file.OpenedStreams.{BeginsAt, IsOpenedAt}
+use Rattle.cfb_tool.specs.cfb_compound_file.StreamAnswers.{IsStreamRefused, OpenStream, StreamRunsBy, causes_of_reading, closing_of, run_in, stored_in, stream_in}
+use Rattle.cfb_tool.specs.cfb_stream_buffer.Contents.{stream_setting_of}
 use Rattle.cfb_commands.specs.Commands.{refusal_of}
 use Rattle.cfb_commands.proofs.Errors.{known}
-use Rattle.cfb_stream_window.specs.Windows.{Runs, Suits, Window}
+use Rattle.cfb_tool.specs.cfb_stream_window.Windows.{Runs, Suits, Window}
 use Rattle.cfb_tool.specs.Content.{HasStream, HoldsStream, IsUnread}
 
 -- ---- by the rules
@@ -175,3 +178,16 @@ closes_calm {T = T} s next causes later bytes runs result e was failed closes =
         (IsTrue (run_in next).stream.pending × BlamesOneOf later.medium ⊤ later.full failed_earlier × (failed ≡ true)) → ⊥
     go true not h = absurd (let w : true ≡ false = not in cc)
     go false not h = h.1
+
+-- an opening that was refused has asked the medium nothing
+module _ (can_give : MediumFault → Bool) (old new : FileState) (same : new ≡ old) where
+  pub opening_counts : (e : Error) → IsOfOpeningStream e → CountsError can_give (failures_of old) (failures_of new) e
+  opening_counts (Medium f) why = absurd why
+  opening_counts (NotFound d) why = ap failures_of same
+  opening_counts (AlreadyExists d) why = absurd why
+  opening_counts (InvalidInput d) why = ap failures_of same
+  opening_counts (InvalidData d) why = absurd why
+  opening_counts Memory why = ap failures_of same
+  opening_counts Full why = absurd why
+  opening_counts Unsound why = absurd why
+  opening_counts Failed why = ap failures_of same

@@ -8,16 +8,16 @@ use Rattle.cfb_rules.specs.Calls.{create_stream, refused}
 use Rattle.cfb_rules.specs.Refusal.{Refusal, invalid_input, not_sound}
 use Rattle.cfb_rules.specs.Runs.{Causes, IsStreamBroken, StreamCallRuns, StreamOnFailed, StreamRun, is_served}
 use Rattle.cfb_rules.specs.StreamCalls.{Moves, StreamCall, StreamReply, StreamSetting, StreamState, StreamStep, Write, Wrote, count, not_done, write}
-use Rattle.cfb_agreement.specs.Files.{FileState, SameSetting}
-use Rattle.cfb_stream_buffer.specs.Contents.{stream_setting_of}
-use Rattle.cfb_stream_window.specs.Windows.{Runs}
-use Rattle.cfb_path_changes.specs.Answers.{causes_of}
-use Rattle.cfb_compound_file.specs.StreamAnswers.{OpenStream, StreamRunsOn, run_in, stored_in}
+use Rattle.cfb_tool.specs.cfb_agreement.Files.{FileState, SameSetting}
+use Rattle.cfb_tool.specs.cfb_stream_buffer.Contents.{stream_setting_of}
+use Rattle.cfb_tool.specs.cfb_stream_window.Windows.{Runs}
+use Rattle.cfb_tool.specs.cfb_path_changes.Answers.{causes_of}
+use Rattle.cfb_tool.specs.cfb_compound_file.StreamAnswers.{OpenStream, StreamRunsOn, run_in, stored_in}
 use Rattle.cfb_commands.specs.Promised.{CallKeeps, IsClosedOf, IsOpenSince, IsWorkedOn}
-use Rattle.cfb_commands.specs.Working.{Answers, IsOpenedBy, LendsNothing, Works}
+use Rattle.cfb_commands.specs.Working.{AnswersCommand, IsOpenedBy, LendsNothing, Works}
 use Rattle.cfb_commands.proofs.Openings.{done_so, refused_so}
 use Rattle.cfb_commands.proofs.Working.{works_none, works_on}
-use Rattle.cfb_tool.specs.Content.{IsPut, IsWritten, WritesAll}
+use Rattle.cfb_tool.specs.Content.{IsPut, IsWrittenWhole, WritesAll}
 use Rattle.cfb_tool.specs.Playing.{first_of, first_refusal, refusal_of_work, taken_by_work}
 
 -- ---- a write takes something
@@ -91,7 +91,7 @@ module _ (can_give : MediumFault → Bool) where
       works = works_more (count n) worked;
     }
 
-    pub begun_refused : (refusal : Refusal) → IsWorkedOn now (write rest) (not_done refusal) next → IsWritten can_give old bytes (Some refusal) next
+    pub begun_refused : (refusal : Refusal) → IsWorkedOn now (write rest) (not_done refusal) next → IsWrittenWhole can_give old bytes (Some refusal) next
     begun_refused refusal worked = record {
       calls = b.calls ++ write rest ∷ [];
       replies = b.replies ++ not_done refusal ∷ [];
@@ -100,7 +100,7 @@ module _ (can_give : MediumFault → Bool) where
       works = works_more (not_done refusal) worked;
     }
 
-  pub begun_done : (old : OpenStream) (bytes rest : List ℕ) (now : OpenStream) → IsBegun old bytes rest now → rest ≡ [] → IsWritten can_give old bytes None now
+  pub begun_done : (old : OpenStream) (bytes rest : List ℕ) (now : OpenStream) → IsBegun old bytes rest now → rest ≡ [] → IsWrittenWhole can_give old bytes None now
   begun_done old bytes rest now b none = record {
     calls = b.calls;
     replies = b.replies;
@@ -132,7 +132,7 @@ module _ (can_give : MediumFault → Bool) (old new : FileState) (path bytes : L
   }
 
   pub put_so : (s now : OpenStream) (written closing told : Option Refusal) → IsOpenedBy can_give (create_stream path) old path s
-      → IsWritten can_give s bytes written now → IsClosedOf s.file now closing new → told ≡ first_of written closing → IsPut can_give old path bytes told new
+      → IsWrittenWhole can_give s bytes written now → IsClosedOf s.file now closing new → told ≡ first_of written closing → IsPut can_give old path bytes told new
   put_so s now written closing told o w closed is = record {
     calls = w.calls;
     reply = streamed w.replies closing;

@@ -1,8 +1,9 @@
 -- Streams that are read and written whole.
-use Rattle.std.specs.Prelude.{ℕ, ◌≡◌, ◌⊎◌, Bool, List, [], ◌∷◌, drop, length, Option, Some, None}
+use Rattle.std.specs.Prelude.{ℕ, ◌≡◌, ◌⊎◌, Bool, List, [], ◌∷◌, drop, length, Option, Some, None, Result}
 use Rattle.cfb_format.specs.declared.error.Error.{Error}
 use Rattle.cfb_format.specs.declared.medium.MediumFault.{MediumFault}
 use Rattle.cfb_format.specs.Names.{Cases}
+use Rattle.cfb_format.specs.Refused.{CountsFailure}
 use Rattle.cfb_format.specs.Path.{names_of_path}
 use Rattle.cfb_format.specs.Tree.{StreamInfo, Tree, a_stream}
 use Rattle.cfb_rules.specs.Calls.{done, open_read_stream}
@@ -11,11 +12,11 @@ use Rattle.cfb_rules.specs.Lists.{CommandReply, creates, on_stream, replied, str
 use Rattle.cfb_rules.specs.Refusal.{Refusal}
 use Rattle.cfb_rules.specs.Runs.{StreamCallRuns, StreamRun, opened_by_path}
 use Rattle.cfb_rules.specs.StreamCalls.{StreamCall, StreamReply, answered, count, got, not_done, offset, read_to_end, ready, write}
-use Rattle.cfb_mini_sectors.specs.State.{cases_of}
-use Rattle.cfb_agreement.specs.Files.{FileState, SameSetting, is_failed}
-use Rattle.cfb_path_changes.specs.Answers.{Answers, AnswersNot, MeansTree, setting_of}
-use Rattle.cfb_compound_file.specs.Stored.{kept_of}
-use Rattle.cfb_compound_file.specs.StreamAnswers.{OpenStream, causes_of_reading}
+use Rattle.cfb_tool.specs.cfb_mini_sectors.State.{cases_of}
+use Rattle.cfb_tool.specs.cfb_agreement.Files.{FileState, SameSetting, failures_of, is_failed}
+use Rattle.cfb_tool.specs.cfb_path_changes.Answers.{Answers, AnswersNot, MeansTree, setting_of}
+use Rattle.cfb_tool.specs.cfb_compound_file.Stored.{kept_of}
+use Rattle.cfb_tool.specs.cfb_compound_file.StreamAnswers.{OpenStream, causes_of_reading}
 use Rattle.cfb_commands.specs.Commands.{refusal_of}
 use Rattle.cfb_commands.specs.Promised.{IsOpenSince}
 use Rattle.cfb_commands.specs.Working.{LendsNothing, Works}
@@ -49,6 +50,10 @@ pub record IsUnread (old : FileState) (path : List ℕ) (refusal : Refusal) (new
 pub record IsOnlyRead (old new : FileState) : Type 0 where
   pub kept : kept_of new ≡ kept_of old
 
+-- the count of failures rose exactly if the medium's error was told, by a fault that it can give
+pub record CountsReading {T : Type 0} (can_give : MediumFault → Bool) (result : Result T Error) (old new : FileState) : Type 0 where
+  pub counts : CountsFailure can_give result (failures_of old) (failures_of new)
+
 -- the stream was not opened, or not read
 abbrev pub IsNotRead : FileState → List ℕ → FileState → Error → Type 0
 IsNotRead old path new e = (AnswersNot old (open_read_stream path) e × (new ≡ old)) ⊎ IsUnread old path (refusal_of e) new
@@ -74,7 +79,7 @@ WritesOn bytes calls (streamed replies closing) = WritesAll bytes calls replies
 
 module _ (can_give : MediumFault → Bool) where
   -- on an open stream, by calls that keep the rules
-  pub record IsWritten (old : OpenStream) (bytes : List ℕ) (told : Option Refusal) (new : OpenStream) : Type 0 where
+  pub record IsWrittenWhole (old : OpenStream) (bytes : List ℕ) (told : Option Refusal) (new : OpenStream) : Type 0 where
     pub calls : List StreamCall
     pub replies : List StreamReply
     pub writes : WritesAll bytes calls replies
@@ -88,4 +93,4 @@ module _ (can_give : MediumFault → Bool) where
     pub reply : CommandReply
     pub writes : WritesOn bytes calls reply
     pub tells : told ≡ refusal_in reply
-    pub answers : commands.Answers can_give old (on_stream creates path calls) reply new
+    pub answers : commands.AnswersCommand can_give old (on_stream creates path calls) reply new

@@ -4,10 +4,10 @@ use Rattle.std.specs.Fmt.{decimal}
 use Rattle.std.specs.Str.{encode_utf8_all}
 use Rattle.cfb_format.specs.declared.version.Version.{Version}
 use Rattle.cfb_format.specs.Bytes.{version_number}
-use Rattle.cfb_outline.specs.Families.{is_stream_kind}
+use Rattle.cfb_tool.specs.cfb_outline.Families.{is_stream_kind}
 use Rattle.cfb_rules.specs.Calls.{Call, EntryInfo, entries}
-use Rattle.cfb_agreement.specs.Files.{FileState}
-use Rattle.cfb_path_changes.specs.Answers.{Answers}
+use Rattle.cfb_tool.specs.cfb_agreement.Files.{FileState}
+use Rattle.cfb_tool.specs.cfb_path_changes.Answers.{Answers}
 
 -- `f` for a stream, `d` for a storage
 abbrev pub kind_text : EntryInfo → List ℕ
@@ -18,7 +18,7 @@ abbrev pub entry_line : EntryInfo → List ℕ
 entry_line info = kind_text info ++ (codes " " ++ (decimal info.len ++ (codes " " ++ (encode_utf8_all info.path ++ (10 ∷ [])))))
 
 -- the text has a line for each object that the call tells, in its order
-pub record Lists (file : FileState) (call : Call) (text : List ℕ) : Type 0 where
+pub record HasLines (file : FileState) (call : Call) (text : List ℕ) : Type 0 where
   pub told : List EntryInfo
   pub answers : Answers file call (entries told)
   pub lines : text ≡ flat_map entry_line told

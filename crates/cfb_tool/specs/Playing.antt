@@ -6,7 +6,7 @@ use Rattle.cfb_rules.specs.Calls.{Reply, done, entries, flag, one_entry, refused
 use Rattle.cfb_rules.specs.Lists.{Command, CommandReply, by_path, on_stream, opens, replied, streamed}
 use Rattle.cfb_rules.specs.Refusal.{Refusal, medium_failed, out_of_memory, refusal_number}
 use Rattle.cfb_rules.specs.StreamCalls.{StreamCall, StreamReply, answered, count, from_end, got, not_done, offset, ready, seek, write}
-use Rattle.cfb_agreement.specs.Files.{FileState}
+use Rattle.cfb_tool.specs.cfb_agreement.Files.{FileState}
 use Rattle.cfb_commands.specs.Commands.{refusal_of}
 use Rattle.cfb_commands.specs.Working.{RunsLegally}
 
@@ -92,16 +92,16 @@ Unless None commands replies told Next = Next
 
 -- These bytes are added in turn: by each command what those before it have left, until nothing is left, a command is refused, or memory is
 -- refused for it. That a write takes nothing is told as a fault of the medium: no file with honest bytes has such a write.
-abbrev pub AddsAll : List ℕ → List ℕ → List Command → List CommandReply → (told : Option Refusal) → Type 0
-AddsAll path bytes [] [] told = MatchBool (length bytes == 0) (told ≡ None) (told ≡ Some out_of_memory)
-AddsAll path bytes [] (reply ∷ replies) told = ⊥
-AddsAll path bytes (command ∷ commands) [] told = ⊥
-AddsAll path bytes (command ∷ commands) (reply ∷ replies) told =
+abbrev pub AddsInTurn : List ℕ → List ℕ → List Command → List CommandReply → (told : Option Refusal) → Type 0
+AddsInTurn path bytes [] [] told = MatchBool (length bytes == 0) (told ≡ None) (told ≡ Some out_of_memory)
+AddsInTurn path bytes [] (reply ∷ replies) told = ⊥
+AddsInTurn path bytes (command ∷ commands) [] told = ⊥
+AddsInTurn path bytes (command ∷ commands) (reply ∷ replies) told =
     MatchBool (length bytes == 0) ⊥ (
     (command ≡ addition path bytes) × Unless (refusal_in reply) commands replies told (
     MatchBool (taken_in reply == 0)
     ((commands ≡ []) × (replies ≡ []) × (told ≡ Some medium_failed))
-    (AddsAll path (drop (taken_in reply) bytes) commands replies told)
+    (AddsInTurn path (drop (taken_in reply) bytes) commands replies told)
     )
     )
 
@@ -111,7 +111,7 @@ PlaysOne asked [] replies told = ⊥
 PlaysOne asked (command ∷ commands) [] told = ⊥
 PlaysOne asked (command ∷ commands) (reply ∷ replies) told =
     (command ≡ asked) × Unless (refusal_in reply) commands replies told (
-    AddsAll (path_written asked) (drop (taken_in reply) (bytes_written asked)) commands replies told
+    AddsInTurn (path_written asked) (drop (taken_in reply) (bytes_written asked)) commands replies told
     )
 
 -- ---- the commands of a list
@@ -151,7 +151,7 @@ module _ (can_give : MediumFault → Bool) (old : FileState) where
   pub record IsAdded (path bytes : List ℕ) (told : Option Refusal) (new : FileState) : Type 0 where
     pub commands : List Command
     pub replies : List CommandReply
-    pub adds : AddsAll path bytes commands replies told
+    pub adds : AddsInTurn path bytes commands replies told
     pub runs : RunsLegally can_give old commands replies new
 
   -- one command was done to its end

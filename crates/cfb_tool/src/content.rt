@@ -1,12 +1,12 @@
 //! All bytes of a stream, read and written.
 ghost use Rattle.std.specs.Prelude.{◌≡◌, ◌||◌, IsTrue, IfErr, IfOk, OnOk, chars};
 ghost use Rattle.cfb_commands.specs.Commands.{closing_of};
-ghost use Rattle.cfb_compound_file.specs.Streams.{file_of, open_of};
-ghost use Rattle.cfb_tool.specs.Content.{HoldsStream, IsNotRead, IsOnlyRead, IsPut, IsWritten};
+ghost use Rattle.cfb_commands.specs.Faults.{CanBeGiven};
+ghost use Rattle.cfb_tool.specs.cfb_compound_file.Streams.{file_of, open_of};
+ghost use Rattle.cfb_tool.specs.Content.{CountsReading, HoldsStream, IsNotRead, IsOnlyRead, IsPut, IsWrittenWhole};
 
 use crate::playing::behind;
-use cfb_compound_file::compound_file::CompoundFile;
-use cfb_compound_file::stream::Stream;
+use cfb_commands::{CompoundFile, Stream};
 use cfb_format::error::Error;
 use cfb_format::medium::{Medium, MediumFault, ReadMedium};
 use std::alloc::Allocator as Heap;
@@ -23,6 +23,7 @@ pub fn content_at<F: ReadMedium, A: Heap + Clone>(
     ensures refused { IsTrue F.tells
         → IfErr result (IsNotRead file.old (chars path.now) file.new) }
     ensures kept { IsTrue F.tells → IsOnlyRead file.old file.new }
+    ensures counts { IsTrue F.tells → CountsReading F.read_faults result file.old file.new }
 {
     // What the file keeps in memory is what its bytes say.
     let _is_failed = file.is_failed();
@@ -47,6 +48,8 @@ pub fn put_content<F: Medium, A: Heap + Clone>(
         (chars path.now) bytes.now (closing_of result) file.new }
     ensures holds { IsTrue F.tells
         → OnOk result (HoldsStream file.new (chars path.now) bytes.now) }
+    ensures given { IsTrue F.tells
+        → IfErr result (CanBeGiven (λ f. F.read_faults f || F.write_faults f)) }
 {
     // What the file keeps in memory is what its bytes say.
     let _is_failed = file.is_failed();
@@ -63,8 +66,10 @@ fn write_all<F: Medium, A: Heap + Clone>(
     bytes: &[u8],
 ) -> Result<(), Error>
     ensures same_file { (file_of stream.new).ghost_name ≡ (file_of stream.old).ghost_name }
-    ensures works { IsTrue F.tells → IsWritten (λ f. F.read_faults f || F.write_faults f)
+    ensures works { IsTrue F.tells → IsWrittenWhole (λ f. F.read_faults f || F.write_faults f)
         (open_of stream.old) bytes.now (closing_of result) (open_of stream.new) }
+    ensures given { IsTrue F.tells
+        → IfErr result (CanBeGiven (λ f. F.read_faults f || F.write_faults f)) }
 {
     let mut rest = bytes;
     while !rest.is_empty() {

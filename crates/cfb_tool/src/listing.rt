@@ -1,11 +1,11 @@
 //! The objects of a file as lines of text.
 ghost use Rattle.std.specs.Prelude.{◌≡◌, ◌++◌, IsTrue, IfOk, IfErr, OnOk, chars, flat_map, string_bytes};
 ghost use Rattle.cfb_format.specs.Refused.{IsMemory};
-ghost use Rattle.cfb_path_changes.specs.Answers.{Answers, AnswersNot};
+ghost use Rattle.cfb_tool.specs.cfb_path_changes.Answers.{Answers, AnswersNot};
 ghost use Rattle.cfb_rules.specs.Calls.{entries, walk, walk_storage};
-ghost use Rattle.cfb_tool.specs.Listing.{Lists, entry_line, kind_text};
+ghost use Rattle.cfb_tool.specs.Listing.{HasLines, entry_line, kind_text};
 
-use cfb_compound_file::compound_file::CompoundFile;
+use cfb_commands::CompoundFile;
 use cfb_format::error::Error;
 use cfb_format::medium::ReadMedium;
 use cfb_listing::entry::Entry;
@@ -18,7 +18,7 @@ pub fn listing<F: ReadMedium, A: Heap + Clone>(
     file: &CompoundFile<F, A>,
 ) -> Result<String<A>, Error>
     ensures lists { IsTrue F.tells
-        → IfOk result (λ text. Lists file.now walk (string_bytes text)) }
+        → IfOk result (λ text. HasLines file.now walk (string_bytes text)) }
     ensures refused { IsTrue F.tells → IfErr result (AnswersNot file.now walk) }
 {
     let told = walked(alloc, file)?;
@@ -33,7 +33,7 @@ pub fn listing_at<F: ReadMedium, A: Heap + Clone>(
     path: &str,
 ) -> Result<String<A>, Error>
     ensures lists { IsTrue F.tells
-        → IfOk result (λ text. Lists file.now (walk_storage (chars path.now)) (string_bytes text)) }
+        → IfOk result (λ text. HasLines file.now (walk_storage (chars path.now)) (string_bytes text)) }
     ensures refused { IsTrue F.tells
         → IfErr result (AnswersNot file.now (walk_storage (chars path.now))) }
 {

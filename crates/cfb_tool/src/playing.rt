@@ -7,9 +7,9 @@ ghost use Rattle.cfb_rules.specs.Lists.{Command as Ordered};
 ghost use Rattle.cfb_tool.specs.Playing.{ArePlayed, IsAdded, IsPlayed, PlaysOnce, addition};
 
 use crate::replies::{first_error, taken, written_by};
+use cfb_commands::CompoundFile;
 use cfb_commands::command::{Command, Opening, Reply, StreamOp};
 use cfb_commands::run::run;
-use cfb_compound_file::compound_file::CompoundFile;
 use cfb_format::error::Error;
 use cfb_format::medium::{Medium, MediumFault};
 use std::alloc::Allocator as Heap;

@@ -1,10 +1,10 @@
 //! What is told of a file's soundness.
 ghost use Rattle.std.specs.Prelude.{◌≡◌, IfOk, IfErr, codes, if◌then◌else◌, string_bytes};
 ghost use Rattle.cfb_format.specs.Refused.{IsMemory};
-ghost use Rattle.cfb_mini_sectors.specs.State.{version_of};
+ghost use Rattle.cfb_tool.specs.cfb_mini_sectors.State.{version_of};
 ghost use Rattle.cfb_tool.specs.Listing.{soundness_text};
 
-use cfb_compound_file::compound_file::CompoundFile;
+use cfb_commands::CompoundFile;
 use cfb_format::error::Error;
 use cfb_format::medium::ReadMedium;
 use std::alloc::Allocator as Heap;

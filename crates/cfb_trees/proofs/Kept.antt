@@ -1,7 +1,7 @@
 -- What is reached stays where its names, links, children and kinds do.
 use Rattle.std.proofs.Common.{◌≡◌, ℕ, ◌+◌, ◌≤◌, List, ◌++◌, length, ap, sym, ◌∙◌, subst, arith}
 use Rattle.cfb_format.specs.Names.{Cases}
-use Rattle.cfb_format.specs.DirectoryEntry.{Entry}
+use Rattle.cfb_format.specs.DirectoryEntry.{Entry, ButContent}
 use Rattle.cfb_format.specs.Siblings.{entry_at, Below}
 use Rattle.cfb_format.specs.Reading.{Outline, no_more, storage_at, stream_at, siblings, numbers, HasContents}
 use Rattle.cfb_siblings.specs.Painted.{times_in}
@@ -9,6 +9,7 @@ use Rattle.cfb_siblings.specs.Laws.{SameLinks}
 use Rattle.cfb_siblings.proofs.Tallies.{hit-same, tally-append}
 use Rattle.cfb_siblings.proofs.Outlines.{siblings-numbers}
 use Rattle.cfb_siblings.proofs.Kept.{below-kept}
+use Rattle.cfb_trees.specs.Changes.{ButFields}
 
 -- the entry k is of its kind and in its place, with the same inside it
 pub record SameNode (old new : List Entry) (k : ℕ) : Type 0 where
@@ -41,3 +42,14 @@ module _ (cases : Cases) (old new : List Entry) (longer : length old ≤ length 
         contents-kept rest (λ k m. same k (omega (arith, s k, m))) h.3,
       )
   contents-kept (stream_at i rest) same h = ((same i (omega (arith, hit-same i))).kind ∙ h.0, contents-kept rest (λ k m. same k (omega (arith, m))) h.1)
+
+-- where contents alone changed
+pub but-fields : (a b : Entry) → ButContent a b → ButFields a b
+but-fields a b e = record {
+  name = ap (λ (x : Entry). x.name) e;
+  obj_type = ap (λ (x : Entry). x.obj_type) e;
+  color = ap (λ (x : Entry). x.color) e;
+  left_sibling = ap (λ (x : Entry). x.left_sibling) e;
+  right_sibling = ap (λ (x : Entry). x.right_sibling) e;
+  child = ap (λ (x : Entry). x.child) e;
+}

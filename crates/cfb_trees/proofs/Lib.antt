@@ -1,3 +1,4 @@
+pub use Rattle.cfb_siblings.proofs as cfb_siblings
 pub mod PathDown
 pub mod PathOwners
 pub mod PathReached

@@ -1,8 +1,7 @@
 -- Going down by names from storage to storage, in place of going through an outline.
 use Rattle.std.proofs.Common.{◌≡◌, ◌≢◌, ◌⊎◌, inl, inr, ◌≤◌, ℕ, List, [], ◌∷◌, ◌++◌, Bool, true, false, refl, sym, ◌∙◌, ap, subst, arith}
 use Rattle.std.specs.Prelude.{Option, Some, None, unwrap_or, is_some}
-use Rattle.cfb_format.specs.declared.objtype.ObjType.{ObjType}
-use Rattle.cfb_format.specs.declared.objtype.ObjType.TheVariants.{Unallocated, Storage, Stream, Root}
+use Rattle.cfb_format.specs.declared.objtype.ObjType.TheVariants.{Stream}
 use Rattle.cfb_format.specs.Names.{Cases}
 use Rattle.cfb_format.specs.Tree.{is_same_name}
 use Rattle.cfb_format.specs.DirectoryEntry.{Entry}
@@ -13,7 +12,7 @@ use Rattle.cfb_siblings.specs.Painted.{times_in}
 use Rattle.cfb_siblings.specs.Children.{HasChildren, IsAbsent, IsChildNamed}
 use Rattle.cfb_siblings.specs.Paths.{number_from}
 use Rattle.cfb_siblings.proofs.Tallies.{hit-same, present}
-use Rattle.cfb_siblings.proofs.PathWalk.{Walks, walks-start, walks-parent, walks-on, walks-none, walks-stuck, walks-end}
+use Rattle.cfb_siblings.proofs.PathWalk.{Walks, walks-start, walks-parent, walks-on, walks-none, walks-stuck, walks-end, is-stream-or}
 
 -- j is a child of the storage n, of that name
 pub record Step (cases : Cases) (es : List Entry) (n : ℕ) (name : List ℕ) (j : ℕ) : Type 0 where
@@ -39,12 +38,6 @@ none-some k e = let q : false ≡ true = ap (λ (x : Option ℕ). is_some x) e i
 
 pub same-some : (n k : ℕ) → Some n ≡ Some k → n ≡ k
 same-some n k e = ap (λ (x : Option ℕ). unwrap_or x 0) e
-
-pub is-stream : (t : ObjType) → (t ≡ Stream) ⊎ (t ≢ Stream)
-is-stream Unallocated = inr (λ e. cc)
-is-stream Storage = inr (λ e. cc)
-is-stream Stream = inl refl
-is-stream Root = inr (λ e. cc)
 
 -- a list of children has one of that name, or none
 pub look : (cases : Cases) (es : List Entry) (name : List ℕ) (list : List ℕ) → IsAbsent cases es name list ⊎ ((j : ℕ) × (1 ≤ times_in j list) × (is_same_name cases name (entry_at es j).name ≡ true))
@@ -74,7 +67,7 @@ module _ (cases : Cases) (es : List Entry) (o : Outline) (is : IsOutline cases e
 
   down-on : (left whole : List (List ℕ)) (n k : ℕ) → Walks cases es whole n left → number_from cases es 0 o whole ≡ Some k → Down cases es n left k
   down-on [] whole n k w e = same-some n k (sym (walks-end cases es whole [] n refl w o is) ∙ e)
-  down-on (name ∷ names) whole n k w e = go (is-stream (entry_at es n).obj_type) (λ j v. down-on names whole j k v e)
+  down-on (name ∷ names) whole n k w e = go (is-stream-or (entry_at es n).obj_type) (λ j v. down-on names whole j k v e)
     where
       goal : Type 0
       goal = Down cases es n (name ∷ names) k

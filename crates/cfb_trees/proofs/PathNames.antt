@@ -2,7 +2,7 @@
 use Rattle.std.proofs.Common.{◌≡◌, inl, inr, ℕ, List, [], ◌∷◌, ◌++◌, refl, sym, ◌∙◌, ap, length, set, replicate, ◌-◌, arith}
 use Rattle.std.specs.Prelude.{Option, Some, None, option_and_then, if◌then◌else◌, slice_set}
 use Rattle.std.proofs.lemmas.Bool.{cases_eq, cases_lt}
-use Rattle.std.proofs.lemmas.List.{get_or_past, get_or_append_left, get_or-append_right, get_or-set_other, get_or-replicate, length-set, length-replicate}
+use Rattle.std.proofs.lemmas.List.{get_or_past, get_or-set_other, length-set}
 use Rattle.std.proofs.lemmas.Grind.{get_or-set_at}
 use Rattle.cfb_format.specs.Names.{Cases}
 use Rattle.cfb_format.specs.Tree.{is_same_name}
@@ -11,6 +11,7 @@ use Rattle.cfb_format.specs.Siblings.{entry_at}
 use Rattle.cfb_format.specs.Reading.{Outline, no_more, storage_at, stream_at}
 use Rattle.cfb_siblings.specs.Paths.{number_named, number_from}
 use Rattle.cfb_trees.specs.Paths.{FieldsKeepNames, GrowthKeepsNames}
+use Rattle.cfb_trees.proofs.Same.{grown-at}
 
 module _ (cases : Cases) (old new : List Entry) (same : (k : ℕ) → (entry_at new k).name ≡ (entry_at old k).name) where
   test : (name : List ℕ) (i : ℕ) → is_same_name cases name (entry_at new i).name ≡ is_same_name cases name (entry_at old i).name
@@ -43,22 +44,8 @@ set-name es i e same k = elim (cases_eq k i) [
   | inr ne ↦ ap (λ (x : Entry). x.name) (get_or-set_other es i k e unallocated_entry ne)
 ]
 
-alike-everywhere : (more k : ℕ) → entry_at (replicate more unallocated_entry) k ≡ unallocated_entry
-alike-everywhere more k = elim (cases_lt k more) [
-  | inl l ↦ get_or-replicate more k unallocated_entry unallocated_entry l
-  | inr g ↦ get_or_past (replicate more unallocated_entry) k unallocated_entry (omega (arith, g, length-replicate more unallocated_entry))
-]
-
-grown-entry : (es : List Entry) (more k : ℕ) → entry_at (es ++ replicate more unallocated_entry) k ≡ entry_at es k
-grown-entry es more k = elim (cases_lt k (length es)) [
-  | inl l ↦ get_or_append_left es (replicate more unallocated_entry) unallocated_entry k l
-  | inr g ↦
-      get_or-append_right es (replicate more unallocated_entry) (length es) k unallocated_entry refl g
-      ∙ (alike-everywhere more (k - length es) ∙ sym (get_or_past es k unallocated_entry g))
-]
-
 pub fields-keep-names : FieldsKeepNames
 fields-keep-names cases es i e same n o path = same-from cases es (slice_set es i e) (set-name es i e same) path n o
 
 pub growth-keeps-names : GrowthKeepsNames
-growth-keeps-names cases es more n o path = same-from cases es (es ++ replicate more unallocated_entry) (λ k. ap (λ (x : Entry). x.name) (grown-entry es more k)) path n o
+growth-keeps-names cases es more n o path = same-from cases es (es ++ replicate more unallocated_entry) (λ k. ap (λ (x : Entry). x.name) (grown-at es more k)) path n o

@@ -19,13 +19,14 @@ use Rattle.cfb_siblings.specs.Children.{ButLinks, HasRemoved}
 use Rattle.cfb_siblings.specs.Paths.{number_from}
 use Rattle.cfb_siblings.proofs.Tallies.{hit-same, hit-cases, tally-append, counted, present, outside, uncounted, all-at, distinct-once}
 use Rattle.cfb_siblings.proofs.NameFacts.{same-itself, earlier-not-same}
-use Rattle.cfb_siblings.proofs.Outlines.{siblings-numbers, if-true, if-false}
+use Rattle.cfb_siblings.proofs.Outlines.{siblings-numbers}
 use Rattle.cfb_siblings.proofs.Kept.{below-kept}
 use Rattle.cfb_trees.specs.Paths.{number_after, RemovalTakesAName}
 use Rattle.cfb_trees.proofs.PathDown.{Step, Down, none-some, same-some, number-down, down-number}
 use Rattle.cfb_trees.proofs.PathOwners.{Within, below-first}
 use Rattle.cfb_trees.proofs.PathReached.{whole, Reached, reached-root, reached-child, reached-number, among-inside, one-owner}
 use Rattle.cfb_trees.proofs.PathInserted.{same-links, down-ends}
+use Rattle.cfb_format.proofs.Tests.{if-true, if-false}
 
 -- ---- places of two lists
 

@@ -1,5 +1,5 @@
 -- The root, and what is below it.
-use Rattle.std.proofs.Common.{◌≡◌, ◌⊎◌, inl, inr, ℕ, ◌∷◌, ap, arith}
+use Rattle.std.proofs.Common.{◌≡◌, ◌⊎◌, inl, inr, ℕ, ◌∷◌, ap, arith, suc, sym, zero, ◌≢◌}
 use Rattle.std.specs.Prelude.{Contains}
 use Rattle.cfb_format.specs.Reading.{Outline, numbers}
 use Rattle.cfb_siblings.specs.Painted.{hit, times_in}
@@ -17,3 +17,7 @@ root-is-reached o k e = present k (0 ∷ numbers o) (omega (arith, hit-same 0, a
 
 pub below-reached : (o : Outline) (k : ℕ) → Contains (numbers o) k → IsReached o k
 below-reached o k c = present k (0 ∷ numbers o) (below-is-reached o k c)
+
+pub inside : (o : Outline) (k : ℕ) → k ≢ 0 → IsReached o k → Contains (numbers o) k
+inside o k other (zero, less, is) = absurd (other (sym is))
+inside o k other (suc j, less, is) = (j, omega (arith, less), is)

@@ -9,6 +9,7 @@ use Rattle.cfb_format.specs.Siblings.{entry_at}
 use Rattle.cfb_format.specs.Reading.{Outline, siblings, IsOutline}
 use Rattle.cfb_trees.specs.Changes.{ButFields, GrowthKeepsOutline, FieldsKeepOutline}
 use Rattle.cfb_trees.proofs.Kept.{SameNode, children-kept, contents-kept}
+use Rattle.cfb_siblings.proofs.Grown.{past-is-unallocated}
 
 -- ---- the outline
 
@@ -39,13 +40,8 @@ same-fields a b e = record {
 
 -- ---- growth
 
-free-at : (more k : ℕ) → entry_at (replicate more unallocated_entry) k ≡ unallocated_entry
-free-at zero k = refl
-free-at (suc more) zero = refl
-free-at (suc more) (suc k) = free-at more k
-
 pub grown-at : (es : List Entry) (more k : ℕ) → entry_at (es ++ replicate more unallocated_entry) k ≡ entry_at es k
-grown-at [] more k = free-at more k
+grown-at [] more k = past-is-unallocated more k
 grown-at (e ∷ es) more zero = refl
 grown-at (e ∷ es) more (suc k) = grown-at es more k
 

@@ -1,3 +1,4 @@
+pub use Rattle.cfb_siblings.specs as cfb_siblings
 pub mod Reached
 pub mod Changes
 pub mod Paths

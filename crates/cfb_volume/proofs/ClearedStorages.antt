@@ -9,17 +9,17 @@ use Rattle.cfb_format.specs.Reading.{IsOutline, Outline, numbers, stream_numbers
 use Rattle.cfb_format.specs.Refused.{IsBreak}
 use Rattle.cfb_outline.specs.Outlines.{HasInside, IsReachedStorage}
 use Rattle.cfb_outline.proofs.Insides.{storage-is-inside}
-use Rattle.cfb_siblings.specs.Paths.{number_from}
-use Rattle.cfb_tables.specs.Refused.{ChangeRefused}
-use Rattle.cfb_tables.specs.Tables.{AreExactTables}
-use Rattle.cfb_alloc.specs.Frame.{Spares}
-use Rattle.cfb_entries.specs.Clearing.{HasCleared}
-use Rattle.cfb_directory.specs.Steps.{IsDirectoryNotHeld, KeepsWholeHeader}
-use Rattle.cfb_objects.specs.Laws.{BecomesTree}
-use Rattle.cfb_objects.proofs.Balance.{all-stay-balanced}
-use Rattle.cfb_mini_sectors.specs.State.{HoldsMini, IsChangeable, MiniState, bytes_of, cases_of, entries_of, table_of, tables_in}
-use Rattle.cfb_mini_sectors.specs.Steps.{KeepsLimits, KeepsMini}
-use Rattle.cfb_content.specs.Contents.{len_of}
+use Rattle.cfb_volume.specs.cfb_siblings.Paths.{number_from}
+use Rattle.cfb_volume.specs.cfb_tables.Refused.{ChangeRefused}
+use Rattle.cfb_volume.specs.cfb_tables.Tables.{AreExactTables}
+use Rattle.cfb_volume.specs.cfb_alloc.Frame.{Spares}
+use Rattle.cfb_volume.specs.cfb_entries.Clearing.{HasCleared}
+use Rattle.cfb_volume.specs.cfb_directory.Steps.{IsDirectoryNotHeld, KeepsWholeHeader}
+use Rattle.cfb_volume.specs.cfb_objects.Laws.{BecomesTree}
+use Rattle.cfb_volume.proofs.cfb_objects.Balance.{all-stay-balanced}
+use Rattle.cfb_volume.specs.cfb_mini_sectors.State.{HoldsMini, IsChangeable, MiniState, bytes_of, cases_of, entries_of, table_of, tables_in}
+use Rattle.cfb_volume.specs.cfb_mini_sectors.Steps.{KeepsLimits, KeepsMini}
+use Rattle.cfb_volume.specs.cfb_content.Contents.{len_of}
 use Rattle.cfb_agreement.specs.Files.{FileState, Holds, IsAsMade}
 use Rattle.cfb_agreement.proofs.Flags.{flags-not-read, made-flagged}
 use Rattle.cfb_agreement.proofs.HeldBytes.{changeable-is-held}
@@ -43,13 +43,7 @@ clears-storage old mid top list storage all empty did kept mini limits =
       storage = storage;
       inside = inside.outline;
       has_inside = inside.has;
-      cleared = record {
-        longer = did.longer;
-        top_kept = did.top_kept;
-        none = did.none;
-        free = λ k m. did.free k (subst (λ (l : List ℕ). Contains l k) (sym same) m);
-        others_kept = λ k ne out. did.others_kept k ne (λ m. out (subst (λ (l : List ℕ). Contains l k) same m));
-      };
+      cleared = subst (λ (l : List ℕ). HasCleared (entries_of old) (entries_of mid) top l) same did;
       empty = empty inside.outline inside.has;
       kept = record { sectors = kept.0; tables = kept.1; mini = mini; limits = limits };
     }

@@ -4,29 +4,26 @@ use Rattle.cfb_format.specs.declared.validate.Validation.TheVariants.{Permissive
 use Rattle.cfb_format.specs.Bytes.{end_of_chain}
 use Rattle.cfb_format.specs.Reading.{IsOutline}
 use Rattle.cfb_format.specs.Siblings.{entry_at}
-use Rattle.cfb_mini_sectors.specs.Held.{with_table}
-use Rattle.cfb_mini_sectors.specs.State.{MiniState, cases_of, entries_of, table_of}
-use Rattle.cfb_mini_sectors.specs.Steps.{KeepsLimits}
-use Rattle.cfb_mini.specs.MiniSectors.{IsStill}
-use Rattle.cfb_content.specs.Changed.{MovesAlone, SparesOthers, WasChanged}
-use Rattle.cfb_content.specs.Contents.{IsStreamOf, MovesContent, len_of}
-use Rattle.cfb_content.proofs.Outlines.{moved-is-outline, stream-stays}
-use Rattle.cfb_content.proofs.Snug.{sized-is-snug}
-use Rattle.cfb_resizing.specs.Turning.{KeepsTablesTight}
+use Rattle.cfb_volume.specs.cfb_mini_sectors.Held.{with_table}
+use Rattle.cfb_volume.specs.cfb_mini_sectors.State.{MiniState, cases_of, entries_of, table_of}
+use Rattle.cfb_volume.specs.cfb_mini_sectors.Steps.{KeepsLimits}
+use Rattle.cfb_volume.specs.cfb_mini.MiniSectors.{IsStill}
+use Rattle.cfb_volume.specs.cfb_content.Changed.{MovesAlone, SparesOthers, WasChanged}
+use Rattle.cfb_volume.specs.cfb_content.Contents.{IsStreamOf, MovesContent, len_of}
+use Rattle.cfb_volume.proofs.cfb_content.Outlines.{moved-is-outline, stream-stays}
+use Rattle.cfb_volume.proofs.cfb_content.Snug.{sized-is-snug}
+use Rattle.cfb_volume.specs.cfb_resizing.Turning.{KeepsTablesTight}
 use Rattle.cfb_agreement.specs.Changes.{ChangesOneContent, StaysOrFails}
-use Rattle.cfb_agreement.specs.Files.{Agrees, EmptyStartAtEnd, FileState, Holds, IsAsMade, GrowsTightly, SameSetting, failures_of, is_failed}
+use Rattle.cfb_agreement.specs.Files.{Agrees, EmptyStartAtEnd, FileState, Holds, IsAsMade, SameSetting, failures_of, is_failed}
 use Rattle.cfb_agreement.proofs.ContentChanges.{content-keeps-made}
 use Rattle.cfb_agreement.proofs.Flags.{as-before-same, flags-not-made, flags-not-read}
 use Rattle.cfb_agreement.proofs.HeldBytes.{changeable-is-held}
 use Rattle.cfb_agreement.proofs.InTurn.{as-before-is-none}
+use Rattle.cfb_volume.proofs.InsertedObjects.{ended}
 
 -- the file that stands on this
 abbrev pub file_on : Bool → ℕ → MiniState → FileState
 file_on sound limit s = record { base = s; is_sound = sound; buffer_limit = limit }
-
--- the same, with no change begun
-abbrev pub ended : MiniState → MiniState
-ended s = with_table s (record (table_of s) { file = record (table_of s).file { begun = false } })
 
 -- what was promised of a change that went well
 pub record WentWell (old new : MiniState) (i : ℕ) : Type 0 where

@@ -10,25 +10,25 @@ use Rattle.cfb_format.specs.Reading.{IsOutline, Outline, numbers, stream_numbers
 use Rattle.cfb_format.specs.Siblings.{entry_at}
 use Rattle.cfb_format.specs.Tree.{Tree, nothing}
 use Rattle.cfb_outline.specs.Outlines.{HasInside, IsReachedStorage}
-use Rattle.cfb_rules.specs.CallChanges.{tree_changed_at}
-use Rattle.cfb_siblings.specs.Paths.{number_from}
-use Rattle.cfb_tables.specs.Tables.{TableState}
-use Rattle.cfb_trees.proofs.PathNames.{same-from}
-use Rattle.cfb_objects.specs.Laws.{BecomesTree}
-use Rattle.cfb_mini_sectors.specs.State.{MiniState, bytes_of, cases_of, entries_of, tables_in}
-use Rattle.cfb_content.specs.Contents.{KeepsContent, KeepsFixedHeader, len_of}
-use Rattle.cfb_content.proofs.FixedHeader.{header-then}
-use Rattle.cfb_content.proofs.Kept.{keeps-then}
-use Rattle.cfb_content.proofs.Outlines.{no-root-stream}
+use Rattle.cfb_volume.specs.cfb_rules.CallChanges.{tree_changed_at}
+use Rattle.cfb_volume.specs.cfb_siblings.Paths.{number_from}
+use Rattle.cfb_volume.specs.cfb_tables.Tables.{TableState}
+use Rattle.cfb_volume.proofs.cfb_trees.PathNames.{same-from}
+use Rattle.cfb_volume.specs.cfb_objects.Laws.{BecomesTree}
+use Rattle.cfb_volume.specs.cfb_mini_sectors.State.{MiniState, bytes_of, cases_of, entries_of, tables_in}
+use Rattle.cfb_volume.specs.cfb_content.Contents.{KeepsContent, KeepsFixedHeader, len_of}
+use Rattle.cfb_volume.proofs.cfb_content.FixedHeader.{header-then}
+use Rattle.cfb_volume.proofs.cfb_content.Kept.{keeps-then}
+use Rattle.cfb_volume.proofs.cfb_content.Outlines.{no-root-stream}
 use Rattle.cfb_agreement.specs.Changes.{KeepsStreams}
 use Rattle.cfb_agreement.specs.Files.{Agrees, FileState, Holds, IsAsMade, SameSetting, failures_of, is_failed}
 use Rattle.cfb_entry_changes.specs.Clearing.{ClearsStorage}
 use Rattle.cfb_entry_changes.proofs.Emptied.{cleared-has-outline, cleared-is-balanced, cleared-is-found}
 use Rattle.cfb_volume.specs.Clearing.{EmptiesStorage, EmptiesStreams, KeepsStreamsBeside, KeepsStreamsBut, emptied_at}
-use Rattle.cfb_volume.proofs.Settings.{setting-then}
-use Rattle.cfb_objects.proofs.Balance.{content-keeps-balance}
+use Rattle.cfb_volume.proofs.cfb_objects.Balance.{content-keeps-balance}
 use Rattle.cfb_volume.proofs.InsideNames.{inside-stands}
 use Rattle.cfb_volume.proofs.Insides.{inside-stays, inside-stream, inside-unique, storage-stays}
+use Rattle.cfb_agreement.proofs.InTurn.{setting-then}
 
 -- an entry with another start and length
 made-but : (a b : Entry) (start len : ℕ) → b ≡ record a { start_sector = start; stream_len = len } → ButContent a b

@@ -4,34 +4,32 @@ use Rattle.std.specs.Prelude.{Contains, IsTrue, Some}
 use Rattle.std.proofs.lemmas.Bool.{cases_eq}
 use Rattle.std.proofs.lemmas.List.Elements.{Contains-push_cases}
 use Rattle.cfb_format.specs.declared.objtype.ObjType.TheVariants.{Root, Stream}
-use Rattle.cfb_format.specs.DirectoryEntry.{ButContent, Entry}
+use Rattle.cfb_format.specs.DirectoryEntry.{Entry}
 use Rattle.cfb_format.specs.Meaning.{Means}
 use Rattle.cfb_format.specs.Names.{Cases}
 use Rattle.cfb_format.specs.Reading.{IsOutline, Outline, numbers, stream_numbers}
 use Rattle.cfb_format.specs.Siblings.{entry_at}
 use Rattle.cfb_format.specs.Tree.{nothing}
 use Rattle.cfb_format.proofs.Unique.{IsOutline-unique}
-use Rattle.cfb_rules.specs.CallChanges.{content_changed_at, tree_changed_at}
-use Rattle.cfb_siblings.specs.Paths.{number_from}
-use Rattle.cfb_tables.proofs.Members.{Contains-here, Contains-one}
-use Rattle.cfb_trees.proofs.PathNames.{same-from}
-use Rattle.cfb_entries.specs.EntryList.{AreInOrder}
-use Rattle.cfb_mini_sectors.specs.State.{MiniState, bytes_of, cases_of, content_of, entries_of, tables_in}
-use Rattle.cfb_content.specs.Contents.{IsStreamOf, KeepsContent, MovesContent, len_of}
-use Rattle.cfb_content.proofs.FixedHeader.{header-then}
-use Rattle.cfb_content.proofs.Kept.{keeps-then, nothing-is-moved}
-use Rattle.cfb_content.proofs.Outlines.{moved-at, moved-is-outline, no-root-stream}
+use Rattle.cfb_volume.specs.cfb_rules.CallChanges.{content_changed_at, tree_changed_at}
+use Rattle.cfb_volume.specs.cfb_siblings.Paths.{number_from}
+use Rattle.cfb_volume.proofs.cfb_trees.PathNames.{same-from}
+use Rattle.cfb_volume.specs.cfb_entries.EntryList.{AreInOrder}
+use Rattle.cfb_volume.specs.cfb_mini_sectors.State.{MiniState, bytes_of, cases_of, content_of, entries_of, tables_in}
+use Rattle.cfb_volume.specs.cfb_content.Contents.{IsStreamOf, KeepsContent, MovesContent, len_of}
+use Rattle.cfb_volume.proofs.cfb_content.FixedHeader.{header-then}
+use Rattle.cfb_volume.proofs.cfb_content.Kept.{keeps-then, nothing-is-moved}
+use Rattle.cfb_volume.proofs.cfb_content.Outlines.{moved-at, moved-is-outline, no-root-stream, but-then}
 use Rattle.cfb_agreement.specs.Changes.{ChangesOneContent}
 use Rattle.cfb_agreement.specs.Files.{Agrees, FileState, Holds, SameSetting, failures_of, is_failed}
 use Rattle.cfb_agreement.proofs.ContentChanges.{content-becomes-tree}
 use Rattle.cfb_volume.specs.Clearing.{EmptiesStreams, KeepsStreamsBut, MeansTheSameBut, StandBelow}
-use Rattle.cfb_volume.proofs.Settings.{setting-same, setting-then}
+use Rattle.cfb_volume.proofs.Settings.{setting-same}
 use Rattle.cfb_volume.proofs.Forgotten.{forgets-content}
+use Rattle.cfb_format.proofs.Members.{Contains-here, Contains-one}
+use Rattle.cfb_agreement.proofs.InTurn.{setting-then}
 
 -- ---- entries but for start and length
-
-pub but-then : (a b c : Entry) → ButContent a b → ButContent b c → ButContent a c
-but-then a b c p q = q ∙ ap (λ (x : Entry). record x { start_sector = c.start_sector; stream_len = c.stream_len }) p
 
 -- where nothing changes each stream is kept
 pub kept-stream : (s : MiniState) (o : Outline) → IsOutline (cases_of s) (entries_of s) o → (k : ℕ) → Contains (stream_numbers o) k → KeepsContent s s (entry_at (entries_of s) k)

@@ -8,10 +8,10 @@ use Rattle.cfb_format.specs.DirectoryEntry.{Entry, unless_storage}
 use Rattle.cfb_format.specs.Reading.{IsOutline, Outline, stream_numbers}
 use Rattle.cfb_format.specs.Siblings.{entry_at}
 use Rattle.cfb_format.proofs.Unique.{IsOutline-unique}
-use Rattle.cfb_entries.specs.declared.fields.Fields.{Fields}
-use Rattle.cfb_mini_sectors.specs.State.{MiniState, cases_of, entries_of}
-use Rattle.cfb_content.specs.Contents.{len_of}
-use Rattle.cfb_resizing.specs.Turning.{TrimsChain}
+use Rattle.cfb_volume.specs.cfb_entries.declared.fields.Fields.{Fields}
+use Rattle.cfb_volume.specs.cfb_mini_sectors.State.{MiniState, cases_of, entries_of}
+use Rattle.cfb_volume.specs.cfb_content.Contents.{len_of}
+use Rattle.cfb_volume.specs.cfb_resizing.Turning.{TrimsChain}
 use Rattle.cfb_entry_changes.specs.Clearing.{ClearsStorage}
 use Rattle.cfb_entry_changes.specs.Marking.{MarksEntry}
 use Rattle.cfb_entry_changes.specs.Putting.{PutsObject}

@@ -2,23 +2,15 @@
 use Rattle.std.proofs.Common.{◌≡◌, ◌≤◌, ◌+◌, ◌-◌, ◌*◌, inl, inr, ℕ, List, [], sym, ◌∙◌, ap, subst, length, arith}
 use Rattle.std.specs.Prelude.{Option, unwrap_or}
 use Rattle.cfb_format.specs.declared.validate.Validation.{Validation}
-use Rattle.cfb_format.specs.declared.version.Version.{Version}
-use Rattle.cfb_format.specs.declared.version.Version.TheVariants.{V3, V4}
 use Rattle.cfb_format.specs.Bytes.{sector_len, words_per_sector}
 use Rattle.cfb_format.specs.Full.{CanTake, HasRoom, free_count, given_back_for, minifat_len_for, mini_sectors_in_chain, rounded_up, sectors_in_chain, wanted_for}
 use Rattle.cfb_format.specs.Soundness.{mini_stream_sectors}
-use Rattle.cfb_tables.specs.Tables.{sizes_of}
-use Rattle.cfb_tables.proofs.SizeLemmas.{room-for-none}
-use Rattle.cfb_mini_sectors.specs.State.{HoldsMini, MiniState, mini_stream_of, parts_of, tables_in, version_of}
-use Rattle.cfb_content.specs.Contents.{IsTooLongFor}
-
-no-words : (v : Version) (n k : ℕ) → n ≤ k * words_per_sector v → rounded_up n (words_per_sector v) - k ≡ 0
-no-words V3 n k h = omega (arith, h)
-no-words V4 n k h = omega (arith, h)
-
-no-bytes : (v : Version) (n k : ℕ) → n * 64 ≤ k * sector_len v → rounded_up (n * 64) (sector_len v) - k ≡ 0
-no-bytes V3 n k h = omega (arith, h)
-no-bytes V4 n k h = omega (arith, h)
+use Rattle.cfb_volume.specs.cfb_tables.Tables.{sizes_of}
+use Rattle.cfb_volume.proofs.cfb_tables.SizeLemmas.{room-for-none}
+use Rattle.cfb_volume.specs.cfb_mini_sectors.State.{HoldsMini, MiniState, mini_stream_of, parts_of, tables_in, version_of}
+use Rattle.cfb_volume.specs.cfb_content.Contents.{IsTooLongFor}
+use Rattle.cfb_format.proofs.FullChains.{quotient_none}
+use Rattle.cfb_volume.proofs.cfb_resizing.TurnedInMinis.{no-bytes-lack}
 
 module _ {v : Validation} (s : MiniState) (i : ℕ) (held : HoldsMini v s) where
   -- the MiniFAT is as long as before
@@ -40,8 +32,8 @@ module _ {v : Validation} (s : MiniState) (i : ℕ) (held : HoldsMini v s) where
       + (rounded_up (minis-stay j * 64) (sector_len (version_of s)) - stream-stands j))
       ∙ none (sectors_in_chain (parts_of s) i) (rounded_up (length s.minifat) (words_per_sector (version_of s)) - length s.minifat_sectors)
       (rounded_up (length s.minifat * 64) (sector_len (version_of s)) - length (mini_stream_of s))
-      (no-words (version_of s) (length s.minifat) (length s.minifat_sectors) held.words.covers)
-      (no-bytes (version_of s) (length s.minifat) (length (mini_stream_of s)) room)
+      (quotient_none (version_of s) (length s.minifat) (length s.minifat_sectors) held.words.covers)
+      (no-bytes-lack (version_of s) (length s.minifat) (length (mini_stream_of s)) room)
     where
       none : (n a c : ℕ) → a ≡ 0 → c ≡ 0 → (0 - n) + a + c ≡ 0
       none n a c p q = omega (arith, p, q)

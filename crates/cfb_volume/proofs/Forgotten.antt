@@ -2,8 +2,8 @@
 use Rattle.std.proofs.Common.{◌≡◌, ◌++◌, ℕ, List, [], ◌∷◌, refl, ◌∙◌, ap}
 use Rattle.cfb_format.specs.Names.{Cases}
 use Rattle.cfb_format.specs.Tree.{Objects, Tree, nothing}
-use Rattle.cfb_rules.specs.CallChanges.{changed_at, content_changed_at, same_storage, tree_changed_at, with_content, with_fields}
-use Rattle.cfb_rules.specs.Finding.{last_name, parent_names}
+use Rattle.cfb_volume.specs.cfb_rules.CallChanges.{changed_at, content_changed_at, same_storage, tree_changed_at, with_content, with_fields}
+use Rattle.cfb_volume.specs.cfb_rules.Finding.{last_name, parent_names}
 use Rattle.cfb_sequences.proofs.Changes.{inside-same, inside-twice}
 use Rattle.cfb_sequences.proofs.Removals.{fields-behind}
 

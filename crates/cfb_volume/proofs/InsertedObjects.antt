@@ -12,22 +12,21 @@ use Rattle.cfb_format.specs.Reading.{IsOutline, Outline}
 use Rattle.cfb_format.specs.Refused.{AfterMedium, IsBreak}
 use Rattle.cfb_codecs.specs.EntryModel.{new_entry}
 use Rattle.cfb_outline.specs.Outlines.{IsReachedStorage}
-use Rattle.cfb_rules.specs.Finding.{last_name, parent_names}
-use Rattle.cfb_siblings.specs.Children.{KeepsBalance}
-use Rattle.cfb_siblings.specs.Paths.{number_from}
-use Rattle.cfb_tables.specs.Refused.{ChangeRefused}
-use Rattle.cfb_alloc.specs.Frame.{Spares}
-use Rattle.cfb_alloc.specs.ListedChain.{Lengthens}
-use Rattle.cfb_entries.specs.EntryList.{InsertsEntry, has_free}
-use Rattle.cfb_directory.specs.State.{IsFullForEntry, with_room}
-use Rattle.cfb_directory.specs.Steps.{IsDirectoryNotHeld}
-use Rattle.cfb_objects.specs.Laws.{BecomesTree}
-use Rattle.cfb_objects.proofs.Balance.{all-stay-balanced}
-use Rattle.cfb_mini_sectors.specs.Held.{with_table}
-use Rattle.cfb_mini_sectors.specs.State.{HoldsMini, IsChangeable, MiniState, bytes_of, cases_of, entries_of, parts_of, table_of, tables_in}
-use Rattle.cfb_mini_sectors.specs.Steps.{KeepsLimits, KeepsMini, StopsShort}
-use Rattle.cfb_content.specs.Contents.{KeepsFixedHeader}
-use Rattle.cfb_content.proofs.Refusals.{refused-as}
+use Rattle.cfb_volume.specs.cfb_rules.Finding.{last_name, parent_names}
+use Rattle.cfb_volume.specs.cfb_siblings.Children.{KeepsBalance}
+use Rattle.cfb_volume.specs.cfb_siblings.Paths.{number_from}
+use Rattle.cfb_volume.specs.cfb_tables.Refused.{ChangeRefused}
+use Rattle.cfb_volume.specs.cfb_alloc.Frame.{Spares}
+use Rattle.cfb_volume.specs.cfb_alloc.ListedChain.{Lengthens}
+use Rattle.cfb_volume.specs.cfb_entries.EntryList.{InsertsEntry, has_free}
+use Rattle.cfb_volume.specs.cfb_directory.State.{IsFullForEntry, with_room}
+use Rattle.cfb_volume.specs.cfb_directory.Steps.{IsDirectoryNotHeld}
+use Rattle.cfb_volume.specs.cfb_objects.Laws.{BecomesTree}
+use Rattle.cfb_volume.proofs.cfb_objects.Balance.{all-stay-balanced}
+use Rattle.cfb_volume.specs.cfb_mini_sectors.Held.{with_table}
+use Rattle.cfb_volume.specs.cfb_mini_sectors.State.{HoldsMini, IsChangeable, MiniState, bytes_of, cases_of, entries_of, parts_of, table_of, tables_in}
+use Rattle.cfb_volume.specs.cfb_mini_sectors.Steps.{KeepsLimits, KeepsMini, StopsShort}
+use Rattle.cfb_volume.specs.cfb_content.Contents.{KeepsFixedHeader}
 use Rattle.cfb_entry_changes.specs.Putting.{PutsObject, WritesObject}
 use Rattle.cfb_entry_changes.proofs.Entries.{put-has-outline, put-is-balanced, put-is-exact, put-is-snug-mini}
 use Rattle.cfb_entry_changes.proofs.Fullness.{full-for-entry-is-full}
@@ -40,6 +39,7 @@ use Rattle.cfb_agreement.proofs.Flags.{flags-not-read, made-flagged}
 use Rattle.cfb_agreement.proofs.HeldBytes.{changeable-is-held}
 use Rattle.cfb_volume.proofs.EmptyStreams.{put-at-end}
 use Rattle.cfb_volume.proofs.Tidy.{put-whole}
+use Rattle.cfb_volume.proofs.cfb_tables.Refusals.{refused-as}
 
 -- ---- once the change has ended
 

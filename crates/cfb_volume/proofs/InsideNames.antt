@@ -9,12 +9,12 @@ use Rattle.cfb_format.specs.Reading.{HasContents, IsOutline, Outline, no_more, n
 use Rattle.cfb_format.specs.Siblings.{Below, entry_at}
 use Rattle.cfb_format.proofs.Unique.{IsOutline-unique}
 use Rattle.cfb_outline.specs.Outlines.{HasInside}
-use Rattle.cfb_siblings.specs.Painted.{times_in}
-use Rattle.cfb_siblings.specs.Paths.{number_from}
-use Rattle.cfb_siblings.proofs.NameFacts.{same-itself}
-use Rattle.cfb_siblings.proofs.Tallies.{counted, hit-cases, hit-same, tally-append}
-use Rattle.cfb_trees.proofs.PathDown.{Down, Step, down-after, down-number, number-down}
-use Rattle.cfb_mini_sectors.specs.State.{MiniState, cases_of, entries_of}
+use Rattle.cfb_volume.specs.cfb_siblings.Painted.{times_in}
+use Rattle.cfb_volume.specs.cfb_siblings.Paths.{number_from}
+use Rattle.cfb_volume.proofs.cfb_siblings.NameFacts.{same-itself}
+use Rattle.cfb_volume.proofs.cfb_siblings.Tallies.{counted, hit-cases, hit-same, tally-append}
+use Rattle.cfb_volume.proofs.cfb_trees.PathDown.{Down, Step, down-after, down-number, number-down}
+use Rattle.cfb_volume.specs.cfb_mini_sectors.State.{MiniState, cases_of, entries_of}
 use Rattle.cfb_volume.specs.Clearing.{StandBelow}
 
 -- they lead on to each number of a part of what is in the storage n

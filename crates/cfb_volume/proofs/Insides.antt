@@ -6,22 +6,21 @@ use Rattle.cfb_format.specs.DirectoryEntry.{ButContent, Entry}
 use Rattle.cfb_format.specs.Names.{Cases}
 use Rattle.cfb_format.specs.Reading.{IsOutline, Outline, numbers, siblings, stream_numbers}
 use Rattle.cfb_format.specs.Siblings.{entry_at}
-use Rattle.cfb_format.proofs.Unique.{Below-unique, IsOutline-unique}
+use Rattle.cfb_format.proofs.Unique.{Below-unique, IsOutline-unique, outline-unique}
 use Rattle.cfb_outline.specs.Outlines.{HasInside, IsReachedStorage}
-use Rattle.cfb_siblings.specs.Children.{HasChildren}
-use Rattle.cfb_siblings.specs.Laws.{SameLinks}
-use Rattle.cfb_siblings.specs.Painted.{times_in}
-use Rattle.cfb_siblings.proofs.Outlines.{siblings-numbers}
-use Rattle.cfb_siblings.proofs.Tallies.{counted, present}
-use Rattle.cfb_trees.proofs.Kept.{SameNode, children-kept, contents-kept}
-use Rattle.cfb_trees.proofs.Members.{stream-kind, stream-reached}
-use Rattle.cfb_trees.proofs.Standing.{at-within, stands, stands-held, stands-inner}
-use Rattle.cfb_entries.proofs.Cleared.{stands-inside, top-apart}
-use Rattle.cfb_objects.proofs.Same.{same-outline}
+use Rattle.cfb_volume.specs.cfb_siblings.Children.{HasChildren}
+use Rattle.cfb_volume.specs.cfb_siblings.Laws.{SameLinks}
+use Rattle.cfb_volume.specs.cfb_siblings.Painted.{times_in}
+use Rattle.cfb_volume.proofs.cfb_siblings.Outlines.{siblings-numbers}
+use Rattle.cfb_volume.proofs.cfb_siblings.Tallies.{counted, present}
+use Rattle.cfb_volume.proofs.cfb_trees.Kept.{SameNode, children-kept, contents-kept}
+use Rattle.cfb_volume.proofs.cfb_trees.Members.{stream-kind, stream-reached}
+use Rattle.cfb_volume.proofs.cfb_trees.Standing.{at-within, stands, stands-held, stands-inner}
+use Rattle.cfb_volume.proofs.cfb_entries.Cleared.{stands-inside, top-apart}
 
 module _ (cases : Cases) (es : List Entry) (top : ℕ) where
   pub inside-unique : (x y : Outline) → HasInside cases es top x → HasInside cases es top y → x ≡ y
-  inside-unique x y a b = same-outline cases es x y (Below-unique cases es (entry_at es top).child (siblings x) (siblings y) a.children b.children) a.contents b.contents
+  inside-unique x y a b = outline-unique cases es x y (Below-unique cases es (entry_at es top).child (siblings x) (siblings y) a.children b.children) a.contents b.contents
 
   module _ (r : IsReachedStorage cases es top) (x : Outline) (has : HasInside cases es top x) where
     -- it is reached

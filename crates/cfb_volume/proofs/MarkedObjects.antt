@@ -10,24 +10,24 @@ use Rattle.cfb_format.specs.Reading.{IsOutline, Outline}
 use Rattle.cfb_format.specs.Refused.{IsMediumAnd}
 use Rattle.cfb_format.specs.Siblings.{entry_at}
 use Rattle.cfb_format.specs.Tree.{StorageInfo, StreamInfo}
-use Rattle.cfb_entries.specs.declared.fields.Fields.{Fields}
-use Rattle.cfb_rules.specs.CallChanges.{fields_changed_at}
-use Rattle.cfb_siblings.specs.Paths.{number_from}
-use Rattle.cfb_tables.specs.Refused.{ChangeRefused}
-use Rattle.cfb_tables.specs.Tables.{AreExactTables}
-use Rattle.cfb_alloc.specs.Frame.{Spares}
-use Rattle.cfb_directory.specs.State.{HoldsDirectory}
-use Rattle.cfb_directory.specs.Steps.{KeepsWholeHeader}
-use Rattle.cfb_trees.specs.Reached.{IsReached}
-use Rattle.cfb_trees.proofs.Members.{reached-is-used, reached-is-within}
-use Rattle.cfb_objects.specs.Laws.{BecomesTree}
-use Rattle.cfb_objects.proofs.Balance.{all-stay-balanced}
-use Rattle.cfb_mini_sectors.specs.State.{HoldsMini, IsChangeable, MiniState, bytes_of, cases_of, entries_of, table_of, version_of}
-use Rattle.cfb_mini_sectors.specs.Steps.{StopsShort}
+use Rattle.cfb_volume.specs.cfb_entries.declared.fields.Fields.{Fields}
+use Rattle.cfb_volume.specs.cfb_rules.CallChanges.{fields_changed_at}
+use Rattle.cfb_volume.specs.cfb_siblings.Paths.{number_from}
+use Rattle.cfb_volume.specs.cfb_tables.Refused.{ChangeRefused}
+use Rattle.cfb_volume.specs.cfb_tables.Tables.{AreExactTables}
+use Rattle.cfb_volume.specs.cfb_alloc.Frame.{Spares}
+use Rattle.cfb_volume.specs.cfb_directory.State.{HoldsDirectory}
+use Rattle.cfb_volume.specs.cfb_directory.Steps.{KeepsWholeHeader}
+use Rattle.cfb_volume.specs.cfb_trees.Reached.{IsReached}
+use Rattle.cfb_volume.proofs.cfb_trees.Members.{reached-is-used, reached-is-within}
+use Rattle.cfb_volume.specs.cfb_objects.Laws.{BecomesTree}
+use Rattle.cfb_volume.proofs.cfb_objects.Balance.{all-stay-balanced}
+use Rattle.cfb_volume.specs.cfb_mini_sectors.State.{HoldsMini, IsChangeable, MiniState, bytes_of, cases_of, entries_of, table_of, version_of}
+use Rattle.cfb_volume.specs.cfb_mini_sectors.Steps.{StopsShort}
 use Rattle.cfb_agreement.specs.Files.{FileState, Holds, IsAsMade}
 use Rattle.cfb_agreement.proofs.Flags.{flags-not-read, made-flagged}
 use Rattle.cfb_agreement.proofs.HeldBytes.{changeable-is-held}
-use Rattle.cfb_content.specs.Contents.{len_of}
+use Rattle.cfb_volume.specs.cfb_content.Contents.{len_of}
 use Rattle.cfb_entry_changes.specs.Kept.{AllStayBalanced, FindsTheSame}
 use Rattle.cfb_entry_changes.specs.Marking.{GivesFields, MarksEntry, WritesFields}
 use Rattle.cfb_entry_changes.proofs.Marked.{marked-changes-tree, marked-has-outline, marked-is-all-used, marked-is-balanced, marked-is-changeable, marked-is-found, marked-is-snug, marked-is-snug-mini, marked-keeps-root}

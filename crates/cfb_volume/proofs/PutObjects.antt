@@ -1,37 +1,25 @@
 -- What else a new object in the directory leaves.
-use Rattle.std.proofs.Common.{◌≡◌, ◌≤◌, inl, inr, ℕ, List, refl, sym, ◌∙◌, ap, subst, ◌++◌, length, arith}
+use Rattle.std.proofs.Common.{◌≡◌, ◌≤◌, inr, ℕ, List, refl, sym, ap, subst, length, arith}
 use Rattle.std.specs.Prelude.{Some}
-use Rattle.std.proofs.lemmas.Bool.{cases_lt}
 use Rattle.cfb_format.specs.declared.objtype.ObjType.{ObjType}
 use Rattle.cfb_format.specs.Bytes.{no_stream}
 use Rattle.cfb_format.specs.DirectoryEntry.{Entry}
 use Rattle.cfb_format.specs.Reading.{IsOutline}
 use Rattle.cfb_format.specs.Siblings.{entry_at}
 use Rattle.cfb_codecs.specs.EntryModel.{new_entry}
-use Rattle.cfb_tables.specs.Changes.{NoneFree}
-use Rattle.cfb_tables.specs.Tables.{HasTaken, TableState}
-use Rattle.cfb_tables.proofs.Members.{Contains-or}
-use Rattle.cfb_tables.proofs.TakenLemmas.{taken-busy}
-use Rattle.cfb_entries.specs.EntryList.{has_free}
-use Rattle.cfb_trees.proofs.PathReached.{reached-is-found}
-use Rattle.cfb_directory.proofs.NamesFound.{inserted-is-found}
-use Rattle.cfb_mini_sectors.specs.State.{MiniState, cases_of, entries_of, tables_in}
-use Rattle.cfb_siblings.specs.Paths.{number_from}
+use Rattle.cfb_volume.specs.cfb_tables.Changes.{NoneFree}
+use Rattle.cfb_volume.specs.cfb_tables.Tables.{TableState}
+use Rattle.cfb_volume.specs.cfb_entries.EntryList.{has_free}
+use Rattle.cfb_volume.proofs.cfb_trees.PathReached.{reached-is-found}
+use Rattle.cfb_volume.proofs.cfb_directory.NamesFound.{inserted-is-found}
+use Rattle.cfb_volume.specs.cfb_mini_sectors.State.{MiniState, cases_of, entries_of, tables_in}
+use Rattle.cfb_volume.specs.cfb_siblings.Paths.{number_from}
 use Rattle.cfb_entry_changes.specs.Putting.{PutsObject}
 use Rattle.cfb_entry_changes.proofs.Entries.{either, kept-links, reached, streams}
 use Rattle.cfb_entry_changes.specs.Kept.{KeepsFound}
 use Rattle.cfb_entry_changes.specs.Standing.{StandStill}
 use Rattle.cfb_entry_changes.proofs.Taken.{same-content}
-
--- where none was free none is, whatever is taken
-taken-stays-full : (a b : TableState) (touched more : List ℕ) → HasTaken a b touched more → NoneFree a.fat → NoneFree b.fat
-taken-stays-full a b touched more h none = elim (cases_lt (length a.fat) (length b.fat)) [
-  | inl longer ↦ h.none_free longer
-  | inr few ↦ λ i lt. elim (Contains-or (touched ++ more ++ h.fats ++ h.difats) i) [
-    | inl m ↦ taken-busy a b touched more h i m
-    | inr out ↦ λ e. none i (omega (arith, lt, few)) (sym (h.only i out) ∙ e)
-  ]
-]
+use Rattle.cfb_volume.proofs.cfb_resizing.Tightness.{taken-stays-full}
 
 module _ (old new : MiniState) (parent n : ℕ) (name : List ℕ) (kind : ObjType) (moment : ℕ) (put : PutsObject old new parent n name kind moment) where
   pub put-is-childless : (entry_at (entries_of new) n).child ≡ no_stream

@@ -5,10 +5,10 @@ use Rattle.cfb_format.specs.declared.error.Error.{Error}
 use Rattle.cfb_format.specs.declared.error.Error.TheVariants.{AlreadyExists, Failed, Full, InvalidData, InvalidInput, Medium, Memory, NotFound, Unsound}
 use Rattle.cfb_format.specs.Full.{IsFull}
 use Rattle.cfb_format.specs.Refused.{AfterMedium, IsBreak, IsMemory}
-use Rattle.cfb_tables.specs.Refused.{ChangeRefused}
-use Rattle.cfb_mini_sectors.specs.State.{MiniState, parts_of, tables_in}
-use Rattle.cfb_mini_sectors.specs.Steps.{StopsShort}
-use Rattle.cfb_resizing.specs.Turning.{StopsOrBegun, StopsOrIsFull}
+use Rattle.cfb_volume.specs.cfb_tables.Refused.{ChangeRefused}
+use Rattle.cfb_volume.specs.cfb_mini_sectors.State.{MiniState, parts_of, tables_in}
+use Rattle.cfb_volume.specs.cfb_mini_sectors.Steps.{StopsShort}
+use Rattle.cfb_volume.specs.cfb_resizing.Turning.{StopsOrBegun, StopsOrIsFull}
 use Rattle.cfb_agreement.specs.Files.{FileState}
 use Rattle.cfb_volume.proofs.ContentSteps.{file_on}
 use Rattle.cfb_volume.proofs.Fullness.{full-as-left}

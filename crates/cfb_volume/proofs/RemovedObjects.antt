@@ -16,37 +16,36 @@ use Rattle.cfb_format.specs.Meaning.{Means}
 use Rattle.cfb_format.specs.Tree.{Tree, is_same_name}
 use Rattle.cfb_format.proofs.TreeMap.{alike}
 use Rattle.cfb_outline.specs.Outlines.{IsReachedStorage}
-use Rattle.cfb_siblings.specs.Children.{HasChildren, IsChildNamed, KeepsBalance}
-use Rattle.cfb_rules.specs.CallChanges.{content_changed_at, removed_at}
-use Rattle.cfb_rules.specs.Finding.{last_name, parent_names}
+use Rattle.cfb_volume.specs.cfb_siblings.Children.{HasChildren, IsChildNamed, KeepsBalance}
+use Rattle.cfb_volume.specs.cfb_rules.CallChanges.{content_changed_at, removed_at}
+use Rattle.cfb_volume.specs.cfb_rules.Finding.{last_name, parent_names}
 use Rattle.cfb_sequences.proofs.Removals.{removed-own}
-use Rattle.cfb_siblings.specs.Laws.{SameLinks}
-use Rattle.cfb_siblings.specs.Paths.{number_from}
-use Rattle.cfb_siblings.specs.Painted.{times_in}
-use Rattle.cfb_siblings.proofs.Kept.{below-kept}
-use Rattle.cfb_siblings.proofs.NameFacts.{later-not-same}
-use Rattle.cfb_siblings.proofs.Tallies.{all-at, counted, hit-cases, hit-same, tally-append}
-use Rattle.cfb_alloc.specs.Frame.{Spares}
-use Rattle.cfb_tables.specs.Refused.{ChangeRefused}
-use Rattle.cfb_tables.specs.Tables.{AreExactTables}
-use Rattle.cfb_trees.specs.Paths.{number_after}
-use Rattle.cfb_trees.proofs.Members.{streams-are-by-kind}
-use Rattle.cfb_trees.proofs.PathDown.{is-stream}
-use Rattle.cfb_entries.specs.EntryList.{RemovesEntry}
-use Rattle.cfb_directory.specs.Steps.{KeepsWholeHeader}
-use Rattle.cfb_objects.specs.Laws.{BecomesTree}
-use Rattle.cfb_mini_sectors.specs.State.{HoldsMini, IsChangeable, MiniState, bytes_of, cases_of, content_of, entries_of, table_of, tables_in}
-use Rattle.cfb_mini_sectors.specs.Steps.{KeepsLimits, KeepsMini, StopsShort}
-use Rattle.cfb_mini.specs.MiniSectors.{IsStill}
-use Rattle.cfb_content.specs.Contents.{IsStreamOf, KeepsOthers, MovesContent, len_of}
-use Rattle.cfb_content.proofs.Kept.{nothing-is-moved, others-kept-then}
-use Rattle.cfb_content.proofs.Outlines.{moved-is-outline, same-entries-moved}
+use Rattle.cfb_volume.specs.cfb_siblings.Laws.{SameLinks}
+use Rattle.cfb_volume.specs.cfb_siblings.Paths.{number_from}
+use Rattle.cfb_volume.specs.cfb_siblings.Painted.{times_in}
+use Rattle.cfb_volume.proofs.cfb_siblings.Kept.{below-kept}
+use Rattle.cfb_volume.proofs.cfb_siblings.NameFacts.{later-not-same}
+use Rattle.cfb_volume.proofs.cfb_siblings.Tallies.{all-at, counted, hit-cases, hit-same, tally-append}
+use Rattle.cfb_volume.specs.cfb_alloc.Frame.{Spares}
+use Rattle.cfb_volume.specs.cfb_tables.Refused.{ChangeRefused}
+use Rattle.cfb_volume.specs.cfb_tables.Tables.{AreExactTables}
+use Rattle.cfb_volume.specs.cfb_trees.Paths.{number_after}
+use Rattle.cfb_volume.proofs.cfb_trees.Members.{streams-are-by-kind}
+use Rattle.cfb_volume.specs.cfb_entries.EntryList.{RemovesEntry}
+use Rattle.cfb_volume.specs.cfb_directory.Steps.{KeepsWholeHeader}
+use Rattle.cfb_volume.specs.cfb_objects.Laws.{BecomesTree}
+use Rattle.cfb_volume.specs.cfb_mini_sectors.State.{HoldsMini, IsChangeable, MiniState, bytes_of, cases_of, content_of, entries_of, table_of, tables_in}
+use Rattle.cfb_volume.specs.cfb_mini_sectors.Steps.{KeepsLimits, KeepsMini, StopsShort}
+use Rattle.cfb_volume.specs.cfb_mini.MiniSectors.{IsStill}
+use Rattle.cfb_volume.specs.cfb_content.Contents.{IsStreamOf, KeepsOthers, MovesContent, len_of}
+use Rattle.cfb_volume.proofs.cfb_content.Kept.{nothing-is-moved, others-kept-then}
+use Rattle.cfb_volume.proofs.cfb_content.Outlines.{moved-is-outline, same-entries-moved}
 use Rattle.cfb_agreement.specs.Changes.{StaysOrFails}
 use Rattle.cfb_agreement.specs.Files.{Agrees, FileState, Holds, IsAsBefore, IsAsMade, failures_of, is_failed}
 use Rattle.cfb_agreement.proofs.ContentChanges.{content-becomes-tree}
 use Rattle.cfb_agreement.proofs.Flags.{as-before-same, flags-not-read, made-flagged}
 use Rattle.cfb_agreement.proofs.HeldBytes.{changeable-is-held}
-use Rattle.cfb_objects.proofs.Balance.{fields-keep-balance}
+use Rattle.cfb_volume.proofs.cfb_objects.Balance.{fields-keep-balance}
 use Rattle.cfb_entry_changes.proofs.Spared.{put-keeps-streams}
 use Rattle.cfb_entry_changes.specs.Kept.{AllStayBalancedBut, FindsAllBut}
 use Rattle.cfb_entry_changes.specs.Taking.{TakesObject, WritesRemoval}
@@ -59,6 +58,7 @@ use Rattle.cfb_volume.proofs.Balances.{all-but-balanced}
 use Rattle.cfb_volume.proofs.EmptyStreams.{taken-at-end}
 use Rattle.cfb_volume.proofs.InsertedObjects.{ended, file_with, refused-stays}
 use Rattle.cfb_volume.proofs.Tidy.{slots-tidy}
+use Rattle.cfb_volume.proofs.cfb_siblings.PathWalk.{is-stream-or}
 
 -- ---- emptied
 
@@ -283,7 +283,7 @@ module _ {old : FileState} {mid new : MiniState} {parent child : ℕ} {name : Li
       → Contains (numbers p) child → number_from (cases_of old.base) (entries_of old.base) 0 p (first ∷ names) ≡ Some child
       → (tree : Tree) → Means (cases_of old.base) (bytes_of old.base) tree
       → (tree' : Tree) × Means (cases_of old.base) (bytes_of mid) tree' × (removed_at (cases_of old.base) (first ∷ names) tree' ≡ removed_at (cases_of old.base) (first ∷ names) tree)
-  mid-tree sound holds first names p p_is below at tree means = elim (is-stream (entry_at (entries_of old.base) child).obj_type) [
+  mid-tree sound holds first names p p_is below at tree means = elim (is-stream-or (entry_at (entries_of old.base) child).obj_type) [
     | inl e ↦
         let held : Holds (file_with old mid) = changeable-is-held (file_with old mid) p sound (r.emptied.holds Permissive (holds.sound sound)) (still-is p p_is) in
         let xs = content_of mid (entry_at (entries_of mid) child) in (

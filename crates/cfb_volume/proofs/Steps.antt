@@ -6,14 +6,15 @@ use Rattle.cfb_format.specs.declared.error.Error.{Error}
 use Rattle.cfb_format.specs.declared.error.Error.TheVariants.{AlreadyExists, Failed, Full, InvalidData, InvalidInput, Medium, Memory, NotFound, Unsound}
 use Rattle.cfb_format.specs.declared.medium.MediumFault.{MediumFault}
 use Rattle.cfb_format.specs.Refused.{CountsError, CountsFailure, IsBreak}
-use Rattle.cfb_mini_sectors.specs.State.{MiniState}
-use Rattle.cfb_content.specs.Contents.{KeepsContent, KeepsFixedHeader}
+use Rattle.cfb_volume.specs.cfb_mini_sectors.State.{MiniState}
+use Rattle.cfb_volume.specs.cfb_content.Contents.{KeepsContent, KeepsFixedHeader}
 use Rattle.cfb_format.specs.DirectoryEntry.{Entry}
-use Rattle.cfb_content.proofs.FixedHeader.{header-then}
+use Rattle.cfb_volume.proofs.cfb_content.FixedHeader.{header-then}
 use Rattle.cfb_agreement.specs.Files.{FileState, Holds, SameSetting, failures_of, is_failed}
 use Rattle.cfb_agreement.specs.Laws.{with_flags}
-use Rattle.cfb_volume.specs.Clearing.{BreaksOff}
-use Rattle.cfb_volume.proofs.Settings.{setting-same, setting-then}
+use Rattle.cfb_volume.specs.Clearing.{ClearingBreaksOff}
+use Rattle.cfb_volume.proofs.Settings.{setting-same}
+use Rattle.cfb_agreement.proofs.InTurn.{setting-then}
 
 -- the file after a step was handed on
 abbrev pub handed_on : Bool → FileState → FileState
@@ -36,9 +37,9 @@ module _ {T : Type 0} (old new : FileState) (begun : Bool) (step : Result T Erro
 
 -- of a later step, after others that ended
 pub broke-off : (tells : Bool) (can_give : MediumFault → Bool) (start mid new : FileState) (e : Error) (begun : Bool) → (begun ≡ false → mid ≡ start) → SameSetting start mid
-    → (IsTrue tells → Holds start → KeepsFixedHeader start.base mid.base) → (IsTrue tells → Holds start → Holds mid) → (IsTrue tells → failures_of mid ≡ failures_of start) → BreaksOff tells can_give mid new e
-    → BreaksOff tells can_give start (handed_on begun new) e
-broke-off tells can_give start mid new e false same setting header holds counted b = subst (λ (f : FileState). BreaksOff tells can_give f new e) (same refl) b
+    → (IsTrue tells → Holds start → KeepsFixedHeader start.base mid.base) → (IsTrue tells → Holds start → Holds mid) → (IsTrue tells → failures_of mid ≡ failures_of start) → ClearingBreaksOff tells can_give mid new e
+    → ClearingBreaksOff tells can_give start (handed_on begun new) e
+broke-off tells can_give start mid new e false same setting header holds counted b = subst (λ (f : FileState). ClearingBreaksOff tells can_give f new e) (same refl) b
 broke-off tells can_give start mid new e true same setting header holds counted b = record {
   setting = (let s = setting-then start mid new setting b.setting in record {
     limits = record { version = s.limits.version; cases = s.limits.cases; max_sectors = s.limits.max_sectors; max_mini_sectors = s.limits.max_mini_sectors };
@@ -90,8 +91,8 @@ break-as P Q by Unsound why = why
 break-as P Q by Failed why = why
 
 -- memory was refused before anything changed
-pub memory-breaks-off : (tells : Bool) (can_give : MediumFault → Bool) (file : FileState) (e : Error) → is_failed file ≡ false → e ≡ Memory → BreaksOff tells can_give file file e
-memory-breaks-off tells can_give file e calm is = subst (λ (why : Error). BreaksOff tells can_give file file why) (sym is) (record {
+pub memory-breaks-off : (tells : Bool) (can_give : MediumFault → Bool) (file : FileState) (e : Error) → is_failed file ≡ false → e ≡ Memory → ClearingBreaksOff tells can_give file file e
+memory-breaks-off tells can_give file e calm is = subst (λ (why : Error). ClearingBreaksOff tells can_give file file why) (sym is) (record {
   setting = setting-same file;
   header = λ told holds. record { no_shorter = omega arith; bytes = λ i within fixed. refl };
   agrees = λ told holds down. holds;

@@ -4,26 +4,28 @@ use Rattle.std.specs.Prelude.{Contains, slice_index}
 use Rattle.std.proofs.lemmas.List.Elements.{Contains-append_right}
 use Rattle.cfb_format.specs.declared.validate.Validation.{Validation}
 use Rattle.cfb_format.specs.declared.version.Version.TheVariants.{V4}
-use Rattle.cfb_tables.specs.Listed.{ends_of, gained}
-use Rattle.cfb_tables.specs.Tables.{TableState}
-use Rattle.cfb_alloc.specs.Frame.{Spares}
-use Rattle.cfb_alloc.specs.ListedChain.{Lengthens}
-use Rattle.cfb_entries.specs.EntryList.{has_free}
-use Rattle.cfb_directory.specs.Steps.{KeepsWholeHeader}
-use Rattle.cfb_mini_sectors.specs.State.{HoldsMini, MiniState, bytes_of, entries_of, table_of, tables_in, version_of}
-use Rattle.cfb_mini_sectors.specs.Steps.{KeepsLimits}
-use Rattle.cfb_mini.specs.MiniSectors.{IsWhole}
-use Rattle.cfb_mini.proofs.WholeFiles.{same-whole, taken-whole}
-use Rattle.cfb_content.specs.Contents.{dir_count_of}
-use Rattle.cfb_content.proofs.DirCount.{count-stays, outside-below, slots-outside}
+use Rattle.cfb_volume.specs.cfb_tables.Listed.{ends_of, gained}
+use Rattle.cfb_volume.specs.cfb_tables.Tables.{TableState}
+use Rattle.cfb_volume.specs.cfb_alloc.Frame.{Spares}
+use Rattle.cfb_volume.specs.cfb_alloc.ListedChain.{Lengthens}
+use Rattle.cfb_volume.specs.cfb_entries.EntryList.{has_free}
+use Rattle.cfb_volume.specs.cfb_directory.Steps.{KeepsWholeHeader}
+use Rattle.cfb_volume.specs.cfb_mini_sectors.State.{HoldsMini, MiniState, bytes_of, entries_of, table_of, tables_in, version_of}
+use Rattle.cfb_volume.specs.cfb_mini_sectors.Steps.{KeepsLimits}
+use Rattle.cfb_volume.specs.cfb_mini.MiniSectors.{IsOfWholeSectors}
+use Rattle.cfb_volume.proofs.cfb_mini.WholeFiles.{same-whole, taken-whole}
+use Rattle.cfb_volume.specs.cfb_content.Contents.{dir_count_of}
+use Rattle.cfb_volume.proofs.cfb_content.DirCount.{count-stays}
 use Rattle.cfb_entry_changes.specs.Standing.{KeepsAllButEntries}
 use Rattle.cfb_entry_changes.proofs.Entries.{either}
 use Rattle.cfb_agreement.specs.Files.{EmptyStartAtEnd, IsCounted, IsTidy}
 use Rattle.cfb_agreement.proofs.ContentChanges.{same-counted, stays-tidy}
+use Rattle.cfb_volume.proofs.cfb_mini_sectors.MinifatGrown.{below_words}
+use Rattle.cfb_volume.proofs.cfb_mini_changes.MiniExtended.{header-whole}
 
 -- where the tables stay the file is a whole number of sectors still
 tables-whole : (v : Validation) (old new : MiniState) → HoldsMini v new → tables_in new ≡ tables_in old → length (bytes_of old) ≤ length (bytes_of new)
-    → IsWhole (table_of old) → IsWhole (table_of new)
+    → IsOfWholeSectors (table_of old) → IsOfWholeSectors (table_of new)
 tables-whole v old new held tables longer whole =
     same-whole v (table_of old) (table_of new) held.directory.tables (ap (λ (t : TableState). t.version) tables) (ap (λ (t : TableState). length t.fat) tables) longer whole
 
@@ -31,7 +33,7 @@ tables-whole v old new held tables longer whole =
 pub slots-tidy : (v : Validation) (old new : MiniState) → HoldsMini v old → HoldsMini v new → KeepsAllButEntries old new → KeepsWholeHeader old.directory new.directory
     → Spares old.directory.sectors (table_of old) (table_of new) → EmptyStartAtEnd new → IsTidy old → IsTidy new
 slots-tidy v old new before after kept header spares = stays-tidy old new kept.limits kept.sectors (record {
-  counted = count-stays v old new before (slots-outside old new header);
+  counted = count-stays v old new before (header-whole old new header);
   whole = tables-whole v old new after kept.tables spares.no_shorter;
 })
 
@@ -42,14 +44,14 @@ pub put-counted : (v : Validation) (old new : MiniState) → HoldsMini v old →
     → (version_of old ≡ V4 → has_free (entries_of old) ≡ false → dir_count_of new ≡ length new.directory.sectors) → IsCounted old → IsCounted new
 put-counted v old new held limits kept header count counted four = either (has_free (entries_of old))
     (λ free. same-counted old new limits (kept free).0
-    (count-stays v old new held (λ i lt out. header free i (let low = outside-below i out in omega (arith, low)) lt)) counted four)
+    (count-stays v old new held (λ i lt out. header free i (let low = below_words i out in omega (arith, low)) lt)) counted four)
     (λ none. count (sym limits.version ∙ four) none)
 
 -- where a new object came in: the sector that the directory got is whole
 pub put-whole : (v : Validation) (old new : MiniState) → HoldsMini v new
     → (has_free (entries_of old) ≡ true → (new.directory.sectors ≡ old.directory.sectors) × (tables_in new ≡ tables_in old))
     → (has_free (entries_of old) ≡ false → Lengthens 1 old.directory.sectors new.directory.sectors (tables_in old) (tables_in new))
-    → length (bytes_of old) ≤ length (bytes_of new) → IsWhole (table_of old) → IsWhole (table_of new)
+    → length (bytes_of old) ≤ length (bytes_of new) → IsOfWholeSectors (table_of old) → IsOfWholeSectors (table_of new)
 put-whole v old new held kept lengthened longer whole = either (has_free (entries_of old))
     (λ free. tables-whole v old new held (kept free).1 longer whole)
     (λ none.

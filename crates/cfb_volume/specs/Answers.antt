@@ -1,7 +1,7 @@
 -- What calls on the contents of a file answer.
 use Rattle.std.specs.Prelude.{ℕ, List}
 use Rattle.cfb_format.specs.Siblings.{entry_at}
-use Rattle.cfb_mini_sectors.specs.State.{content_of, entries_of}
+use Rattle.cfb_volume.specs.cfb_mini_sectors.State.{content_of, entries_of}
 use Rattle.cfb_agreement.specs.Files.{FileState}
 
 -- the content of the stream of that entry

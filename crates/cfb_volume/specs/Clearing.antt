@@ -11,12 +11,12 @@ use Rattle.cfb_format.specs.Refused.{CountsError, IsBreak}
 use Rattle.cfb_format.specs.Siblings.{entry_at}
 use Rattle.cfb_format.specs.Tree.{Tree, nothing}
 use Rattle.cfb_outline.specs.Outlines.{HasInside}
-use Rattle.cfb_rules.specs.CallChanges.{removed_at, tree_changed_at}
-use Rattle.cfb_rules.specs.Finding.{last_name, parent_names}
-use Rattle.cfb_siblings.specs.Paths.{number_from}
-use Rattle.cfb_objects.specs.Laws.{BecomesTree}
-use Rattle.cfb_mini_sectors.specs.State.{MiniState, bytes_of, cases_of, entries_of, tables_in}
-use Rattle.cfb_content.specs.Contents.{KeepsContent, KeepsFixedHeader, len_of}
+use Rattle.cfb_volume.specs.cfb_rules.CallChanges.{removed_at, tree_changed_at}
+use Rattle.cfb_volume.specs.cfb_rules.Finding.{last_name, parent_names}
+use Rattle.cfb_volume.specs.cfb_siblings.Paths.{number_from}
+use Rattle.cfb_volume.specs.cfb_objects.Laws.{BecomesTree}
+use Rattle.cfb_volume.specs.cfb_mini_sectors.State.{MiniState, bytes_of, cases_of, entries_of, tables_in}
+use Rattle.cfb_volume.specs.cfb_content.Contents.{KeepsContent, KeepsFixedHeader, len_of}
 use Rattle.cfb_entry_changes.specs.Kept.{AllStayBalanced, AllStayBalancedBut}
 use Rattle.cfb_agreement.specs.Changes.{StaysOrFails}
 use Rattle.cfb_agreement.specs.Files.{Agrees, FileState, Holds, IsAsMade, SameSetting, failures_of, is_failed}
@@ -131,7 +131,7 @@ pub record RemovesWithAll (tells : Bool) (parent top : ℕ) (name : List ℕ) (s
 -- ---- refusals
 
 -- the change was refused for memory or by the medium: all is as before but the count of failures, or the file has failed
-pub record BreaksOff (tells : Bool) (can_give : MediumFault → Bool) (start now : FileState) (e : Error) : Type 0 where
+pub record ClearingBreaksOff (tells : Bool) (can_give : MediumFault → Bool) (start now : FileState) (e : Error) : Type 0 where
   pub setting : SameSetting start now
   pub header : IsTrue tells → Holds start → KeepsFixedHeader start.base now.base
   pub agrees : IsTrue tells → Holds start → Agrees now

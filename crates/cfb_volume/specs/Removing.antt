@@ -3,10 +3,10 @@ use Rattle.std.specs.Prelude.{ℕ, ◌≡◌}
 use Rattle.cfb_format.specs.declared.objtype.ObjType.TheVariants.{Stream}
 use Rattle.cfb_format.specs.declared.validate.Validation.{Validation}
 use Rattle.cfb_format.specs.Siblings.{entry_at}
-use Rattle.cfb_tables.specs.Tables.{AreExactTables}
-use Rattle.cfb_mini_sectors.specs.State.{IsChangeable, MiniState, entries_of, tables_in}
-use Rattle.cfb_mini_sectors.specs.Steps.{IsSnugMini, KeepsLimits}
-use Rattle.cfb_content.specs.Contents.{AreAllUsed, AreSnug, KeepsOthers, MovesContent, len_of}
+use Rattle.cfb_volume.specs.cfb_tables.Tables.{AreExactTables}
+use Rattle.cfb_volume.specs.cfb_mini_sectors.State.{IsChangeable, MiniState, entries_of, tables_in}
+use Rattle.cfb_volume.specs.cfb_mini_sectors.Steps.{IsSnugMini, KeepsLimits}
+use Rattle.cfb_volume.specs.cfb_content.Contents.{AreAllUsed, AreSnug, KeepsOthers, MovesContent, len_of}
 use Rattle.cfb_agreement.specs.Files.{IsTidy}
 
 -- the object of entry i has no content: a stream's was given back, and all else is as before

@@ -5,20 +5,20 @@ ghost use Rattle.cfb_format.specs.Reading.{IsOutline, Outline, numbers, stream_n
 ghost use Rattle.cfb_format.specs.Siblings.{entry_at};
 ghost use Rattle.cfb_format.specs.Refused.{AfterMedium, CountsFailure, IsBreak};
 ghost use Rattle.cfb_outline.specs.Outlines.{HasInside, IsReachedStorage};
-ghost use Rattle.cfb_rules.specs.CallChanges.{removed_at};
-ghost use Rattle.cfb_rules.specs.Finding.{last_name, parent_names};
-ghost use Rattle.cfb_siblings.specs.Children.{HasChildren, IsChildNamed};
-ghost use Rattle.cfb_siblings.specs.Paths.{number_from};
-ghost use Rattle.cfb_trees.specs.Reached.{IsReached};
-ghost use Rattle.cfb_objects.specs.Laws.{BecomesTree};
-ghost use Rattle.cfb_mini_sectors.specs.State.{bytes_of, cases_of, entries_of, tables_in};
-ghost use Rattle.cfb_content.specs.Contents.{IsStreamOf, KeepsFixedHeader, len_of};
+ghost use Rattle.cfb_volume.specs.cfb_rules.CallChanges.{removed_at};
+ghost use Rattle.cfb_volume.specs.cfb_rules.Finding.{last_name, parent_names};
+ghost use Rattle.cfb_volume.specs.cfb_siblings.Children.{HasChildren, IsChildNamed};
+ghost use Rattle.cfb_volume.specs.cfb_siblings.Paths.{number_from};
+ghost use Rattle.cfb_volume.specs.cfb_trees.Reached.{IsReached};
+ghost use Rattle.cfb_volume.specs.cfb_objects.Laws.{BecomesTree};
+ghost use Rattle.cfb_volume.specs.cfb_mini_sectors.State.{bytes_of, cases_of, entries_of, tables_in};
+ghost use Rattle.cfb_volume.specs.cfb_content.Contents.{IsStreamOf, KeepsFixedHeader, len_of};
 ghost use Rattle.cfb_agreement.specs.Changes.{KeepsStreams, StaysOrFails};
 ghost use Rattle.cfb_agreement.specs.Files.{Agrees, Holds, IsAsMade, GrowsTightly, SameSetting, failures_of, is_failed};
 ghost use Rattle.cfb_agreement.specs.Laws.{with_flags};
 ghost use Rattle.cfb_entry_changes.specs.Clearing.{ClearsStorage};
 ghost use Rattle.cfb_entry_changes.specs.Kept.{AllStayBalancedBut};
-ghost use Rattle.cfb_volume.specs.Clearing.{BreaksOff, EmptiesStorage, EmptiesStreams, KeepsStreamsBut, KeepsStreamsBeside, RemovesWithAll, StandsAs, emptied_at};
+ghost use Rattle.cfb_volume.specs.Clearing.{ClearingBreaksOff, EmptiesStorage, EmptiesStreams, KeepsStreamsBut, KeepsStreamsBeside, RemovesWithAll, StandsAs, emptied_at};
 
 use crate::volume::Volume;
 use cfb_format::consts::NO_STREAM;
@@ -113,7 +113,7 @@ impl<F: Medium, A: Heap + Clone> Volume<F, A> {
         ensures none { IfOk result (λ some. some ≡ false → self.new ≡ self.old) }
         ensures others { IsTrue F.tells → Holds self.old
             → KeepsStreamsBut (entry ∷ []) self.old.base self.new.base }
-        ensures refused { IfErr result (BreaksOff F.tells (λ f. F.read_faults f
+        ensures refused { IfErr result (ClearingBreaksOff F.tells (λ f. F.read_faults f
             || F.write_faults f) self.old self.new) }
     {
         if !self.has_bytes(entry) {
@@ -137,7 +137,7 @@ impl<F: Medium, A: Heap + Clone> Volume<F, A> {
         ensures none { IfOk result (λ some. some ≡ false → self.new ≡ self.old) }
         ensures others { IsTrue F.tells → Holds self.old
             → KeepsStreamsBut list.now self.old.base self.new.base }
-        ensures refused { IfErr result (BreaksOff F.tells (λ f. F.read_faults f
+        ensures refused { IfErr result (ClearingBreaksOff F.tells (λ f. F.read_faults f
             || F.write_faults f) self.old self.new) }
     {
         let _entries = self.entries();
@@ -160,7 +160,7 @@ impl<F: Medium, A: Heap + Clone> Volume<F, A> {
         ensures emptied { OnOk result (EmptiesStorage F.tells top self.old self.new) }
         ensures others { IsTrue F.tells → Holds self.old
             → KeepsStreamsBeside top self.old.base self.new.base }
-        ensures refused { IfErr result (BreaksOff F.tells (λ f. F.read_faults f
+        ensures refused { IfErr result (ClearingBreaksOff F.tells (λ f. F.read_faults f
             || F.write_faults f) self.old self.new) }
     {
         let inside = contents(self.heap().clone()?, self.entries(), top)?;
@@ -190,7 +190,7 @@ impl<F: Medium, A: Heap + Clone> Volume<F, A> {
             (RemovesWithAll F.tells parent top (chars name.now) self.old self.new) }
         ensures others { IsTrue F.tells → Holds self.old
             → KeepsStreamsBeside top self.old.base self.new.base }
-        ensures refused { IfErr result (BreaksOff F.tells (λ f. F.read_faults f
+        ensures refused { IfErr result (ClearingBreaksOff F.tells (λ f. F.read_faults f
             || F.write_faults f) self.old self.new) }
     {
         let _entries = self.entries();
@@ -219,7 +219,7 @@ impl<F: Medium, A: Heap + Clone> Volume<F, A> {
             (RemovesWithAll F.tells parent top (chars name.now) self.old self.new) }
         ensures others { IsTrue F.tells → Holds self.old
             → KeepsStreamsBeside top self.old.base self.new.base }
-        ensures refused { IfErr result (BreaksOff F.tells (λ f. F.read_faults f
+        ensures refused { IfErr result (ClearingBreaksOff F.tells (λ f. F.read_faults f
             || F.write_faults f) self.old self.new) }
     {
         let _entries = self.entries();

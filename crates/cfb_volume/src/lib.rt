@@ -6,3 +6,6 @@ mod inserting;
 mod marking;
 mod removing;
 pub mod volume;
+
+// What crates above name of those below.
+pub use cfb_growing::Fields;

@@ -5,22 +5,22 @@ ghost use Rattle.cfb_format.specs.Reading.{IsOutline, Outline};
 ghost use Rattle.cfb_format.specs.Refused.{CountsFailure, HasReason, IsMediumAnd};
 ghost use Rattle.cfb_format.specs.Siblings.{entry_at};
 ghost use Rattle.cfb_format.specs.Tree.{StorageInfo, StreamInfo};
-ghost use Rattle.cfb_entries.specs.Fields.{entries_with_fields, entry_with_fields, fields_in};
-ghost use Rattle.cfb_rules.specs.CallChanges.{fields_changed_at};
-ghost use Rattle.cfb_siblings.specs.Paths.{number_from};
-ghost use Rattle.cfb_trees.specs.Reached.{IsReached};
-ghost use Rattle.cfb_objects.specs.Laws.{BecomesTree};
-ghost use Rattle.cfb_mini_sectors.specs.State.{bytes_of, cases_of, entries_of, tables_in, version_of};
-ghost use Rattle.cfb_content.specs.Contents.{KeepsFixedHeader, len_of};
+ghost use Rattle.cfb_volume.specs.cfb_entries.Fields.{entries_with_fields, entry_with_fields, fields_in};
+ghost use Rattle.cfb_volume.specs.cfb_rules.CallChanges.{fields_changed_at};
+ghost use Rattle.cfb_volume.specs.cfb_siblings.Paths.{number_from};
+ghost use Rattle.cfb_volume.specs.cfb_trees.Reached.{IsReached};
+ghost use Rattle.cfb_volume.specs.cfb_objects.Laws.{BecomesTree};
+ghost use Rattle.cfb_volume.specs.cfb_mini_sectors.State.{bytes_of, cases_of, entries_of, tables_in, version_of};
+ghost use Rattle.cfb_volume.specs.cfb_content.Contents.{KeepsFixedHeader, len_of};
 ghost use Rattle.cfb_agreement.specs.Changes.{KeepsStreams, StaysOrFails};
 ghost use Rattle.cfb_agreement.specs.Files.{Agrees, Holds, IsAsMade, SameSetting, failures_of, is_failed};
 ghost use Rattle.cfb_entry_changes.specs.Kept.{AllStayBalanced, FindsTheSame};
 ghost use Rattle.cfb_entry_changes.specs.Marking.{GivesFields};
 
 use crate::volume::Volume;
-use cfb_entries::fields::Fields;
 use cfb_format::error::Error;
 use cfb_format::medium::Medium;
+use cfb_growing::Fields;
 use std::alloc::Allocator as Heap;
 
 impl<F: Medium, A: Heap> Volume<F, A> {

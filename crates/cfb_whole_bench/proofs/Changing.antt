@@ -1,15 +1,16 @@
 -- What calls on a stream make of its list.
-use Rattle.std.proofs.Common.{◌≡◌, ◌≤◌, ◌<◌, ◌+◌, ◌-◌, ◌∙◌, ℕ, List, [], ◌∷◌, ◌++◌, Bool, true, false, refl, sym, ap, subst, arith, length, take, drop, replicate, min, max, length-append, length-take, length-drop}
+use Rattle.std.proofs.Common.{◌≡◌, ◌≤◌, ◌<◌, ◌+◌, ◌-◌, ◌∙◌, ℕ, List, [], ◌∷◌, ◌++◌, Bool, true, false, refl, sym, ap, subst, arith, length, take, drop, replicate, min, max, length-take, length-drop}
 use Rattle.std.specs.Prelude.{MatchBool, nat_lt, nat_le, ◌==◌}
 use Rattle.std.proofs.lemmas.Bool.{eqb-true, eqb-false, leb-true, ltb-true}
-use Rattle.std.proofs.lemmas.List.{length-replicate, take-append-drop, take_all, append-nil}
-use Rattle.cfb_rules.specs.Refusal.{Refusal, invalid_input, not_sound}
-use Rattle.cfb_rules.specs.StreamCalls.{StreamSetting, StreamState, StreamStep, write, set_len, count, ready, not_done, Becomes, Moves, Wrote, resized}
-use Rattle.cfb_stream_buffer.specs.Contents.{laid}
-use Rattle.cfb_stream_buffer.proofs.Lists.{laid-next, laid-nothing, length-laid}
+use Rattle.std.proofs.lemmas.List.{take-append-drop, take_all, append-nil}
+use Rattle.cfb_whole_bench.specs.cfb_rules.Refusal.{Refusal, invalid_input, not_sound}
+use Rattle.cfb_whole_bench.specs.cfb_rules.StreamCalls.{StreamSetting, StreamState, StreamStep, write, set_len, count, ready, not_done, Becomes, Moves, Wrote, resized}
+use Rattle.cfb_whole_bench.specs.cfb_stream_buffer.Contents.{laid}
+use Rattle.cfb_whole_bench.proofs.cfb_stream_buffer.Lists.{laid-next, laid-nothing, length-laid}
 use Rattle.cfb_whole_bench.specs.declared.whole.Change.{Change}
 use Rattle.cfb_whole_bench.specs.Changes.{ListAt, Stands, after, after_all, after_set_len, after_write}
-use Rattle.cfb_whole_bench.specs.Laws.{IsAtTheLimit, IsWritten}
+use Rattle.cfb_whole_bench.specs.Laws.{IsAtTheLimit, PutsBeginning}
+use Rattle.cfb_whole_bench.proofs.cfb_rules.StreamBounds.{length_resized}
 
 laid_parts : (at n : ℕ) (f c : List ℕ) → length f ≡ n → take at c ++ f ++ drop (at + n) c ≡ laid at f c
 unfolding laid
@@ -39,7 +40,7 @@ wrote_stands s old new bytes n st most w =
     }
 
 pub part_written : (setting : StreamSetting) (s : ListAt) (old new : StreamState) (bytes : List ℕ) (n : ℕ) → setting.sound ≡ true → Stands s old
-    → StreamStep setting old (write bytes) (count n) new → IsWritten s bytes n new
+    → StreamStep setting old (write bytes) (count n) new → PutsBeginning s bytes n new
 part_written setting s old new bytes n sound st = go (length bytes == 0) (nat_le setting.limit old.position) setting.sound refl sound
   where
     none : count n ≡ count 0 → n ≡ 0
@@ -49,7 +50,7 @@ part_written setting s old new bytes n sound st = go (length bytes == 0) (nat_le
         → MatchBool a ((count n ≡ count 0) × Moves old new old.position 0)
         (MatchBool b ((count n ≡ not_done invalid_input) × (new ≡ old))
         (MatchBool c ((k : ℕ) × (1 ≤ k) × (k ≤ length bytes) × (old.position + k ≤ setting.limit) × (count n ≡ count k) × Wrote bytes k old new)
-        ((count n ≡ not_done not_sound) × (new ≡ old)))) → IsWritten s bytes n new
+        ((count n ≡ not_done not_sound) × (new ≡ old)))) → PutsBeginning s bytes n new
     go true b c h e step =
         let zero : n ≡ 0 = none step.0 in
         let empty : length bytes ≡ 0 = eqb-true (length bytes) 0 h in
@@ -100,9 +101,6 @@ write_refused setting s old new bytes refusal sound st = go (length bytes == 0) 
         }
     go false false true h k e step = absurd (let bad : not_done refusal ≡ count step.0 = step.4 in cc)
     go false false false h k e step = absurd (cc)
-
-pub length_resized : (c : List ℕ) (n : ℕ) → length (resized c n) ≡ n
-length_resized c n = omega (arith, length-append (take n c) (replicate (n - length c) 0), length-take n c, length-replicate {A = ℕ} (n - length c) 0)
 
 pub length_set : (setting : StreamSetting) (s : ListAt) (old new : StreamState) (len : ℕ) → setting.sound ≡ true → Stands s old
     → StreamStep setting old (set_len len) ready new → Stands (after_set_len s len) new

@@ -1,6 +1,6 @@
 -- A file in memory: how the stream is made in it and closed.
 use Rattle.std.proofs.Common.{◌≡◌, ◌∙◌, ◌+◌, ℕ, List, [], ◌∷◌, Bool, true, false, Option, Some, None, refl, sym, ap, subst, arith, length, inl, inr}
-use Rattle.std.specs.Prelude.{Result, Ok, Err, IfErr, IfOk, OnErr, OnOk, MatchBool, MatchOption, MatchResult, IsTrue, ⊤, ◌⊎◌, option_and_then, if◌then◌else◌}
+use Rattle.std.specs.Prelude.{Result, Ok, Err, IfErr, IfOk, OnOk, MatchBool, MatchOption, MatchResult, IsTrue, ⊤, ◌⊎◌, option_and_then, if◌then◌else◌}
 use Rattle.std.specs.Str.{chars}
 use Rattle.cfb_format.specs.declared.error.Error.{Error}
 use Rattle.cfb_format.specs.declared.error.Error.TheVariants.{NotFound, AlreadyExists, InvalidInput, InvalidData, Medium, Memory, Full, Unsound, Failed}
@@ -14,28 +14,28 @@ use Rattle.cfb_format.specs.Names.{Cases, default_cases}
 use Rattle.cfb_format.specs.Path.{names_of_path}
 use Rattle.cfb_format.specs.Refused.{number_of}
 use Rattle.cfb_format.specs.Tree.{Tree}
-use Rattle.cfb_rules.specs.Calls.{Reply, create_new_stream, done, refused}
-use Rattle.cfb_rules.specs.CallChanges.{tree_after}
-use Rattle.cfb_rules.specs.Refusal.{Refusal, failed_earlier, refusal_number}
-use Rattle.cfb_rules.specs.Runs.{BlamesOneOf, CallRuns, Causes, Closes, FollowsRules, IsBroken, OnFailed, TreeState, tree_with_stream}
-use Rattle.cfb_rules.specs.Steps.{kind_of, outcome}
-use Rattle.cfb_directory.specs.State.{IsFullForEntry}
-use Rattle.cfb_siblings.specs.Paths.{number_from}
-use Rattle.cfb_mini_sectors.specs.State.{bytes_of, cases_of, entries_of, version_of}
-use Rattle.cfb_agreement.specs.Files.{Agrees, FileState, IsFullFile, failures_of, is_failed}
-use Rattle.cfb_stream_buffer.specs.Contents.{laid}
-use Rattle.cfb_stream_buffer.proofs.Lists.{laid-nothing}
-use Rattle.cfb_stream_window.specs.Answers.{AtRefusal}
-use Rattle.cfb_stream_window.specs.Windows.{Window}
-use Rattle.cfb_compound_file.specs.Adding.{IsCreatedBy}
-use Rattle.cfb_path_changes.specs.Answers.{IsDoneBy, IsRefusedBy, MeansTree, RunsOn, causes_of, causes_of_call, setting_of, state_with}
-use Rattle.cfb_compound_file.specs.Opening.{IsCreatedWith, permissive_options}
-use Rattle.cfb_path_changes.proofs.NewObjects.{moved_leads, path_leads}
-use Rattle.cfb_compound_file.specs.Stored.{ChangesStream, KeepsRest}
-use Rattle.cfb_path_changes.specs.Finding.{StandsAt}
-use Rattle.cfb_compound_file.specs.StreamAnswers.{ClosesTree, IsClosingRefused, OpenStream, closed_tree, run_in, stored_in, stream_in}
+use Rattle.cfb_whole_bench.specs.cfb_rules.Calls.{Reply, create_new_stream, done, refused}
+use Rattle.cfb_whole_bench.specs.cfb_rules.CallChanges.{tree_after}
+use Rattle.cfb_whole_bench.specs.cfb_rules.Refusal.{Refusal, failed_earlier, refusal_number}
+use Rattle.cfb_whole_bench.specs.cfb_rules.Runs.{BlamesOneOf, CallRuns, Causes, Closes, FollowsRules, IsBroken, OnFailed, TreeState, tree_with_stream}
+use Rattle.cfb_whole_bench.specs.cfb_rules.Steps.{kind_of, outcome}
+use Rattle.cfb_whole_bench.specs.cfb_directory.State.{IsFullForEntry}
+use Rattle.cfb_whole_bench.specs.cfb_siblings.Paths.{number_from}
+use Rattle.cfb_whole_bench.specs.cfb_mini_sectors.State.{bytes_of, cases_of, entries_of, version_of}
+use Rattle.cfb_whole_bench.specs.cfb_agreement.Files.{Agrees, FileState, IsFullFile, failures_of, is_failed}
+use Rattle.cfb_whole_bench.specs.cfb_stream_buffer.Contents.{laid}
+use Rattle.cfb_whole_bench.proofs.cfb_stream_buffer.Lists.{laid-nothing}
+use Rattle.cfb_whole_bench.specs.cfb_stream_window.Answers.{AtRefusal}
+use Rattle.cfb_whole_bench.specs.cfb_stream_window.Windows.{Window}
+use Rattle.cfb_whole_bench.specs.cfb_compound_file.Adding.{IsCreatedBy}
+use Rattle.cfb_whole_bench.specs.cfb_path_changes.Answers.{IsDoneBy, IsRefusedBy, MeansTree, RunsOn, causes_of, causes_of_call, setting_of, state_with}
+use Rattle.cfb_whole_bench.specs.cfb_compound_file.Opening.{IsCreatedWith, permissive_options}
+use Rattle.cfb_whole_bench.proofs.cfb_path_changes.NewObjects.{moved_leads, path_leads}
+use Rattle.cfb_whole_bench.specs.cfb_compound_file.Stored.{ChangesStream, KeepsRest}
+use Rattle.cfb_whole_bench.specs.cfb_path_changes.Finding.{StandsAt}
+use Rattle.cfb_whole_bench.specs.cfb_compound_file.StreamAnswers.{ClosesTree, IsClosingRefused, OpenStream, closed_tree, run_in, stored_in, stream_in}
 use Rattle.cfb_whole_bench.specs.Changes.{ListAt, empty_list, some_too_long}
-use Rattle.cfb_whole_bench.specs.OneStream.{AreChangesRefused, IsChangedTo, IsDataRefused, IsFileRefused, IsFullFor, IsFullNow, IsMadeWith, IsSettled, IsWantOfMemory, LacksForOne, data_name, data_path, data_tree}
+use Rattle.cfb_whole_bench.specs.OneStream.{AreChangesRefused, IsChangedTo, IsDataRefused, IsFileRefused, IsFullFor, IsFullNow, IsMadeWith, ClosesCalmly, IsWantOfMemory, LacksForOne, data_name, data_path, data_tree}
 use Rattle.cfb_whole_bench.specs.declared.whole.Change.{Change}
 use Rattle.cfb_whole_bench.proofs.Refusals.{by_break, stopped_so}
 
@@ -192,9 +192,6 @@ module _ (version : Version) (old : FileState) (is : IsMadeWith version empty_tr
             )
       ]
 
-pub at_error : {T : Type 0} (P : Error → Type 0) (result : Result T Error) (e : Error) → result ≡ Err e → OnErr result (IfErr result P) → P e
-at_error P result e is h = subst (λ r. OnErr r (IfErr r P)) is h
-
 -- ---- the stream is closed
 
 data_names : names_of_path data_path ≡ Some (data_name ∷ [])
@@ -210,7 +207,7 @@ stands_still first now entry rest stands =
 
 -- where nothing is written, closing leaves the file as it is
 pub settled_same : {T : Type 0} (causes : Causes) (now : OpenStream) (new : FileState) (result : Result T Error) → (now.window.pending ≡ false → new ≡ now.file)
-    → OnOk result (Closes causes (run_in now) None (is_failed new)) → IfErr result (IsClosingRefused is_refused_growth now new) → IsSettled now → new ≡ now.file
+    → OnOk result (Closes causes (run_in now) None (is_failed new)) → IfErr result (IsClosingRefused is_refused_growth now new) → ClosesCalmly now → new ≡ now.file
 settled_same causes now new result calm closes by (inr nothing) = calm nothing
 settled_same causes now new (Ok x) calm closes by (inl failed) = absurd (go (is_failed now.file) failed closes)
   where
@@ -245,7 +242,7 @@ module _ (version : Version) (first : FileState) (entry : ℕ) (is : IsMadeWith 
     lacks = inr (entry, stands_still first file entry rest placed, lacks);
   }
 
-  pub changes_refused : (changes : List Change) (now : OpenStream) (new : FileState) (e : Error) → (IsSettled now → new ≡ now.file) → AreChangesRefused first entry empty_list changes now e
+  pub changes_refused : (changes : List Change) (now : OpenStream) (new : FileState) (e : Error) → (ClosesCalmly now → new ≡ now.file) → AreChangesRefused first entry empty_list changes now e
       → IsDataRefused version changes new e
   changes_refused changes now new e same =
       stopped_so (IsFullNow first entry (λ file. LacksForOne file entry changes) now) (IsFullFor version changes new)

@@ -4,9 +4,9 @@ use Rattle.std.specs.Prelude.{Result, Ok, Err, IfOk, MatchResult}
 use Rattle.cfb_format.specs.declared.error.Error.{Error}
 use Rattle.cfb_format.specs.declared.version.Version.{Version}
 use Rattle.cfb_format.specs.Created.{created_bytes}
-use Rattle.cfb_mini_sectors.specs.State.{bytes_of}
-use Rattle.cfb_agreement.specs.Files.{FileState, failures_of}
-use Rattle.cfb_compound_file.specs.Opening.{IsCreatedWith, IsOpenedWith, permissive_options}
+use Rattle.cfb_whole_bench.specs.cfb_mini_sectors.State.{bytes_of}
+use Rattle.cfb_whole_bench.specs.cfb_agreement.Files.{FileState, failures_of}
+use Rattle.cfb_whole_bench.specs.cfb_compound_file.Opening.{IsCreatedWith, IsOpenedWith, permissive_options}
 
 pub made_bytes : (version : Version) (failures : ℕ) (P : Error → Type 0) (result : Result FileState Error)
     → MatchResult result (IsCreatedWith version permissive_options failures) P → IfOk result (λ file. bytes_of file.base ≡ created_bytes version)

@@ -9,26 +9,27 @@ use Rattle.cfb_format.specs.declared.error.Error.{Error}
 use Rattle.cfb_format.specs.Bytes.{max_stream_len}
 use Rattle.cfb_format.specs.Memory.{is_refused_growth}
 use Rattle.cfb_format.specs.Medium.{Rises}
-use Rattle.cfb_rules.specs.Refusal.{Refusal, failed_earlier, file_full, invalid_input, not_sound, out_of_memory}
-use Rattle.cfb_rules.specs.Runs.{BlamesOneOf, Causes, IsStreamBroken, StaysUnfailed, StreamBreaksOff, StreamOnFailed, StreamRun, WorkMayBreak, appending, no_work, overwriting, resizing, work_of, writing_out}
-use Rattle.cfb_rules.specs.StreamCalls.{IsStream, Moves, Wrote, StreamCall, StreamReply, StreamSetting, StreamStep, count, flush, not_done, ready, set_len, write}
-use Rattle.cfb_rules.proofs.StreamBounds.{StreamStep-keeps}
-use Rattle.cfb_mini_sectors.specs.State.{version_of}
-use Rattle.cfb_content.specs.Contents.{IsTooLongFor}
-use Rattle.cfb_agreement.specs.Files.{FileState, IsFullFile, failures_of, is_failed}
-use Rattle.cfb_stream_buffer.specs.Contents.{stream_setting_of}
-use Rattle.cfb_stream_buffer.proofs.Lists.{laid-nothing}
-use Rattle.cfb_stream_window.specs.Windows.{Runs}
-use Rattle.cfb_path_changes.specs.Answers.{causes_of}
-use Rattle.cfb_compound_file.specs.Stored.{ChangesInTurn, KeepsRest}
-use Rattle.cfb_compound_file.specs.StreamAnswers.{GoesOnInTurn, IsStreamRefused, OpenStream, StreamRunsBy, causes_of_len, run_in, stored_in, stream_in}
+use Rattle.cfb_whole_bench.specs.cfb_rules.Refusal.{Refusal, failed_earlier, file_full, invalid_input, not_sound, out_of_memory}
+use Rattle.cfb_whole_bench.specs.cfb_rules.Runs.{BlamesOneOf, Causes, IsStreamBroken, StaysUnfailed, StreamBreaksOff, StreamOnFailed, StreamRun, WorkMayBreak, appending, no_work, overwriting, resizing, work_of, writing_out}
+use Rattle.cfb_whole_bench.specs.cfb_rules.StreamCalls.{IsStream, Moves, Wrote, StreamCall, StreamReply, StreamSetting, StreamStep, count, flush, not_done, ready, set_len, write}
+use Rattle.cfb_whole_bench.proofs.cfb_rules.StreamBounds.{StreamStep-keeps, length_resized}
+use Rattle.cfb_whole_bench.specs.cfb_mini_sectors.State.{version_of}
+use Rattle.cfb_whole_bench.specs.cfb_content.Contents.{IsTooLongFor}
+use Rattle.cfb_whole_bench.specs.cfb_agreement.Files.{FileState, IsFullFile, failures_of, is_failed}
+use Rattle.cfb_whole_bench.specs.cfb_stream_buffer.Contents.{stream_setting_of}
+use Rattle.cfb_whole_bench.proofs.cfb_stream_buffer.Lists.{laid-nothing}
+use Rattle.cfb_whole_bench.specs.cfb_stream_window.Windows.{Runs}
+use Rattle.cfb_whole_bench.specs.cfb_path_changes.Answers.{causes_of}
+use Rattle.cfb_whole_bench.specs.cfb_compound_file.Stored.{ChangesInTurn, KeepsRest}
+use Rattle.cfb_whole_bench.specs.cfb_compound_file.StreamAnswers.{GoesOnInTurn, IsStreamRefused, OpenStream, StreamRunsBy, causes_of_len, run_in, stored_in, stream_in}
 use Rattle.cfb_whole_bench.specs.Changes.{ListAt, Stands, after, after_all, after_set_len, after_write, is_too_long, some_too_long}
-use Rattle.cfb_whole_bench.specs.Laws.{IsAtTheLimit, IsWritten}
-use Rattle.cfb_whole_bench.specs.OneStream.{AreChangesRefused, IsChangeRefused, IsChangedTo, IsFullNow, IsSettled, IsStopped, LacksFor, LacksForOne}
+use Rattle.cfb_whole_bench.specs.Laws.{IsAtTheLimit, PutsBeginning}
+use Rattle.cfb_whole_bench.specs.OneStream.{AreChangesRefused, IsChangeRefused, IsChangedTo, IsFullNow, ClosesCalmly, IsStopped, LacksForChange, LacksForOne}
 use Rattle.cfb_whole_bench.specs.declared.whole.Change.{Change}
 use Rattle.cfb_whole_bench.specs.declared.whole.Change.TheVariants.{SetLen, Write}
-use Rattle.cfb_whole_bench.proofs.Changing.{length_refused, length_resized, length_set, part_written, write_refused, writes_compose}
+use Rattle.cfb_whole_bench.proofs.Changing.{length_refused, length_set, part_written, write_refused, writes_compose}
 use Rattle.cfb_whole_bench.proofs.Refusals.{by_break, by_rule, stopped_so}
+use Rattle.cfb_commands.proofs.Calls.{or_so}
 
 -- what is known of a call on a file that has not failed
 served : (causes : Causes) (old : OpenStream) (call : StreamCall) (reply : StreamReply) (new : OpenStream) → is_failed old.file ≡ false
@@ -105,7 +106,7 @@ module _ (first : FileState) (entry : ℕ) (s : ListAt) (old new : OpenStream) (
       → (n ≤ length bytes) × (0 < length bytes → 1 ≤ n) × IsChangedTo first entry (after_write s (take n bytes)) new
   wrote causes bytes n runs = elim (served causes old (write bytes) (count n) new is.unfailed runs) [
     | inl a ↦ (
-        let w : IsWritten s bytes n (stream_in new) = part_written (stream_setting_of (stored_in old)) s (stream_in old) (stream_in new) bytes n is.sound is.stands a.0 in
+        let w : PutsBeginning s bytes n (stream_in new) = part_written (stream_setting_of (stored_in old)) s (stream_in old) (stream_in new) bytes n is.sound is.stands a.0 in
         (w.most, w.some, goes_on (after_write s (take n bytes)) a.1 w.stands (keeps_bounds (write bytes) (count n) a.0))
         )
     | inr b ↦ absurd (let bad : count n ≡ not_done b.0 = b.2 in cc)
@@ -138,7 +139,7 @@ module _ (first : FileState) (entry : ℕ) (s : ListAt) (old new : OpenStream) (
   limit_is = ap max_stream_len is.rest.setting.limits.version
 
   -- it was refused, by the rules or not
-  refused_by : (lacks wrong full : Type 0) (call : StreamCall) (e : Error) → (lacks → IsSettled new → full)
+  refused_by : (lacks wrong full : Type 0) (call : StreamCall) (e : Error) → (lacks → ClosesCalmly new → full)
       → ((r : Refusal) → StreamStep (stream_setting_of (stored_in old)) (stream_in old) call (not_done r) (stream_in new) → (r ≡ invalid_input) × wrong)
       → ((r : Refusal) → WorkMayBreak (record { medium = Rises (failures_of old.file) (failures_of new.file); full = lacks }) (stream_in old).pending (work_of (stream_in old) call) r
       → BlamesOneOf (Rises (failures_of old.file) (failures_of new.file)) ⊤ lacks r)
@@ -154,10 +155,10 @@ module _ (first : FileState) (entry : ℕ) (s : ListAt) (old new : OpenStream) (
             )
         | inr b ↦ (
             let same : r ≡ b.0 = (let k : not_done r ≡ not_done b.0 = b.2 in cc) in
-            let blames : BlamesOneOf (Rises (failures_of old.file) (failures_of new.file)) ⊤ (lacks × IsSettled new) b.0 =
-            and_so (Rises (failures_of old.file) (failures_of new.file)) lacks (IsSettled new) b.0 (breaks b.0 b.1) (settles b.0 b.3) in
-            by_break full wrong (Rises (failures_of old.file) (failures_of new.file)) (lacks × IsSettled new) (λ h. gives h.0 h.1) (failures_of old.file) (failures_of new.file) e r refused.counts
-            refused.rules.1 (subst (λ (x : Refusal). BlamesOneOf (Rises (failures_of old.file) (failures_of new.file)) ⊤ (lacks × IsSettled new) x) (sym same) blames)
+            let blames : BlamesOneOf (Rises (failures_of old.file) (failures_of new.file)) ⊤ (lacks × ClosesCalmly new) b.0 =
+            and_so (Rises (failures_of old.file) (failures_of new.file)) lacks (ClosesCalmly new) b.0 (breaks b.0 b.1) (settles b.0 b.3) in
+            by_break full wrong (Rises (failures_of old.file) (failures_of new.file)) (lacks × ClosesCalmly new) (λ h. gives h.0 h.1) (failures_of old.file) (failures_of new.file) e r refused.counts
+            refused.rules.1 (subst (λ (x : Refusal). BlamesOneOf (Rises (failures_of old.file) (failures_of new.file)) ⊤ (lacks × ClosesCalmly new) x) (sym same) blames)
             )
       ]
     where
@@ -165,13 +166,13 @@ module _ (first : FileState) (entry : ℕ) (s : ListAt) (old new : OpenStream) (
       and_so medium lacks so file_full b known = (b, known refl)
       and_so medium lacks so r b known = b
 
-      settles : (r : Refusal) → StreamBreaksOff (stream_in old) (work_of (stream_in old) call) r (run_in new) → r ≡ file_full → IsSettled new
+      settles : (r : Refusal) → StreamBreaksOff (stream_in old) (work_of (stream_in old) call) r (run_in new) → r ≡ file_full → ClosesCalmly new
       settles r (inl x) full =
           let calm : (stream_in old).pending ≡ false = calms (subst (λ (q : Refusal). StaysUnfailed (stream_in old).pending (work_of (stream_in old) call) q) full x.0) in
           inr (ap (λ (run : StreamRun). run.stream.pending) x.1 ∙ calm)
       settles r (inr x) full = inl x.1
 
-  full_now : (lacks : FileState → Type 0) → lacks new.file → IsSettled new → IsFullNow first entry lacks new
+  full_now : (lacks : FileState → Type 0) → lacks new.file → ClosesCalmly new → IsFullNow first entry lacks new
   full_now lacks here settled = record { rest = rest_of; lacks_now = here; settled = settled }
 
   -- a write was
@@ -227,8 +228,8 @@ module _ (first : FileState) (entry : ℕ) (s : ListAt) (old new : OpenStream) (
   pub flush_stops : (len : ℕ) (e : Error) → IsStreamRefused (causes_of old.file new.file) is_refused_growth old flush new e → IsChangeRefused first entry s (SetLen len) new e
   flush_stops len e =
       refused_by (IsFullFile new.file) (IsTrue (is_too_long (max_stream_len (version_of first.base)) s (SetLen len)))
-      (IsFullNow first entry (λ file. LacksFor file entry (SetLen len)) new) flush e
-      (λ lacks. full_now (λ file. LacksFor file entry (SetLen len)) (inl lacks))
+      (IsFullNow first entry (λ file. LacksForChange file entry (SetLen len)) new) flush e
+      (λ lacks. full_now (λ file. LacksForChange file entry (SetLen len)) (inl lacks))
       (λ r step. absurd (let bad : not_done r ≡ ready = step.0 in cc))
       (λ r b. flushing_breaks (causes_of old.file new.file) (stream_in old).pending r b)
       (flushing_calms (stream_in old).pending)
@@ -237,8 +238,8 @@ module _ (first : FileState) (entry : ℕ) (s : ListAt) (old new : OpenStream) (
       → IsChangeRefused first entry s (SetLen len) new e
   set_stops calm len e =
       refused_by (IsTooLongFor new.file.base old.entry len) (IsTrue (is_too_long (max_stream_len (version_of first.base)) s (SetLen len)))
-      (IsFullNow first entry (λ file. LacksFor file entry (SetLen len)) new) (set_len len) e
-      (λ lacks. full_now (λ file. LacksFor file entry (SetLen len)) (inr (subst (λ (k : ℕ). IsTooLongFor new.file.base k len) is.same_entry lacks)))
+      (IsFullNow first entry (λ file. LacksForChange file entry (SetLen len)) new) (set_len len) e
+      (λ lacks. full_now (λ file. LacksForChange file entry (SetLen len)) (inr (subst (λ (k : ℕ). IsTooLongFor new.file.base k len) is.same_entry lacks)))
       (λ r step. let w = length_refused (stream_setting_of (stored_in old)) (stream_in old) (stream_in new) len r is.sound step in
       (w.0, lt-ltb (max_stream_len (version_of first.base)) len (subst (λ (k : ℕ). k < len) limit_is w.1)))
       (λ r b. resizing_breaks (causes_of_len old.entry len old.file new.file) (len == (stream_in old).len) (stream_in old).pending r b)
@@ -319,10 +320,6 @@ or_left : (a b : Bool) → IsTrue a → IsTrue (a || b)
 or_left true b h = refl
 or_left false b h = absurd (cc)
 
-or_right : (a b : Bool) → IsTrue b → IsTrue (a || b)
-or_right true b h = refl
-or_right false b h = h
-
 -- after some changes the next one was refused
 module _ (first : FileState) (entry : ℕ) (change : Change) (later : List Change) (now : OpenStream) (e : Error) where
   limit : ℕ
@@ -331,7 +328,7 @@ module _ (first : FileState) (entry : ℕ) (change : Change) (later : List Chang
   pub changes_end : (s : ListAt) (made : List Change) → IsChangeRefused first entry (after_all s made) change now e → AreChangesRefused first entry s (made ++ change ∷ later) now e
   unfolding limit
   changes_end s [] refused =
-      stopped_so (IsFullNow first entry (λ file. LacksFor file entry change) now) (IsFullNow first entry (λ file. LacksForOne file entry (change ∷ later)) now)
+      stopped_so (IsFullNow first entry (λ file. LacksForChange file entry change) now) (IsFullNow first entry (λ file. LacksForOne file entry (change ∷ later)) now)
       (IsTrue (is_too_long limit s change)) (IsTrue (some_too_long limit s (change ∷ later)))
       (λ full. record { rest = full.rest; lacks_now = inl full.lacks_now; settled = full.settled })
       (λ h. or_left (is_too_long limit s change) (some_too_long limit (after s change) later) h) e refused
@@ -340,7 +337,7 @@ module _ (first : FileState) (entry : ℕ) (change : Change) (later : List Chang
       (IsFullNow first entry (λ file. LacksForOne file entry (x ∷ made ++ change ∷ later)) now)
       (IsTrue (some_too_long limit (after s x) (made ++ change ∷ later))) (IsTrue (some_too_long limit s (x ∷ made ++ change ∷ later)))
       (λ full. record { rest = full.rest; lacks_now = inr full.lacks_now; settled = full.settled })
-      (λ h. or_right (is_too_long limit s x) (some_too_long limit (after s x) (made ++ change ∷ later)) h) e (changes_end (after s x) made refused)
+      (λ h. or_so (is_too_long limit s x) (some_too_long limit (after s x) (made ++ change ∷ later)) h) e (changes_end (after s x) made refused)
 
 -- changes that were made were not too long, and the next one neither
 pub longer_short : (limit : ℕ) (change : Change) (s : ListAt) (made : List Change) → some_too_long limit s made ≡ false → is_too_long limit (after_all s made) change ≡ false

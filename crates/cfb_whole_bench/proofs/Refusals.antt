@@ -5,8 +5,8 @@ use Rattle.cfb_format.specs.declared.error.Error.{Error}
 use Rattle.cfb_format.specs.declared.error.Error.TheVariants.{NotFound, AlreadyExists, InvalidInput, InvalidData, Medium, Memory, Full, Unsound, Failed}
 use Rattle.cfb_format.specs.Memory.{is_refused_growth}
 use Rattle.cfb_format.specs.Refused.{CountsError, number_of}
-use Rattle.cfb_rules.specs.Refusal.{IsRefusal, Refusal, already_exists, failed_earlier, file_full, invalid_data, invalid_input, medium_failed, not_found, not_sound, out_of_memory, refusal_number}
-use Rattle.cfb_rules.specs.Runs.{BlamesOneOf}
+use Rattle.cfb_whole_bench.specs.cfb_rules.Refusal.{IsRefusal, Refusal, already_exists, failed_earlier, file_full, invalid_data, invalid_input, medium_failed, not_found, not_sound, out_of_memory, refusal_number}
+use Rattle.cfb_whole_bench.specs.cfb_rules.Runs.{BlamesOneOf}
 use Rattle.cfb_whole_bench.specs.OneStream.{IsStopped}
 
 -- the number is that of the medium, of memory, of fullness or of a wrong input

@@ -11,11 +11,11 @@ use Rattle.cfb_format.specs.Reading.{Reading, Reads}
 use Rattle.cfb_format.specs.Soundness.{IsSoundFile}
 use Rattle.cfb_format.specs.Tree.{Tree}
 use Rattle.cfb_format.proofs.Unique.{Reads-unique}
-use Rattle.cfb_mini_sectors.specs.State.{bytes_of, cases_of, reading_of}
-use Rattle.cfb_agreement.specs.Files.{Agrees, FileState, Holds, IsAsMade}
-use Rattle.cfb_agreement.specs.Laws.{AsMadeIsInOrder, SoundIsExact}
-use Rattle.cfb_opening.specs.Acceptable.{IsAcceptable}
-use Rattle.cfb_compound_file.specs.Opening.{CanBeReopened, IsOpenedWith, OpeningWithRefused, permissive_options}
+use Rattle.cfb_whole_bench.specs.cfb_mini_sectors.State.{bytes_of, cases_of, reading_of}
+use Rattle.cfb_whole_bench.specs.cfb_agreement.Files.{Agrees, FileState, Holds, IsAsMade}
+use Rattle.cfb_whole_bench.specs.cfb_agreement.Laws.{AsMadeIsInOrder, SoundIsExact}
+use Rattle.cfb_whole_bench.specs.cfb_opening.Acceptable.{IsAcceptable}
+use Rattle.cfb_whole_bench.specs.cfb_compound_file.Opening.{CanBeReopened, IsOpenedWith, OpeningWithRefused, permissive_options}
 use Rattle.cfb_whole_bench.specs.OneStream.{IsMadeWith, IsReopenedWith, IsWantOfMemory}
 
 module _ (version : Version) (tree : Tree) (file : FileState) (is : IsMadeWith version tree file) (bytes : List ℕ) (same : bytes ≡ bytes_of file.base) where

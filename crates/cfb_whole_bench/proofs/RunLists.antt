@@ -8,12 +8,12 @@ use Rattle.cfb_format.specs.Meaning.{Means}
 use Rattle.cfb_format.specs.Memory.{is_refused_growth}
 use Rattle.cfb_format.specs.Names.{Cases}
 use Rattle.cfb_format.specs.Tree.{Tree}
-use Rattle.cfb_rules.specs.Lists.{Command, CommandReply, IsLegal, IsLegalRun}
-use Rattle.cfb_rules.specs.Runs.{Setting}
-use Rattle.cfb_rules.proofs.LegalRuns.{trees_legal}
-use Rattle.cfb_mini_sectors.specs.State.{bytes_of, cases_of, root_len_of}
-use Rattle.cfb_agreement.specs.Files.{FileState, failures_of, is_failed}
-use Rattle.cfb_path_changes.specs.Answers.{MeansTree, setting_of, state_with}
+use Rattle.cfb_whole_bench.specs.cfb_rules.Lists.{Command, CommandReply, IsLegal, IsLegalRun}
+use Rattle.cfb_whole_bench.specs.cfb_rules.Runs.{Setting}
+use Rattle.cfb_whole_bench.proofs.cfb_rules.LegalRuns.{trees_legal}
+use Rattle.cfb_whole_bench.specs.cfb_mini_sectors.State.{bytes_of, cases_of, root_len_of}
+use Rattle.cfb_whole_bench.specs.cfb_agreement.Files.{FileState, failures_of, is_failed}
+use Rattle.cfb_whole_bench.specs.cfb_path_changes.Answers.{MeansTree, setting_of, state_with}
 use Rattle.cfb_commands.specs.Made.{StaysMade}
 use Rattle.cfb_commands.specs.Promised.{promised}
 use Rattle.cfb_commands.specs.Seen.{seen_as, standing_at}

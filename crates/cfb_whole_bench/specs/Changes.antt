@@ -1,7 +1,7 @@
 -- A list of changes of a stream, and what they make of its list of bytes.
 use Rattle.std.specs.Prelude.{ℕ, ◌+◌, ◌≡◌, ◌≤◌, min, List, [], ◌∷◌, Bool, false, ◌||◌, length, nat_lt}
-use Rattle.cfb_rules.specs.StreamCalls.{StreamState, resized}
-use Rattle.cfb_stream_buffer.specs.Contents.{laid}
+use Rattle.cfb_whole_bench.specs.cfb_rules.StreamCalls.{StreamState, resized}
+use Rattle.cfb_whole_bench.specs.cfb_stream_buffer.Contents.{laid}
 use Rattle.cfb_whole_bench.specs.declared.whole.Change.{Change}
 use Rattle.cfb_whole_bench.specs.declared.whole.Change.TheVariants.{Write, SetLen}
 

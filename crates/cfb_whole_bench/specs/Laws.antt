@@ -1,19 +1,19 @@
 -- What the rules of calls on streams make of a list of changes.
 use Rattle.std.specs.Prelude.{ℕ, ◌≡◌, ◌<◌, ◌≤◌, true, List, ◌++◌, length, take, drop}
-use Rattle.cfb_rules.specs.Refusal.{Refusal, invalid_input}
-use Rattle.cfb_rules.specs.StreamCalls.{StreamSetting, StreamState, StreamStep, write, set_len, count, ready, not_done}
+use Rattle.cfb_whole_bench.specs.cfb_rules.Refusal.{Refusal, invalid_input}
+use Rattle.cfb_whole_bench.specs.cfb_rules.StreamCalls.{StreamSetting, StreamState, StreamStep, write, set_len, count, ready, not_done}
 use Rattle.cfb_whole_bench.specs.Changes.{ListAt, Stands, after_all, after_set_len, after_write}
 use Rattle.cfb_whole_bench.specs.declared.whole.Change.{Change}
 
 -- a write of some bytes that is served puts a beginning of them, at least one; of none it puts none
-pub record IsWritten (s : ListAt) (bytes : List ℕ) (n : ℕ) (new : StreamState) : Type 0 where
+pub record PutsBeginning (s : ListAt) (bytes : List ℕ) (n : ℕ) (new : StreamState) : Type 0 where
   pub most : n ≤ length bytes
   pub some : 0 < length bytes → 1 ≤ n
   pub stands : Stands (after_write s (take n bytes)) new
 
 abbrev pub PartIsWritten : Type 0
 PartIsWritten = (setting : StreamSetting) (s : ListAt) (old new : StreamState) (bytes : List ℕ) (n : ℕ) → setting.sound ≡ true → Stands s old
-    → StreamStep setting old (write bytes) (count n) new → IsWritten s bytes n new
+    → StreamStep setting old (write bytes) (count n) new → PutsBeginning s bytes n new
 
 -- a write of a beginning and then of the rest is one write of all
 abbrev pub WritesCompose : Type 0
@@ -41,5 +41,5 @@ LengthRefusedByRule = (setting : StreamSetting) (old new : StreamState) (len : �
     → StreamStep setting old (set_len len) (not_done refusal) new → (refusal ≡ invalid_input) × (setting.limit < len)
 
 -- changes in two parts are all of them
-abbrev pub ChangesInTurn : Type 0
-ChangesInTurn = (s : ListAt) (before later : List Change) → after_all s (before ++ later) ≡ after_all (after_all s before) later
+abbrev pub ChangesCompose : Type 0
+ChangesCompose = (s : ListAt) (before later : List Change) → after_all s (before ++ later) ≡ after_all (after_all s before) later

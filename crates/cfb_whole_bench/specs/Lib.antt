@@ -1,3 +1,14 @@
+pub use Rattle.cfb_commands.specs.cfb_siblings
+pub use Rattle.cfb_commands.specs.cfb_directory
+pub use Rattle.cfb_commands.specs.cfb_mini_sectors
+pub use Rattle.cfb_commands.specs.cfb_rules
+pub use Rattle.cfb_commands.specs.cfb_stream_buffer
+pub use Rattle.cfb_commands.specs.cfb_stream_window
+pub use Rattle.cfb_commands.specs.cfb_content
+pub use Rattle.cfb_commands.specs.cfb_agreement
+pub use Rattle.cfb_commands.specs.cfb_opening
+pub use Rattle.cfb_commands.specs.cfb_path_changes
+pub use Rattle.cfb_commands.specs.cfb_compound_file
 pub mod Changes
 pub mod Laws
 pub mod OneStream

@@ -6,11 +6,11 @@ use Rattle.cfb_format.specs.Created.{empty_tree}
 use Rattle.cfb_format.specs.Memory.{is_refused_growth}
 use Rattle.cfb_format.specs.Names.{default_cases}
 use Rattle.cfb_format.specs.Tree.{Tree}
-use Rattle.cfb_rules.specs.Lists.{Command, CommandReply, IsLegal, IsLegalRun}
-use Rattle.cfb_rules.specs.Runs.{Setting}
-use Rattle.cfb_mini_sectors.specs.State.{bytes_of, root_len_of}
-use Rattle.cfb_agreement.specs.Files.{FileState, failures_of, is_failed}
-use Rattle.cfb_path_changes.specs.Answers.{state_with}
+use Rattle.cfb_whole_bench.specs.cfb_rules.Lists.{Command, CommandReply, IsLegal, IsLegalRun}
+use Rattle.cfb_whole_bench.specs.cfb_rules.Runs.{Setting}
+use Rattle.cfb_whole_bench.specs.cfb_mini_sectors.State.{bytes_of, root_len_of}
+use Rattle.cfb_whole_bench.specs.cfb_agreement.Files.{FileState, failures_of, is_failed}
+use Rattle.cfb_whole_bench.specs.cfb_path_changes.Answers.{state_with}
 use Rattle.cfb_commands.specs.Promised.{promised}
 use Rattle.cfb_commands.specs.Seen.{seen_as, standing_at}
 use Rattle.cfb_whole_bench.specs.OneStream.{IsMadeWith, IsReopenedWith}

@@ -9,16 +9,16 @@ use Rattle.cfb_format.specs.Meaning.{Means}
 use Rattle.cfb_format.specs.Names.{default_cases}
 use Rattle.cfb_format.specs.Refused.{HasReason, no_error}
 use Rattle.cfb_format.specs.Tree.{Tree, nothing, stream}
-use Rattle.cfb_directory.specs.State.{IsFullForEntry}
-use Rattle.cfb_rules.specs.StreamCalls.{IsStream}
-use Rattle.cfb_mini_sectors.specs.State.{bytes_of, cases_of, tables_in, version_of}
-use Rattle.cfb_content.specs.Contents.{IsTooLongFor}
-use Rattle.cfb_agreement.specs.Files.{FileState, IsAsMade, IsFullFile, is_failed}
-use Rattle.cfb_agreement.specs.Laws.{IsInOrder}
-use Rattle.cfb_compound_file.specs.Stored.{KeepsRest}
-use Rattle.cfb_path_changes.specs.Finding.{StandsAt}
-use Rattle.cfb_compound_file.specs.StreamAnswers.{OpenStream, stored_in, stream_in}
-use Rattle.cfb_stream_buffer.specs.Contents.{stream_setting_of}
+use Rattle.cfb_whole_bench.specs.cfb_directory.State.{IsFullForEntry}
+use Rattle.cfb_whole_bench.specs.cfb_rules.StreamCalls.{IsStream}
+use Rattle.cfb_whole_bench.specs.cfb_mini_sectors.State.{bytes_of, cases_of, tables_in, version_of}
+use Rattle.cfb_whole_bench.specs.cfb_content.Contents.{IsTooLongFor}
+use Rattle.cfb_whole_bench.specs.cfb_agreement.Files.{FileState, IsAsMade, IsFullFile, is_failed}
+use Rattle.cfb_whole_bench.specs.cfb_agreement.Laws.{IsInOrder}
+use Rattle.cfb_whole_bench.specs.cfb_compound_file.Stored.{KeepsRest}
+use Rattle.cfb_whole_bench.specs.cfb_path_changes.Finding.{StandsAt}
+use Rattle.cfb_whole_bench.specs.cfb_compound_file.StreamAnswers.{OpenStream, stored_in, stream_in}
+use Rattle.cfb_whole_bench.specs.cfb_stream_buffer.Contents.{stream_setting_of}
 use Rattle.cfb_whole_bench.specs.Changes.{ListAt, Stands, empty_list, is_too_long, some_too_long}
 use Rattle.cfb_whole_bench.specs.declared.whole.Change.{Change}
 use Rattle.cfb_whole_bench.specs.declared.whole.Change.TheVariants.{Write, SetLen}
@@ -72,24 +72,24 @@ pub record IsChangedTo (first : FileState) (entry : ℕ) (s : ListAt) (now : Ope
 -- ---- refusals
 
 -- what lacks in a file that is full for this change of that entry's stream: anything, or what a length needs
-abbrev pub LacksFor : FileState → ℕ → Change → Type 0
-LacksFor file entry (Write bytes) = IsFullFile file
-LacksFor file entry (SetLen len) = IsFullFile file ⊎ IsTooLongFor file.base entry len
+abbrev pub LacksForChange : FileState → ℕ → Change → Type 0
+LacksForChange file entry (Write bytes) = IsFullFile file
+LacksForChange file entry (SetLen len) = IsFullFile file ⊎ IsTooLongFor file.base entry len
 
 -- for one of them
 abbrev pub LacksForOne : FileState → ℕ → List Change → Type 0
 LacksForOne file entry [] = ⊥
-LacksForOne file entry (change ∷ changes) = LacksFor file entry change ⊎ LacksForOne file entry changes
+LacksForOne file entry (change ∷ changes) = LacksForChange file entry change ⊎ LacksForOne file entry changes
 
 -- closing the stream leaves the file as it is: it has failed, or nothing is kept back
-abbrev pub IsSettled : OpenStream → Type 0
-IsSettled now = (is_failed now.file ≡ true) ⊎ (now.window.pending ≡ false)
+abbrev pub ClosesCalmly : OpenStream → Type 0
+ClosesCalmly now = (is_failed now.file ≡ true) ⊎ (now.window.pending ≡ false)
 
 -- nothing but the stream of that entry has changed since the first state, and so much lacks as the file is now and stays at closing
 pub record IsFullNow (first : FileState) (entry : ℕ) (lacks : FileState → Type 0) (now : OpenStream) : Type 0 where
   pub rest : KeepsRest entry first now.file
   pub lacks_now : lacks now.file
-  pub settled : IsSettled now
+  pub settled : ClosesCalmly now
 
 -- a growth of memory was refused to the medium, or memory to the call; or the file is so full; or the input is wrong
 abbrev pub IsStopped : (full wrong : Type 0) → Error → Type 0
@@ -98,7 +98,7 @@ IsStopped full wrong = HasReason (record no_error { medium = λ fault. IsTrue (i
 -- this change was refused: as a wrong input only where the stream would become longer than the version has them
 abbrev pub IsChangeRefused : FileState → ℕ → ListAt → Change → OpenStream → Error → Type 0
 IsChangeRefused first entry s change now =
-    IsStopped (IsFullNow first entry (λ file. LacksFor file entry change) now) (IsTrue (is_too_long (max_stream_len (version_of first.base)) s change))
+    IsStopped (IsFullNow first entry (λ file. LacksForChange file entry change) now) (IsTrue (is_too_long (max_stream_len (version_of first.base)) s change))
 
 -- one of them was
 abbrev pub AreChangesRefused : FileState → ℕ → ListAt → List Change → OpenStream → Error → Type 0

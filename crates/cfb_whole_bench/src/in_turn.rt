@@ -2,8 +2,8 @@
 ghost use Rattle.std.specs.Prelude.{◌||◌, ◌∷◌, [], IsTrue, chars};
 ghost use Rattle.cfb_commands.specs.Commands.{call_answer};
 ghost use Rattle.cfb_commands.specs.Working.{RunsLegally};
-ghost use Rattle.cfb_rules.specs.Calls.{create_storage, done, remove_storage, set_state_bits};
-ghost use Rattle.cfb_rules.specs.Lists.{by_path, replied};
+ghost use Rattle.cfb_whole_bench.specs.cfb_rules.Calls.{create_storage, done, remove_storage, set_state_bits};
+ghost use Rattle.cfb_whole_bench.specs.cfb_rules.Lists.{by_path, replied};
 
 use cfb::{CompoundFile, Error, Medium, Timestamp};
 use std::alloc::Allocator;

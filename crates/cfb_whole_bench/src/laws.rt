@@ -1,5 +1,5 @@
 //! What the rules of calls on streams make of a list of changes. None of these functions does anything: each has a law as its contract.
-ghost use Rattle.cfb_whole_bench.specs.Laws.{ChangesInTurn, LengthIsSet, LengthRefusedByRule, PartIsWritten, WriteRefusedByRule, WritesCompose};
+ghost use Rattle.cfb_whole_bench.specs.Laws.{ChangesCompose, LengthIsSet, LengthRefusedByRule, PartIsWritten, WriteRefusedByRule, WritesCompose};
 
 /// A write that is served puts a beginning of the bytes, at least one of some; and then the rest, which makes one write of all.
 pub fn writes_put_their_bytes()
@@ -16,5 +16,5 @@ pub fn lengths_cut_and_pad()
 
 /// Changes one after the other.
 pub fn changes_come_in_turn()
-    ensures { ChangesInTurn }
+    ensures { ChangesCompose }
 {}

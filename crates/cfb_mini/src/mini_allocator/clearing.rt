@@ -3,15 +3,15 @@ ghost use Rattle.std.specs.Prelude.{◌≡◌, ◌∷◌, ℕ, true, IsTrue, IfE
 ghost use Rattle.cfb_format.specs.declared.validate.Validation.{Validation};
 ghost use Rattle.cfb_format.specs.Reading.{Outline, numbers};
 ghost use Rattle.cfb_format.specs.Refused.{CountsFailure};
-ghost use Rattle.cfb_outline.specs.Outlines.{HasInside, IsReachedStorage};
-ghost use Rattle.cfb_tables.specs.Refused.{ChangeRefused};
-ghost use Rattle.cfb_alloc.specs.Frame.{Spares};
-ghost use Rattle.cfb_entries.specs.Clearing.{HasCleared};
-ghost use Rattle.cfb_directory.specs.Clearing.{KeepsSlotsOutside};
-ghost use Rattle.cfb_directory.specs.State.{HoldsDirectory};
-ghost use Rattle.cfb_directory.specs.Steps.{IsDirectoryNotHeld, KeepsWholeHeader};
-ghost use Rattle.cfb_mini_sectors.specs.State.{HoldsMini, cases_of, entries_of, table_of, tables_in};
-ghost use Rattle.cfb_mini_sectors.specs.Steps.{KeepsLimits, KeepsMini, StopsShort};
+ghost use Rattle.cfb_mini.specs.cfb_outline.Outlines.{HasInside, IsReachedStorage};
+ghost use Rattle.cfb_mini.specs.cfb_tables.Refused.{ChangeRefused};
+ghost use Rattle.cfb_mini.specs.cfb_alloc.Frame.{Spares};
+ghost use Rattle.cfb_mini.specs.cfb_entries.Clearing.{HasCleared};
+ghost use Rattle.cfb_mini.specs.cfb_directory.Clearing.{KeepsSlotsOutside};
+ghost use Rattle.cfb_mini.specs.cfb_directory.State.{HoldsDirectory};
+ghost use Rattle.cfb_mini.specs.cfb_directory.Steps.{IsDirectoryNotHeld, KeepsWholeHeader};
+ghost use Rattle.cfb_mini.specs.cfb_mini_sectors.State.{HoldsMini, cases_of, entries_of, table_of, tables_in};
+ghost use Rattle.cfb_mini.specs.cfb_mini_sectors.Steps.{KeepsLimits, KeepsMini, StopsShort};
 
 use crate::mini_allocator::MiniAllocator;
 use cfb_format::error::Error;

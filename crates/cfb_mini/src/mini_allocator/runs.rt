@@ -5,9 +5,9 @@ ghost use Rattle.cfb_format.specs.Content.{mini_sector_len};
 ghost use Rattle.cfb_format.specs.Medium.{part, written};
 ghost use Rattle.cfb_format.specs.Refused.{CountsFailure, IsInvalidData};
 ghost use Rattle.cfb_sectors.specs.Sectors.{IsMediumError};
-ghost use Rattle.cfb_alloc.specs.Frame.{Spares};
-ghost use Rattle.cfb_mini_sectors.specs.State.{HoldsMini, bytes_of, mini_place, mini_stream_of, table_of};
-ghost use Rattle.cfb_mini_sectors.specs.Steps.{SparesMini, StopsShort};
+ghost use Rattle.cfb_mini.specs.cfb_alloc.Frame.{Spares};
+ghost use Rattle.cfb_mini.specs.cfb_mini_sectors.State.{HoldsMini, bytes_of, mini_place, mini_stream_of, table_of};
+ghost use Rattle.cfb_mini.specs.cfb_mini_sectors.Steps.{SparesMini, StopsShort};
 ghost use Rattle.cfb_mini.specs.MiniRuns.{ChangesMiniStretch, HasTheMinis, IsMiniStretch};
 ghost use Rattle.cfb_mini_changes.specs.MiniSectors.{ChangesFileOnly, HasMiniByte, HasMiniSector, IsStill};
 

@@ -1,6 +1,6 @@
 //! Reading, seeking and writing out of a stream that may have bytes pending.
 ghost use Rattle.std.specs.Prelude.{◌≡◌, ◌+◌, ◌-◌, ◌<◌, ◌≤◌, ◌⊎◌, ◌++◌, min, max, ℕ, true, false, OnOk, OnErr, IfOk, IfErr, length, take, drop, Some, None};
-ghost use Rattle.cfb_rules.specs.StreamCalls.{read, fill_buf, seek, flush, read_to_end, ready, got, offset};
+ghost use Rattle.cfb_stream_window.specs.cfb_rules.StreamCalls.{read, fill_buf, seek, flush, read_to_end, ready, got, offset};
 ghost use Rattle.cfb_format.specs.Refused.{IsBreak};
 ghost use Rattle.cfb_stream_window.specs.Windows.{Carries, ReadBrokeOff, IsLost, Unreadable, IsSettled, StandsInside, settled, window_settled, window_at, WentTo, target_of, whence_of, IsReadable, Appended, ReadPast};
 ghost use Rattle.cfb_stream_window.specs.Answers.{IsOpen, IsReady, RunsOn, IsRefusedOn, ClosesOn, IsClosingRefused, GoesOn, HeedsFlags, HeedsWritingOut, LacksRoomToWriteOut};

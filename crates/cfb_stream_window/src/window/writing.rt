@@ -1,7 +1,7 @@
 //! Writing to a buffered stream, and giving it another length.
 ghost use Rattle.std.specs.Prelude.{◌≡◌, ◌+◌, ◌-◌, ◌*◌, ◌^◌, ◌<◌, ◌≤◌, ◌⊎◌, ◌↔◌, min, max, [], true, false, IsTrue, OnOk, OnErr, IfOk, IfErr, length, take};
 ghost use Rattle.cfb_format.specs.Refused.{IsMemory, IsBreak};
-ghost use Rattle.cfb_rules.specs.StreamCalls.{write, count};
+ghost use Rattle.cfb_stream_window.specs.cfb_rules.StreamCalls.{write, count};
 ghost use Rattle.cfb_stream_window.specs.Windows.{Carries, WriteBrokeOff, LengthBrokeOff, IsLengthened, IsSettled, HasBufferRoom, window_kept, window_past, window_within, WroteStraight, Resized};
 ghost use Rattle.cfb_stream_window.specs.Answers.{HasRoomForBoth, HeedsFlags, IsOpen, IsReady, IsTouched, InTurn, LacksRoomBehind, LacksRoomToWrite, LacksRoomToWriteOut, LosesRoomBetween, RunsOn, IsRefusedOn, RunsSettingLen, IsLengthRefusedOn, GoesOn, WritesOutFirst};
 ghost use Rattle.cfb_stream_buffer.specs.Contents.{Fails, TakesLen};

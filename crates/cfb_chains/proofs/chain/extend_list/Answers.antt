@@ -1,13 +1,13 @@
 use Rattle.std.proofs.Common.{◌⊎◌, ◌∙◌, ℕ, List, length, length-append, inl, inr, ap, arith}
-use Rattle.cfb_alloc.specs.Alloc.{AllocatorState, IsUsable}
-use Rattle.cfb_alloc.specs.ListedChain.{Lengthens}
-use Rattle.cfb_alloc.proofs.AllocLemmas.{refused-less}
-use Rattle.cfb_alloc.proofs.Answering.{on_ok}
-use Rattle.cfb_alloc.proofs.ChainView.{chain_few}
-use Rattle.cfb_alloc.proofs.Frames.{spares-less}
-use Rattle.cfb_tables.specs.Listed.{EndsChain, ends_of, gained}
-use Rattle.cfb_tables.specs.Tables.{IsTooFew, first_or_end}
-use Rattle.cfb_tables.proofs.ListedLemmas.{chain_ends}
+use Rattle.cfb_chains.specs.cfb_alloc.Alloc.{AllocatorState, IsUsable}
+use Rattle.cfb_chains.specs.cfb_alloc.ListedChain.{Lengthens}
+use Rattle.cfb_chains.proofs.cfb_alloc.AllocLemmas.{refused-less}
+use Rattle.cfb_chains.proofs.cfb_alloc.Answering.{on_ok}
+use Rattle.cfb_chains.proofs.cfb_alloc.ChainView.{chain_few}
+use Rattle.cfb_chains.proofs.cfb_alloc.Frames.{spares-less}
+use Rattle.cfb_chains.specs.cfb_tables.Listed.{EndsChain, ends_of, gained}
+use Rattle.cfb_chains.specs.cfb_tables.Tables.{IsTooFew, first_or_end}
+use Rattle.cfb_chains.proofs.cfb_tables.ListedLemmas.{chain_ends}
 use Rattle.cfb_chains.proofs.ChainLists.{ends_among, listed_chain, listed_found, made_or_not, on_err}
 use Rattle.cfb_chains.proofs.chain.extend_list.Goals as goal
 

@@ -1,11 +1,11 @@
 use Rattle.std.proofs.Common.{◌∙◌, inl, inr, ap, subst}
-use Rattle.cfb_alloc.specs.Alloc.{AllocatorState}
-use Rattle.cfb_alloc.specs.ListedChain.{Shortens}
-use Rattle.cfb_alloc.proofs.Answering.{on_ok}
-use Rattle.cfb_alloc.proofs.ChainView.{chain_few}
-use Rattle.cfb_alloc.proofs.ListedLemmas.{can_shorten}
-use Rattle.cfb_tables.specs.Clean.{IsUnnamed}
-use Rattle.cfb_tables.specs.Tables.{TableState, first_or_end}
+use Rattle.cfb_chains.specs.cfb_alloc.Alloc.{AllocatorState}
+use Rattle.cfb_chains.specs.cfb_alloc.ListedChain.{Shortens}
+use Rattle.cfb_chains.proofs.cfb_alloc.Answering.{on_ok}
+use Rattle.cfb_chains.proofs.cfb_alloc.ChainView.{chain_few}
+use Rattle.cfb_chains.proofs.cfb_alloc.ListedLemmas.{can_shorten}
+use Rattle.cfb_chains.specs.cfb_tables.Clean.{IsUnnamed}
+use Rattle.cfb_chains.specs.cfb_tables.Tables.{TableState, first_or_end}
 use Rattle.cfb_chains.proofs.ChainLists.{listed_chain, listed_found, made_or_not, start_is}
 use Rattle.cfb_chains.proofs.chain.shorten_list.Goals as goal
 

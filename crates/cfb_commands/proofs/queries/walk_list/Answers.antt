@@ -1,6 +1,6 @@
 use Rattle.std.proofs.Common.{chars, refl}
 use Rattle.std.proofs.lemmas.Result.{err_from_is_err_and}
-use Rattle.cfb_rules.specs.Calls.{walk_storage}
+use Rattle.cfb_commands.specs.cfb_rules.Calls.{walk_storage}
 use Rattle.cfb_commands.proofs.Asking.{memory_answers}
 use Rattle.cfb_commands.proofs.queries.walk_list.Goals as goal
 

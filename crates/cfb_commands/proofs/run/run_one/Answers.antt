@@ -2,15 +2,15 @@ use Rattle.std.proofs.Common.{◌≡◌, Bool, List, ℕ, chars, map, refl, subs
 use Rattle.std.specs.Prelude.{◌||◌, IfErr, IfOk, string_bytes}
 use Rattle.cfb_format.specs.declared.error.Error.TheVariants.{Full}
 use Rattle.cfb_format.specs.declared.medium.MediumFault.{MediumFault}
-use Rattle.cfb_rules.specs.Calls.{create_storage, create_storage_all, done, entries, entry, exists, flag, flush, is_storage, is_stream, one_entry, read_storage, remove_storage, remove_storage_all, remove_stream, set_created_time, set_modified_time, set_state_bits, set_storage_clsid, touch, walk_storage}
-use Rattle.cfb_rules.specs.Lists.{on_stream}
-use Rattle.cfb_path_changes.specs.Answers as path
-use Rattle.cfb_path_changes.specs.Answers.{LacksRoomOnTheWay}
-use Rattle.cfb_path_changes.specs.Calls.{CallAnswers, CallAnswersInTurn}
+use Rattle.cfb_commands.specs.cfb_rules.Calls.{create_storage, create_storage_all, done, entries, entry, exists, flag, flush, is_storage, is_stream, one_entry, read_storage, remove_storage, remove_storage_all, remove_stream, set_created_time, set_modified_time, set_state_bits, set_storage_clsid, touch, walk_storage}
+use Rattle.cfb_commands.specs.cfb_rules.Lists.{on_stream}
+use Rattle.cfb_commands.specs.cfb_path_changes.Answers as path
+use Rattle.cfb_commands.specs.cfb_path_changes.Answers.{LacksRoomOnTheWay}
+use Rattle.cfb_commands.specs.cfb_path_changes.Calls.{CallAnswers, CallAnswersInTurn}
 use Rattle.cfb_commands.specs.declared.command.StreamOp.{StreamOp}
 use Rattle.cfb_commands.specs.Commands.{call_answer, opening_of, stream_call_of, streamed_reply}
 use Rattle.cfb_commands.specs.Kinds.{kind_of_answer, kind_of_op}
-use Rattle.cfb_commands.specs.Working.{Answers}
+use Rattle.cfb_commands.specs.Working.{AnswersCommand}
 use Rattle.cfb_commands.proofs.Asking.{asked}
 use Rattle.cfb_commands.proofs.Calls.{changed, changed_in_turn, flush_keeps, or_so}
 use Rattle.cfb_commands.proofs.Faults.{changes_given, flush_given, questions_given, turns_given}
@@ -170,9 +170,9 @@ returns-in-Stream-clause-answers g c =
     let file = c.args.file.now in
     let new = c.run_on_stream.new.file in
     rw c.in-Stream.is (λ told.
-    subst (λ (text : List ℕ). Answers can_give file (on_stream (opening_of c.in-Stream.how) (chars text) (map stream_call_of c.in-Stream.ops.items)) (streamed_reply c.run_on_stream.result) new)
+    subst (λ (text : List ℕ). AnswersCommand can_give file (on_stream (opening_of c.in-Stream.how) (chars text) (map stream_call_of c.in-Stream.ops.items)) (streamed_reply c.run_on_stream.result) new)
     c.deref-in-Stream.ensures
-    (subst (λ (ops : List (StreamOp g.row.A.Denot)). Answers can_give file (on_stream (opening_of c.in-Stream.how) (chars c.deref-in-Stream.result.now) (map stream_call_of ops))
+    (subst (λ (ops : List (StreamOp g.row.A.Denot)). AnswersCommand can_give file (on_stream (opening_of c.in-Stream.how) (chars c.deref-in-Stream.result.now) (map stream_call_of ops))
     (streamed_reply c.run_on_stream.result) new) c.deref-in-Stream-2.ensures.value (c.run_on_stream.ensures.answers told)))
 
 pub returns-in-Stream-clause-of_kind : goal.returns-in-Stream-clause-of_kind

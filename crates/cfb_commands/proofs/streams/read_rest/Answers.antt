@@ -1,6 +1,6 @@
 use Rattle.std.proofs.Common.{◌∙◌, List, ℕ, refl, subst, sym}
 use Rattle.std.proofs.lemmas.Result.{err_from_is_err_and}
-use Rattle.cfb_rules.specs.StreamCalls.{got, read_to_end}
+use Rattle.cfb_commands.specs.cfb_rules.StreamCalls.{got, read_to_end}
 use Rattle.cfb_compound_file.specs.Streams.{open_of}
 use Rattle.cfb_compound_file.proofs.StoredStreams.{as_before}
 use Rattle.cfb_commands.specs.Promised.{IsWorkedOn}

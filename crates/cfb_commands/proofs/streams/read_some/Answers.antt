@@ -1,7 +1,7 @@
 use Rattle.std.proofs.Common.{◌≡◌, ◌≤◌, ◌∙◌, ◌-◌, ℕ, List, ap, arith, length, min, refl, subst, sym, take}
 use Rattle.std.proofs.lemmas.Grind.{common_steps}
 use Rattle.std.proofs.lemmas.Result.{err_from_is_err_and}
-use Rattle.cfb_rules.specs.StreamCalls.{got, read}
+use Rattle.cfb_commands.specs.cfb_rules.StreamCalls.{got, read}
 use Rattle.cfb_compound_file.specs.StreamAnswers.{stream_in}
 use Rattle.cfb_compound_file.specs.Streams.{open_of}
 use Rattle.cfb_compound_file.proofs.StoredStreams.{as_before}

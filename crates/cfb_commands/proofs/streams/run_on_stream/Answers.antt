@@ -1,12 +1,12 @@
 use Rattle.std.proofs.Common.{◌∙◌, chars, map, rules, sym}
 use Rattle.std.specs.Prelude.{◌||◌, IsTrue, Ok}
 use Rattle.std.proofs.lemmas.Result.{err_from_is_err_and}
-use Rattle.cfb_agreement.specs.Files.{FileState}
-use Rattle.cfb_rules.specs.Lists.{on_stream}
-use Rattle.cfb_rules.specs.Refusal.{failed_earlier, out_of_memory}
+use Rattle.cfb_commands.specs.cfb_agreement.Files.{FileState}
+use Rattle.cfb_commands.specs.cfb_rules.Lists.{on_stream}
+use Rattle.cfb_commands.specs.cfb_rules.Refusal.{failed_earlier, out_of_memory}
 use Rattle.cfb_compound_file.specs.Streams.{open_of}
 use Rattle.cfb_commands.specs.Commands.{closing_of, opening_of, refusal_of, stream_call_of, stream_reply_of, streamed_reply}
-use Rattle.cfb_commands.specs.Working.{Answers}
+use Rattle.cfb_commands.specs.Working.{AnswersCommand}
 use Rattle.cfb_commands.proofs.Faults.{all_counted}
 use Rattle.cfb_commands.proofs.Openings.{at_error, done_so, failed_not, memory_not, refused_so, same_file}
 use Rattle.cfb_commands.proofs.Working.{closed_of}
@@ -42,7 +42,7 @@ returns-in_err-stream-clause-answers g c =
 pub returns-clause-answers : goal.returns-clause-answers
 returns-clause-answers g c =
     same_file
-    (λ (file : FileState). IsTrue g.F.ReadMedium.tells → Answers (λ f. g.F.ReadMedium.read_faults f || g.F.Medium.write_faults f) c.args.file.now (on_stream (opening_of c.args.how) (chars c.args.path.now) (map stream_call_of c.args.ops.now))
+    (λ (file : FileState). IsTrue g.F.ReadMedium.tells → AnswersCommand (λ f. g.F.ReadMedium.read_faults f || g.F.Medium.write_faults f) c.args.file.now (on_stream (opening_of c.args.how) (chars c.args.path.now) (map stream_call_of c.args.ops.now))
     (streamed_reply (Ok (c.work_all.new.replies, c.close-closed.result))) file)
     _ c.close-closed.new.self.0 (search (c.in_ok-stream.ensures.lent, c.work_all.ensures.same_file, rules))
     (λ told.

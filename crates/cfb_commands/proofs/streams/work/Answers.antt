@@ -1,6 +1,6 @@
 use Rattle.std.proofs.Common.{◌≡◌, List, ℕ, false, refl, subst, true}
-use Rattle.cfb_rules.specs.StreamCalls.{ask_len, ask_position, count, flush, offset, ready, seek, set_len, write}
-use Rattle.cfb_stream_window.specs.Windows.{whence_of}
+use Rattle.cfb_commands.specs.cfb_rules.StreamCalls.{ask_len, ask_position, count, flush, offset, ready, seek, set_len, write}
+use Rattle.cfb_commands.specs.cfb_stream_window.Windows.{whence_of}
 use Rattle.cfb_compound_file.specs.StreamAnswers.{stream_in}
 use Rattle.cfb_compound_file.specs.Streams.{open_of}
 use Rattle.cfb_commands.specs.Promised.{IsWorkedOn}

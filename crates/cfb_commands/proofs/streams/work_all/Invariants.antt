@@ -1,6 +1,6 @@
 use Rattle.std.proofs.Common.{◌≡◌, ℕ, List, length, map, take, vec_capacity}
 use Rattle.std.specs.Prelude.{◌||◌, All, IsTrue}
-use Rattle.cfb_agreement.specs.Files.{FileState, SameSetting}
+use Rattle.cfb_commands.specs.cfb_agreement.Files.{FileState, SameSetting}
 use Rattle.cfb_commands.specs.Promised.{IsOpenSince}
 use Rattle.cfb_compound_file.specs.Streams.{file_of, open_of}
 use Rattle.cfb_format.specs.Tree.{Tree}

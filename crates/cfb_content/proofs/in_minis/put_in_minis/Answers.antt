@@ -2,8 +2,8 @@ use Rattle.std.proofs.Common.{◌≡◌, ◌+◌, ◌-◌, refl, ◌∙◌, ap, 
 use Rattle.std.specs.Prelude.{IsTrue, slice_index}
 use Rattle.std.proofs.lemmas.Result.{err_from_is_err_and}
 use Rattle.cfb_sectors.specs.Sectors.{SectorFile}
-use Rattle.cfb_alloc.proofs.Spared.{spares_refl}
-use Rattle.cfb_mini_sectors.specs.State.{bytes_of, mini_stream_of, table_of}
+use Rattle.cfb_content.proofs.cfb_alloc.Spared.{spares_refl}
+use Rattle.cfb_content.specs.cfb_mini_sectors.State.{bytes_of, mini_stream_of, table_of}
 use Rattle.cfb_mini.proofs.MiniWritten.{spares-mini-refl}
 use Rattle.cfb_content.specs.Contents.{mini_place_along}
 use Rattle.cfb_content.specs.Parts.{ChangesOnlyPlaces}
@@ -11,8 +11,8 @@ use Rattle.cfb_content.proofs.MinisAlong.{listed-run}
 use Rattle.cfb_content.proofs.MinisPut.{file-in-turn, minis-spared, placed-there, puts-apart, step-places, step-put, still-has, stream-spared}
 use Rattle.cfb_content.proofs.PlacedWrites.{only_refl, only_then, piece_at, piece_long}
 use Rattle.cfb_mini.specs.MiniRuns.{ChangesMiniStretch}
-use Rattle.cfb_content.proofs.PutAlong.{StandsTo, stands-none, stands-on}
 use Rattle.cfb_content.proofs.in_minis.put_in_minis.Goals as goal
+use Rattle.cfb_content.proofs.cfb_table_words.Along.{StandsTo, stands_none, stands_on}
 
 pub loop-done-init : goal.loop-done-init
 loop-done-init g c =
@@ -22,7 +22,7 @@ loop-done-init g c =
       place = omega arith;
       short = omega arith;
       kept = refl;
-      put = λ told validation h once. stands-none (mini_place_along s c.args.ids.now) c.args.at (slice_index c.args.bytes.now) 0 (bytes_of s) refl;
+      put = λ told validation h once. stands_none (mini_place_along s c.args.ids.now) c.args.at (slice_index c.args.bytes.now) 0 (bytes_of s) refl;
       others = λ told. only_refl (mini_place_along s c.args.ids.now) c.args.at (length c.args.bytes.now) (bytes_of s);
       spares = λ told. spares_refl (mini_stream_of s) (table_of s);
       mini_spares = λ told validation h. spares-mini-refl c.args.ids.now s;
@@ -123,7 +123,7 @@ loop-done-preserved g c =
       short = omega arith;
       kept = file-in-turn s b new inv.kept e.kept;
       put = λ told validation h once.
-          stands-on place c.args.at done n (slice_index bytes) (bytes_of b) (bytes_of new)
+          stands_on place c.args.at done n (slice_index bytes) (bytes_of b) (bytes_of new)
           (λ k j low before from to.
           puts-apart validation s ids c.args.at (length bytes) c.requires.placed h once k j low (omega (arith, before, from)) (omega (arith, to, some, size, was.some, more)))
           (put told).0 (inv.put told validation h once)

@@ -1,15 +1,17 @@
 use Rattle.std.proofs.Common.{◌≡◌, ◌-◌, ℕ, List, refl, ap, ◌∙◌, subst, arith, length, replicate}
 use Rattle.std.specs.Prelude.{IsTrue}
 use Rattle.std.proofs.lemmas.List.{length-replicate}
-use Rattle.cfb_alloc.proofs.Spared.{spares_refl}
-use Rattle.cfb_mini_sectors.specs.State.{bytes_of, mini_stream_of, table_of}
+use Rattle.cfb_content.proofs.cfb_alloc.Spared.{spares_refl}
+use Rattle.cfb_content.specs.cfb_mini_sectors.State.{bytes_of, mini_stream_of, table_of}
 use Rattle.cfb_mini.proofs.MiniWritten.{spares-mini-refl}
 use Rattle.cfb_content.specs.Contents.{mini_place_along}
 use Rattle.cfb_content.specs.Parts.{ChangesOnlyPlaces, StandAlong}
 use Rattle.cfb_content.proofs.MinisPut.{file-in-turn, minis-once, minis-spared, same-along, stream-spared}
 use Rattle.cfb_content.proofs.PlacedWrites.{only_refl, only_then}
-use Rattle.cfb_content.proofs.PutAlong.{stands-none, zeros-on, zeros-put, zeros-stand}
+use Rattle.cfb_content.proofs.PutAlong.{zeros-on, zeros-put}
 use Rattle.cfb_content.proofs.in_minis.zero_in_minis.Goals as goal
+use Rattle.cfb_content.proofs.cfb_table_words.Along.{stands_none}
+use Rattle.cfb_runs.proofs.Along.{zeros_stand}
 
 pub loop-at-init : goal.loop-at-init
 loop-at-init g c =
@@ -18,7 +20,7 @@ loop-at-init g c =
       behind = omega arith;
       within = λ less. omega (arith, less);
       kept = refl;
-      put = λ told validation h once. stands-none (mini_place_along s c.args.ids.now) c.args.from (λ k. 0) (c.args.from - c.args.from) (bytes_of s) (omega arith);
+      put = λ told validation h once. stands_none (mini_place_along s c.args.ids.now) c.args.from (λ k. 0) (c.args.from - c.args.from) (bytes_of s) (omega arith);
       others = λ told. only_refl (mini_place_along s c.args.ids.now) c.args.from (c.args.to - c.args.from) (bytes_of s);
       spares = λ told. spares_refl (mini_stream_of s) (table_of s);
       mini_spares = λ told validation h. spares-mini-refl c.args.ids.now s;
@@ -86,5 +88,5 @@ loop-at-preserved g c =
 pub returns-clause-put : goal.returns-clause-put
 returns-clause-put g c told validation h once =
     let past = c.loop-at-test.false in
-    zeros-stand (mini_place_along c.args.mini.now c.args.ids.now) c.args.from (c.loop-at.at - c.args.from) (c.args.to - c.args.from) (bytes_of c.loop-at.mini)
+    zeros_stand (mini_place_along c.args.mini.now c.args.ids.now) c.args.from (c.loop-at.at - c.args.from) (c.args.to - c.args.from) (bytes_of c.loop-at.mini)
     (omega (arith, past)) (c.loop-at.invariant.put told validation h once)

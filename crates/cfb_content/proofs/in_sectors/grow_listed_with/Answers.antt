@@ -1,28 +1,28 @@
-use Rattle.std.proofs.Common.{◌≡◌, ◌-◌, ◌<◌, ◌≤◌, ◌+◌, ◌*◌, ℕ, List, length, take, drop, min, inl, inr, refl, sym, ◌∙◌, ap, subst, arith}
-use Rattle.std.specs.Prelude.{Contains, nat_eq}
+use Rattle.std.proofs.Common.{◌≡◌, ◌-◌, ◌+◌, ◌*◌, ℕ, List, length, take, drop, inl, inr, sym, ◌∙◌, ap, subst, arith}
+use Rattle.std.specs.Prelude.{nat_eq}
 use Rattle.std.specs.List.{IsDistinct}
 use Rattle.std.proofs.lemmas.Bool.{cases_lt}
 use Rattle.std.proofs.lemmas.List.{length-drop, length-take}
 use Rattle.std.proofs.lemmas.Result.{err_from_is_err_and}
 use Rattle.cfb_format.specs.Bytes.{sector_len}
 use Rattle.cfb_sectors.specs.declared.sector.SectorInit.TheVariants.{Zero}
-use Rattle.cfb_table_words.proofs.FilledSectors.{filled_whole_each}
+use Rattle.cfb_content.proofs.cfb_table_words.FilledSectors.{filled_whole_each}
 use Rattle.cfb_tables.specs.Changes.{AreDisjoint}
 use Rattle.cfb_tables.specs.Listed.{ends_of, gained}
 use Rattle.cfb_tables.specs.Tables.{TableState, first_or_end}
-use Rattle.cfb_tables.proofs.ListedLemmas.{chain_ends}
-use Rattle.cfb_alloc.specs.Alloc.{AllocatorState}
-use Rattle.cfb_alloc.specs.Frame.{Spares, table_sectors}
-use Rattle.cfb_alloc.proofs.Answering.{all_ok, on_ok}
-use Rattle.cfb_alloc.proofs.Frames.{spares-less}
+use Rattle.cfb_tables.proofs.ListedLemmas.{chain_ends, rest-is}
+use Rattle.cfb_content.specs.cfb_alloc.Alloc.{AllocatorState}
+use Rattle.cfb_content.specs.cfb_alloc.Frame.{Spares, table_sectors}
+use Rattle.cfb_content.proofs.cfb_alloc.Answering.{all_ok, on_ok}
+use Rattle.cfb_content.proofs.cfb_alloc.Frames.{spares-less}
 use Rattle.cfb_chains.proofs.ChainLists.{ends_among}
 use Rattle.cfb_chains.proofs.PlacedBytes.{kept_there}
 use Rattle.cfb_chains.proofs.Sparing.{gained_spared}
-use Rattle.cfb_mini_sectors.proofs.HeldMini.{no-tables}
+use Rattle.cfb_content.proofs.cfb_mini_sectors.HeldMini.{no-tables}
 use Rattle.cfb_mini.proofs.WholeFiles.{same-whole, taken-whole}
-use Rattle.cfb_content.proofs.GrownWith.{chain-stays, first-is, front-in, front-placed, header-left, rest-all, rest-fits, some-more, with-kept, with-put, with-zeros}
-use Rattle.cfb_content.proofs.Refusals.{refused-as}
+use Rattle.cfb_content.proofs.GrownWith.{chain-stays, first-is, front-in, front-placed, header-left, rest-fits, some-more, with-kept, with-put, with-zeros}
 use Rattle.cfb_content.proofs.in_sectors.grow_listed_with.Goals as goal
+use Rattle.cfb_tables.proofs.Refusals.{refused-as}
 
 pub extend_listed_from-requires : goal.extend_listed_from-requires
 extend_listed_from-requires g c =
@@ -33,7 +33,7 @@ extend_listed_from-requires g c =
     let have : c.len.result ≡ length ids = omega (arith, c.len.ensures, c.args.ids.now.ok.0) in
     let first-by = first-is v c.args.at (length bytes) c.len.result c.sector_len-sector_len.result c.saturating_mul-have.result c.saturating_sub-room.result first ids have
     c.sector_len-sector_len.ensures c.saturating_mul-have.ensures c.saturating_sub-room.ensures c.min-first.ensures c.requires.bounded in
-    let rest = ap (λ (l : List ℕ). length l) (rest-all bytes first) in
+    let rest = ap (λ (l : List ℕ). length l) (rest-is bytes first) in
     let size = length-drop first bytes in
     let room = rest-fits v (length ids) c.args.count c.args.at (length bytes) first c.requires.behind c.requires.fits first-by in
     record { fits = omega (arith, rest, size, room) }
@@ -94,7 +94,7 @@ returns-clause-put g c told validation held =
     let chain = c.extend_listed_from.ensures.chain c.requires.chain in
     on_ok _ _ c.put_in_sectors-put.result
     (λ stands. with-put old mid c.args.count ids ids' made validation bytes (take (length bytes - first) (drop first bytes)) c.put_in_sectors-put.new.allocator.file.bytes c.deref.result.now c.args.at first held
-    c.requires.chain chain (c.extend_listed_from.ensures.others told) (rest-all bytes first) (c.in_ok-extend_listed_from.ensures.put told validation held) c.deref.ensures.value
+    c.requires.chain chain (c.extend_listed_from.ensures.others told) (rest-is bytes first) (c.in_ok-extend_listed_from.ensures.put told validation held) c.deref.ensures.value
     c.requires.behind first-by c.requires.fits (c.put_in_sectors-put.ensures.others told) stands)
     (c.put_in_sectors-put.ensures.put told (subst (λ (l : List ℕ). IsDistinct nat_eq l) (sym c.deref.ensures.value) chain.distinct))
 
@@ -114,7 +114,7 @@ returns-clause-zeros g c told validation held =
     let chain = c.extend_listed_from.ensures.chain c.requires.chain in
     all_ok c.put_in_sectors-put.result
     (with-zeros old mid c.args.count ids ids' made validation bytes (take (length bytes - first) (drop first bytes)) c.put_in_sectors-put.new.allocator.file.bytes c.deref.result.now c.args.at first held
-    c.requires.chain chain (c.extend_listed_from.ensures.others told) (rest-all bytes first) (c.in_ok-extend_listed_from.ensures.put told validation held) c.deref.ensures.value
+    c.requires.chain chain (c.extend_listed_from.ensures.others told) (rest-is bytes first) (c.in_ok-extend_listed_from.ensures.put told validation held) c.deref.ensures.value
     c.requires.behind first-by c.requires.fits (c.put_in_sectors-put.ensures.others told))
 
 pub returns-clause-kept : goal.returns-clause-kept
@@ -132,7 +132,7 @@ returns-clause-kept g c told validation held =
     let made = c.in_ok-extend_listed_from.ensures.lengthened in
     let chain = c.extend_listed_from.ensures.chain c.requires.chain in
     with-kept old mid c.args.count ids ids' made validation bytes (take (length bytes - first) (drop first bytes)) c.put_in_sectors-put.new.allocator.file.bytes c.deref.result.now c.args.at first held
-    c.requires.chain chain (c.extend_listed_from.ensures.others told) (rest-all bytes first) (c.in_ok-extend_listed_from.ensures.put told validation held) c.deref.ensures.value
+    c.requires.chain chain (c.extend_listed_from.ensures.others told) (rest-is bytes first) (c.in_ok-extend_listed_from.ensures.put told validation held) c.deref.ensures.value
     c.requires.behind first-by c.requires.fits (c.put_in_sectors-put.ensures.others told)
 
 pub returns-clause-holds : goal.returns-clause-holds

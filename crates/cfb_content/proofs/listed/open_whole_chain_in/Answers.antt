@@ -1,11 +1,11 @@
 use Rattle.std.proofs.Common.{ℕ, List, sym, ◌∙◌, subst, arith}
 use Rattle.cfb_format.specs.Chain.{IsChain}
 use Rattle.cfb_format.proofs.Unique.{IsChain-unique}
-use Rattle.cfb_alloc.specs.Alloc.{AllocatorState}
+use Rattle.cfb_content.specs.cfb_alloc.Alloc.{AllocatorState}
 use Rattle.cfb_content.specs.Parts.{IsThereInSectors}
 use Rattle.cfb_content.proofs.KnownSectors.{chain-is-known}
-use Rattle.cfb_content.proofs.Refusals.{invalid-refused}
 use Rattle.cfb_content.proofs.listed.open_whole_chain_in.Goals as goal
+use Rattle.cfb_content.proofs.cfb_mini_changes.MiniExtended.{invalid-refused}
 
 pub there_in_sectors-there-requires : goal.there_in_sectors-there-requires
 there_in_sectors-there-requires g c =

@@ -2,8 +2,8 @@ use Rattle.std.proofs.Common.{ℕ, List, refl, subst}
 use Rattle.cfb_format.proofs.Unique.{IsChain-unique}
 use Rattle.cfb_content.specs.Parts.{IsThereInSectors}
 use Rattle.cfb_content.proofs.KnownSectors.{chain-is-known}
-use Rattle.cfb_content.proofs.Refusals.{invalid-refused}
 use Rattle.cfb_content.proofs.listed.whole_chain_len.Goals as goal
+use Rattle.cfb_content.proofs.cfb_mini_changes.MiniExtended.{invalid-refused}
 
 pub there_in_sectors-there-requires : goal.there_in_sectors-there-requires
 there_in_sectors-there-requires g c =

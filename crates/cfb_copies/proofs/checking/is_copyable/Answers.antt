@@ -8,7 +8,7 @@ use Rattle.cfb_format.specs.Bytes.{max_stream_len}
 use Rattle.cfb_format.specs.DirectoryEntry.{Entry}
 use Rattle.cfb_format.specs.Names.{is_forbidden_character}
 use Rattle.cfb_format.specs.Siblings.{entry_at}
-use Rattle.cfb_mini_sectors.specs.State.{entries_of, version_of}
+use Rattle.cfb_copies.specs.cfb_mini_sectors.State.{entries_of, version_of}
 use Rattle.cfb_copies.specs.Steps.{CanBeLike}
 use Rattle.cfb_copies.proofs.Stored.{held_free, held_short, valid_name}
 use Rattle.cfb_copies.proofs.checking.is_copyable.Goals as goal

@@ -4,7 +4,7 @@ use Rattle.std.proofs.lemmas.Result.{err_from_is_err_and}
 use Rattle.cfb_format.specs.DirectoryEntry.{Entry}
 use Rattle.cfb_format.specs.Siblings.{entry_at}
 use Rattle.cfb_built.specs.Copied.{parts_copied}
-use Rattle.cfb_mini_sectors.specs.State.{cases_of}
+use Rattle.cfb_copies.specs.cfb_mini_sectors.State.{cases_of}
 use Rattle.cfb_places.specs.Places.{number_at, parent_at, placed_in}
 use Rattle.cfb_copies.specs.Copies.{parts_in_file}
 use Rattle.cfb_copies.specs.Steps.{IsNewIn, TakesName}

@@ -4,7 +4,7 @@ use Rattle.std.specs.Prelude.{◌||◌}
 use Rattle.cfb_format.specs.declared.error.Error.{Error}
 use Rattle.cfb_format.specs.declared.medium.MediumFault.{MediumFault}
 use Rattle.cfb_places.specs.declared.walk.Place.{Place}
-use Rattle.cfb_agreement.specs.Files.{failures_of}
+use Rattle.cfb_copies.specs.cfb_agreement.Files.{failures_of}
 use Rattle.cfb_copies.specs.Copies.{AreCopyable, AreReadable, CopyRefused, ListsObjects}
 use Rattle.cfb_copies.specs.Steps.{IsFaultOfEither}
 use Rattle.cfb_copies.proofs.Faults.{counted_counts, counted_refused, no_fault_counts, unprepared_refused}

@@ -2,7 +2,7 @@ use Rattle.std.proofs.Common.{ℕ, List, true, ap, sym, ◌∙◌, subst}
 use Rattle.std.specs.Prelude.{slice_index}
 use Rattle.cfb_format.specs.declared.version.Version.{Version}
 use Rattle.cfb_format.specs.Created.{created_bytes}
-use Rattle.cfb_agreement.specs.Files.{FileState}
+use Rattle.cfb_copies.specs.cfb_agreement.Files.{FileState}
 use Rattle.cfb_copies.specs.Copies.{HasNoObjects, IsMadeCopy}
 use Rattle.cfb_copies.proofs.Emptied.{created_full, created_none}
 use Rattle.cfb_copies.proofs.copying.make_empty.Goals as goal

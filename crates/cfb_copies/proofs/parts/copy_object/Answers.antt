@@ -5,11 +5,11 @@ use Rattle.cfb_format.specs.declared.version.Version.{Version}
 use Rattle.cfb_format.specs.Bytes.{max_stream_len}
 use Rattle.cfb_format.specs.DirectoryEntry.{Entry}
 use Rattle.cfb_format.specs.Siblings.{entry_at}
-use Rattle.cfb_rules.specs.Finding.{last_name, parent_names}
-use Rattle.cfb_objects.specs.Laws.{BecomesTree}
-use Rattle.cfb_mini_sectors.specs.State.{bytes_of, cases_of, content_of, entries_of}
-use Rattle.cfb_content.specs.Contents.{len_of}
-use Rattle.cfb_copies.specs.Steps.{CanBeLike, IsNewIn, LeadTo, TakesName, like_added}
+use Rattle.cfb_copies.specs.cfb_rules.Finding.{last_name, parent_names}
+use Rattle.cfb_copies.specs.cfb_objects.Laws.{BecomesTree}
+use Rattle.cfb_copies.specs.cfb_mini_sectors.State.{bytes_of, cases_of, content_of, entries_of}
+use Rattle.cfb_copies.specs.cfb_content.Contents.{len_of}
+use Rattle.cfb_copies.specs.Steps.{CanBeLike, IsNewIn, LeadToEntry, TakesName, like_added}
 use Rattle.cfb_copies.proofs.Adding.{new_stream_of}
 use Rattle.cfb_copies.proofs.Filling.{fills_grow}
 use Rattle.cfb_copies.proofs.Growing.{grows_then, leads_still, reached_still}
@@ -79,7 +79,7 @@ returns-in_ok-copy_bytes-in-Stream-clause-tree g c told tells holds target whole
     let stream = new_stream_of mid n w.grows.outline w.is_new.reached (w.is_like.kind ∙ sym c.kind_of-kind.ensures ∙ c.in-Stream.is) in
     let held = w.grows.holds tells target in
     let new_in = subst (λ (es : List Entry). IsNewIn old mid c.args.parent n (entry_at es c.args.entry).name) same w.is_new in
-    let tree = subst (λ (es : List Entry). (first : List ℕ) (names : List (List ℕ)) → LeadTo old (parent_names (first ∷ names)) c.args.parent → last_name (first ∷ names) ≡ (entry_at es c.args.entry).name
+    let tree = subst (λ (es : List Entry). (first : List ℕ) (names : List (List ℕ)) → LeadToEntry old (parent_names (first ∷ names)) c.args.parent → last_name (first ∷ names) ≡ (entry_at es c.args.entry).name
     → BecomesTree (cases_of old.base) (bytes_of old.base) (bytes_of mid.base) (like_added (cases_of old.base) (entry_at es c.args.entry) (first ∷ names))) same (w.tree tells target) in
     stream_tree g.W.ReadMedium.tells tells old mid new n content e part is kind w.grows.setting.limits.cases held (w.grows.setting.is_sound ∙ c.requires.sound) stream b.fills
     (b.content told tells holds held (whole kind)) (new_leads old mid c.args.parent n content e part is new_in to)
@@ -102,7 +102,7 @@ returns-in_default g c =
       grows = w.grows;
       is_new = subst (λ (es : List Entry). IsNewIn old mid c.args.parent n (entry_at es c.args.entry).name) same w.is_new;
       tree = λ told tells holds target whole part is to.
-          let tree = subst (λ (es : List Entry). (first : List ℕ) (names : List (List ℕ)) → LeadTo old (parent_names (first ∷ names)) c.args.parent → last_name (first ∷ names) ≡ (entry_at es c.args.entry).name
+          let tree = subst (λ (es : List Entry). (first : List ℕ) (names : List (List ℕ)) → LeadToEntry old (parent_names (first ∷ names)) c.args.parent → last_name (first ∷ names) ≡ (entry_at es c.args.entry).name
           → BecomesTree (cases_of old.base) (bytes_of old.base) (bytes_of mid.base) (like_added (cases_of old.base) (entry_at es c.args.entry) (first ∷ names))) same (w.tree tells target) in
           storage_tree (cases_of old.base) (bytes_of old.base) (bytes_of mid.base) content e part is (other_is_storage e c.requires.copyable.like.object other)
           (joined_as (cases_of old.base) (bytes_of old.base) (bytes_of mid.base) content e part is

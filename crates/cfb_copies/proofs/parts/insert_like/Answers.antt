@@ -6,13 +6,13 @@ use Rattle.cfb_format.specs.DirectoryEntry.{Entry, IsValidEntry}
 use Rattle.cfb_format.specs.Names.{is_valid_name}
 use Rattle.cfb_format.specs.Siblings.{entry_at}
 use Rattle.cfb_codecs.specs.EntryModel.{entry_of}
-use Rattle.cfb_entries.specs.declared.fields.Fields.{Fields}
-use Rattle.cfb_entries.specs.Fields.{entry_with_fields, fields_in}
-use Rattle.cfb_trees.specs.Reached.{IsObject}
-use Rattle.cfb_objects.specs.Laws.{BecomesTree}
-use Rattle.cfb_mini_sectors.specs.State.{bytes_of, cases_of, entries_of, version_of}
-use Rattle.cfb_entry_changes.specs.Kept.{KeepsFound}
-use Rattle.cfb_entry_changes.specs.Marking.{GivesFields}
+use Rattle.cfb_copies.specs.cfb_entries.declared.fields.Fields.{Fields}
+use Rattle.cfb_copies.specs.cfb_entries.Fields.{entry_with_fields, fields_in}
+use Rattle.cfb_copies.specs.cfb_trees.Reached.{IsObject}
+use Rattle.cfb_copies.specs.cfb_objects.Laws.{BecomesTree}
+use Rattle.cfb_copies.specs.cfb_mini_sectors.State.{bytes_of, cases_of, entries_of, version_of}
+use Rattle.cfb_copies.specs.cfb_entry_changes.Kept.{KeepsFound}
+use Rattle.cfb_copies.specs.cfb_entry_changes.Marking.{GivesFields}
 use Rattle.cfb_copies.specs.Steps.{IsLikeIn, TakesName, fields_like, like_added}
 use Rattle.cfb_copies.proofs.Adding.{like_joins, set_like}
 use Rattle.cfb_copies.proofs.Faults.{break_at_all, counted_gives, medium_breaks}

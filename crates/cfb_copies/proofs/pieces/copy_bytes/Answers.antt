@@ -4,7 +4,7 @@ use Rattle.std.proofs.lemmas.Result.{err_from_is_err_and}
 use Rattle.cfb_format.specs.DirectoryEntry.{Entry}
 use Rattle.cfb_format.specs.Medium.{part, written}
 use Rattle.cfb_format.specs.Siblings.{entry_at}
-use Rattle.cfb_content.specs.Contents.{len_of}
+use Rattle.cfb_copies.specs.cfb_content.Contents.{len_of}
 use Rattle.cfb_volume.specs.Answers.{content_at}
 use Rattle.cfb_copies.proofs.Appended.{next_joins, nothing_yet}
 use Rattle.cfb_copies.proofs.Faults.{break_at_all}

@@ -1,6 +1,6 @@
 use Rattle.std.proofs.Common.{◌≡◌, ◌-◌, ◌≤◌, length, take, IsTrue}
-use Rattle.cfb_content.specs.Contents.{len_of}
-use Rattle.cfb_agreement.specs.Files.{Holds, failures_of}
+use Rattle.cfb_copies.specs.cfb_content.Contents.{len_of}
+use Rattle.cfb_copies.specs.cfb_agreement.Files.{Holds, failures_of}
 use Rattle.cfb_volume.specs.Answers.{content_at}
 use Rattle.cfb_copies.specs.Steps.{FillsStream, IsReadOnly}
 use Rattle.cfb_copies.proofs.Settled.{IsSettled}

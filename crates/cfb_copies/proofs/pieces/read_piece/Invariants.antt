@@ -1,6 +1,6 @@
 use Rattle.std.proofs.Common.{◌≡◌, ◌-◌, ◌≤◌, length, take, IsTrue}
 use Rattle.cfb_format.specs.Medium.{part}
-use Rattle.cfb_agreement.specs.Files.{Holds, failures_of}
+use Rattle.cfb_copies.specs.cfb_agreement.Files.{Holds, failures_of}
 use Rattle.cfb_volume.specs.Answers.{content_at}
 use Rattle.cfb_copies.specs.Steps.{IsReadOnly}
 use Rattle.cfb_copies.proofs.pieces.read_piece.Given as goal

@@ -5,18 +5,18 @@ use Rattle.cfb_format.specs.DirectoryEntry.{Entry, EntryFits, IsValidEntry}
 use Rattle.cfb_format.specs.Names.{utf16_units, max_name_len}
 use Rattle.cfb_format.specs.Siblings.{entry_at}
 use Rattle.cfb_codecs.specs.EntryModel.{entry_of}
-use Rattle.cfb_tables.proofs.Members.{Contains-one}
 use Rattle.cfb_alloc.proofs.Answering.{all_ok, on_both}
 use Rattle.cfb_alloc.proofs.Spared.{spares_refl}
 use Rattle.cfb_entries.specs.Fields.{entry_with_fields}
-use Rattle.cfb_directory.specs.Slots.{HavePlaces, HoldSlotsBut}
+use Rattle.cfb_slots.specs.Slots.{HavePlaces, HoldSlotsBut}
 use Rattle.cfb_directory.specs.State.{directory_of}
 use Rattle.cfb_directory.proofs.ChangedFields.{changed_here, changed_length, changed_told, changed_writable, changed_beside}
 use Rattle.cfb_directory.proofs.DirectoryRefusals.{invalid_for, medium_is, medium_refused, medium_stops, err_map}
 use Rattle.cfb_directory.proofs.Placed.{held_places, held_no_tables, header_left, slot_left}
 use Rattle.cfb_directory.proofs.Rewritten.{rewritten}
-use Rattle.cfb_directory.proofs.SlotWrites.{entries-stay}
+use Rattle.cfb_slots.proofs.SlotWrites.{entries-stay}
 use Rattle.cfb_directory.proofs.changing.change_fields.Goals as goal
+use Rattle.cfb_format.proofs.Members.{Contains-one}
 
 pub returns-then-not-are_placed-clause-spares : goal.returns-then-not-are_placed-clause-spares
 returns-then-not-are_placed-clause-spares g c told = spares_refl c.args.sectors.now c.args.allocator.now

@@ -13,13 +13,13 @@ use Rattle.cfb_alloc.specs.InSector.{IsNoTableSector}
 use Rattle.cfb_alloc.proofs.Answering.{all_ok, on_both, on_ok}
 use Rattle.cfb_alloc.proofs.Spared.{spares_refl}
 use Rattle.cfb_entries.proofs.Contents.{reached-parent}
-use Rattle.cfb_directory.specs.Slots.{ChangesSlots, HavePlaces, HoldSlotsBut}
+use Rattle.cfb_slots.specs.Slots.{ChangesSlots, HavePlaces, HoldSlotsBut}
 use Rattle.cfb_directory.specs.State.{directory_of}
 use Rattle.cfb_directory.proofs.DirectoryRefusals.{invalid_for, invalid_stops, medium_refused, medium_stops, err_map, invalid_counts}
 use Rattle.cfb_directory.proofs.Placed.{begun_as, begun_holds, begun_spares, held_places, held_no_tables, header_left, slot_left}
 use Rattle.cfb_directory.proofs.RemovedEntries.{removed_writable, touched_valid}
 use Rattle.cfb_directory.proofs.Rewritten.{rewritten}
-use Rattle.cfb_directory.proofs.SlotWrites.{entries-stay}
+use Rattle.cfb_slots.proofs.SlotWrites.{entries-stay}
 use Rattle.cfb_directory.proofs.changing.remove_entry.Goals as goal
 
 pub returns-then-not-are_placed-clause-spares : goal.returns-then-not-are_placed-clause-spares

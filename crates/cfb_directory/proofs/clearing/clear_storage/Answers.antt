@@ -7,20 +7,20 @@ use Rattle.cfb_format.specs.DirectoryEntry.{Entry, IsValidEntry}
 use Rattle.cfb_format.specs.Names.{utf16_units, max_name_len}
 use Rattle.cfb_format.specs.Siblings.{entry_at}
 use Rattle.cfb_codecs.specs.EntryModel.{entry_of, entries_of}
-use Rattle.cfb_trees.proofs.Members.{reached-is-used}
+use Rattle.cfb_directory.proofs.cfb_trees.Members.{reached-is-used}
 use Rattle.cfb_alloc.specs.Alloc.{AllocatorState, HoldsTables}
 use Rattle.cfb_alloc.specs.Agreement.{HasSectors}
 use Rattle.cfb_alloc.specs.InSector.{IsNoTableSector}
 use Rattle.cfb_alloc.proofs.Answering.{all_ok, on_both, on_ok}
 use Rattle.cfb_alloc.proofs.Spared.{spares_refl}
-use Rattle.cfb_outline.specs.Outlines.{IsReachedStorage}
-use Rattle.cfb_directory.specs.Slots.{ChangesSlots, HavePlaces, HoldSlotsBut}
+use Rattle.cfb_directory.specs.cfb_outline.Outlines.{IsReachedStorage}
+use Rattle.cfb_slots.specs.Slots.{ChangesSlots, HavePlaces, HoldSlotsBut}
 use Rattle.cfb_directory.specs.State.{directory_of}
 use Rattle.cfb_directory.proofs.ClearedEntries.{cleared_told, cleared_valid, cleared_within, cleared_writable}
 use Rattle.cfb_directory.proofs.DirectoryRefusals.{invalid_for, invalid_stops, medium_refused, medium_stops, err_map, invalid_counts}
 use Rattle.cfb_directory.proofs.Placed.{begun_as, begun_holds, begun_spares, held_places, held_no_tables, header_left, slot_left}
 use Rattle.cfb_directory.proofs.Rewritten.{rewritten}
-use Rattle.cfb_directory.proofs.SlotWrites.{entries-stay}
+use Rattle.cfb_slots.proofs.SlotWrites.{entries-stay}
 use Rattle.cfb_directory.proofs.clearing.clear_storage.Goals as goal
 
 pub returns-then-not-are_placed-clause-spares : goal.returns-then-not-are_placed-clause-spares

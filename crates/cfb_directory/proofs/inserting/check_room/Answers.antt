@@ -5,7 +5,7 @@ use Rattle.cfb_codecs.specs.EntryModel.{entry_of}
 use Rattle.cfb_format.specs.Bytes.{entries_per_sector}
 use Rattle.cfb_format.specs.DirectoryEntry.{Entry}
 use Rattle.cfb_entries.specs.EntryList.{has_free}
-use Rattle.cfb_tables.proofs.RoomLemmas.{nothing-given-back}
+use Rattle.cfb_directory.proofs.cfb_tables.RoomLemmas.{nothing-given-back}
 use Rattle.cfb_directory.proofs.inserting.check_room.Goals as goal
 
 not-true : (b : Bool) → not b ≡ true → b ≡ false

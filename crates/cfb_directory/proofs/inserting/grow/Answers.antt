@@ -6,10 +6,10 @@ use Rattle.cfb_format.specs.Chain.{value}
 use Rattle.cfb_format.specs.Refused.{CountsError}
 use Rattle.cfb_format.proofs.ByteLemmas.{ChangesOnly_refl}
 use Rattle.cfb_sectors.specs.declared.sector.SectorInit.TheVariants.{Dir}
-use Rattle.cfb_tables.specs.Listed.{ends_of, gained, last_or_end}
-use Rattle.cfb_tables.specs.Refused.{ChangeRefused}
-use Rattle.cfb_tables.specs.Tables.{TableState, IsTooFew}
-use Rattle.cfb_alloc.specs.Alloc.{IsFilled, IsUsable}
+use Rattle.cfb_directory.specs.cfb_tables.Listed.{ends_of, gained, last_or_end}
+use Rattle.cfb_directory.specs.cfb_tables.Refused.{ChangeRefused}
+use Rattle.cfb_directory.specs.cfb_tables.Tables.{TableState, IsTooFew}
+use Rattle.cfb_alloc.specs.Alloc.{IsAsFilled, IsUsable}
 use Rattle.cfb_alloc.specs.Frame.{Spares}
 use Rattle.cfb_alloc.specs.ListedChain.{Lengthens}
 use Rattle.cfb_alloc.proofs.AllocLemmas.{refused-less}
@@ -166,7 +166,7 @@ returns-clause-holds g c told validation held =
     let grown = grown-entries got c.reserve.new.self c.args.entries.now _ _ c.grow.ensures.grown (ap (λ (l : EntryList). l.entries) c.in_ok-reserve.ensures.same) (c.in_ok-fresh.ensures.count ∙ per) in
     let lengthened = subst (λ (l : List ℕ). Lengthens 1 l after a.tables b.tables) ids c.in_ok-lengthen.ensures.lengthened in
     let n : c.len.result ≡ length after = omega (arith, c.len.ensures) in
-    let filled = subst (λ (l : List ℕ). (i : ℕ) → Contains (gained l after) i → IsFilled b.tables.version Dir b.file.bytes i) ids (c.in_ok-lengthen.ensures.filled told validation held.tables) in
+    let filled = subst (λ (l : List ℕ). (i : ℕ) → Contains (gained l after) i → IsAsFilled b.tables.version Dir b.file.bytes i) ids (c.in_ok-lengthen.ensures.filled told validation held.tables) in
     grown-holds validation d (directory_of e after c.grow.new.self) b held lengthened (c.in_ok-lengthen.ensures.chain (subst (IsListedChain a.tables) (sym ids) held.chain))
     c.lengthen.ensures.bounds c.in_ok-lengthen.ensures.sizes filled (c.lengthen.ensures.others told) c.count_sectors.ensures.tables
     (λ v3. (c.count_sectors.ensures.same v3).0) (λ v4. c.in_ok-count_sectors.ensures.count told v4 ∙ n)

@@ -3,17 +3,17 @@ use Rattle.std.proofs.lemmas.Result.{err_from_is_err_and}
 use Rattle.cfb_format.specs.declared.version.Version.{Version}
 use Rattle.cfb_format.specs.DirectoryEntry.{Entry}
 use Rattle.cfb_format.specs.Names.{Cases}
-use Rattle.cfb_tables.specs.Refused.{TableRefused}
+use Rattle.cfb_directory.specs.cfb_tables.Refused.{TableRefused}
 use Rattle.cfb_alloc.specs.Frame.{Spares}
 use Rattle.cfb_alloc.specs.ListedChain.{Lengthens}
 use Rattle.cfb_alloc.proofs.Answering.{all_ok, on_ok}
 use Rattle.cfb_alloc.proofs.Spared.{spares_refl}
-use Rattle.cfb_outline.specs.Outlines.{IsReachedStorage}
-use Rattle.cfb_siblings.specs.Children.{HasChildren}
+use Rattle.cfb_directory.specs.cfb_outline.Outlines.{IsReachedStorage}
+use Rattle.cfb_directory.specs.cfb_siblings.Children.{HasChildren}
 use Rattle.cfb_entries.specs.EntryList.{has_free}
 use Rattle.cfb_entries.specs.Insertions.{IsInsertionOf, name_in}
 use Rattle.cfb_directory.specs.Growing.{ArePlaced}
-use Rattle.cfb_directory.specs.Slots.{slot_of}
+use Rattle.cfb_slots.specs.Slots.{slot_of}
 use Rattle.cfb_directory.specs.State.{HoldsDirectory, IsFullForEntry, directory_of}
 use Rattle.cfb_directory.specs.Steps.{IsDirectoryNotHeld}
 use Rattle.cfb_directory.proofs.InsertWhole.{checked-refused, header-word-kept, put-spares, roomy-balance, roomy-children, roomy-insertion, roomy-longer, roomy-reached, roomy-red-apart, roomy-same, same-slot, unplaced-not-held, which-way}

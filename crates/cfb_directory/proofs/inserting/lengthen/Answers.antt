@@ -2,10 +2,10 @@ use Rattle.std.proofs.Common.{◌≡◌, inl, inr, ℕ, List, ◌++◌, sym, sub
 use Rattle.std.specs.Prelude.{Contains}
 use Rattle.std.proofs.lemmas.List.Elements.{Contains-append_cases, Contains-append_right}
 use Rattle.cfb_format.specs.Chain.{IsChain}
-use Rattle.cfb_tables.specs.Listed.{last_or_end}
-use Rattle.cfb_tables.specs.Tables.{HasTaken, ending, first_or_end}
-use Rattle.cfb_tables.proofs.ChainLemmas.{members-busy}
-use Rattle.cfb_tables.proofs.ListedLemmas.{gained_is, grown_chain}
+use Rattle.cfb_directory.specs.cfb_tables.Listed.{last_or_end}
+use Rattle.cfb_directory.specs.cfb_tables.Tables.{HasTaken, ending, first_or_end}
+use Rattle.cfb_directory.proofs.cfb_tables.ChainLemmas.{members-busy}
+use Rattle.cfb_directory.proofs.cfb_tables.ListedLemmas.{gained_is, grown_chain}
 use Rattle.cfb_directory.proofs.LeastAbove.{least-kept}
 use Rattle.cfb_directory.proofs.inserting.lengthen.Goals as goal
 

@@ -10,7 +10,7 @@ use Rattle.cfb_format.specs.Siblings.{entry_at}
 use Rattle.cfb_codecs.specs.EntryModel.{entry_of, entries_of}
 use Rattle.cfb_alloc.proofs.HeldOrder.{members-no_table}
 use Rattle.cfb_entries.specs.Insertions.{name_in}
-use Rattle.cfb_directory.specs.Slots.{ChangesSlots, HoldSlotsBut}
+use Rattle.cfb_slots.specs.Slots.{ChangesSlots, HoldSlotsBut}
 use Rattle.cfb_directory.specs.State.{directory_of}
 use Rattle.cfb_directory.proofs.InsertLinks.{new-stands}
 use Rattle.cfb_directory.proofs.InsertPut.{late-slots, touched-valid, put-holds, put-keeps, some-touched}

@@ -5,26 +5,27 @@ use Rattle.cfb_format.specs.declared.validate.Validation.{Validation}
 use Rattle.cfb_format.specs.declared.version.Version.{Version}
 use Rattle.cfb_format.specs.Bytes.{max_stream_len}
 use Rattle.cfb_format.specs.DirectoryEntry.{Entry}
-use Rattle.cfb_tables.specs.Changes.{NoneFree}
-use Rattle.cfb_tables.specs.Tables.{TableState}
-use Rattle.cfb_alloc.proofs.Answering.{on_both}
-use Rattle.cfb_directory.specs.Growing.{ArePlaced}
-use Rattle.cfb_directory.proofs.Placed.{held_places}
-use Rattle.cfb_mini_sectors.specs.State.{HoldsMini, IsChangeable, table_of, version_of}
-use Rattle.cfb_content.proofs.FixedHeader.{header-then, spared-keeps-header}
-use Rattle.cfb_content.proofs.Outlines.{moved-root-moved, stream-is-no-root, stream-stays}
-use Rattle.cfb_content.specs.Contents.{IsNotChangeable, len_of}
-use Rattle.cfb_content.proofs.Changed.{moves-same, spares-same}
-use Rattle.cfb_content.proofs.Refusals.{invalid-refused, refused-as}
-use Rattle.cfb_content.proofs.SnugMini.{kept-is-snug-mini}
-use Rattle.cfb_content.proofs.Sound.{all-used-kept, changed-is-changeable}
-use Rattle.cfb_content.proofs.StreamEntry.{stream-inside}
+use Rattle.cfb_growing.specs.cfb_tables.Changes.{NoneFree}
+use Rattle.cfb_growing.specs.cfb_tables.Tables.{TableState}
+use Rattle.cfb_growing.proofs.cfb_alloc.Answering.{on_both}
+use Rattle.cfb_growing.specs.cfb_directory.Growing.{ArePlaced}
+use Rattle.cfb_growing.proofs.cfb_directory.Placed.{held_places}
+use Rattle.cfb_growing.specs.cfb_mini_sectors.State.{HoldsMini, IsChangeable, table_of, version_of}
+use Rattle.cfb_growing.proofs.cfb_content.FixedHeader.{header-then, spared-keeps-header}
+use Rattle.cfb_growing.proofs.cfb_content.Outlines.{moved-root-moved, stream-is-no-root, stream-stays}
+use Rattle.cfb_growing.specs.cfb_content.Contents.{IsNotChangeable, len_of}
+use Rattle.cfb_growing.proofs.cfb_content.Changed.{moves-same, spares-same}
+use Rattle.cfb_growing.proofs.cfb_content.SnugMini.{kept-is-snug-mini}
+use Rattle.cfb_growing.proofs.cfb_content.Sound.{all-used-kept, changed-is-changeable}
+use Rattle.cfb_growing.proofs.cfb_content.StreamEntry.{stream-inside}
 use Rattle.cfb_resizing.proofs.LengthenedMinis.{not-both}
-use Rattle.cfb_resizing.proofs.Named.{WasNamed, around-moves, limits-then, moves-then, named-changes, named-keeps-others, named-tidy, placed-stays}
+use Rattle.cfb_resizing.proofs.Named.{WasNamed, around-moves, moves-then, named-changes, named-keeps-others, named-tidy, placed-stays}
 use Rattle.cfb_resizing.proofs.PutBehind.{fits-u64, tight-then}
 use Rattle.cfb_resizing.proofs.Turned.{all-changed, always-on-ok}
 use Rattle.cfb_growing.proofs.Appended.{WasAppended, appended-is, appended-stays-full}
 use Rattle.cfb_growing.proofs.appending.append_in_sectors.Goals as goal
+use Rattle.cfb_growing.proofs.cfb_tables.Refusals.{refused-as}
+use Rattle.cfb_growing.proofs.cfb_mini_changes.MiniExtended.{invalid-refused, limits-then}
 
 pub content_in-len-requires : goal.content_in-len-requires
 content_in-len-requires g c = record { inside = stream-inside c.args.mini.now c.args.entry c.requires.stream }

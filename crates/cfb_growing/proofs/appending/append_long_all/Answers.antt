@@ -1,18 +1,18 @@
 use Rattle.std.proofs.Common.{◌≡◌, ◌+◌, ◌≢◌, sym, ◌∙◌, ap, subst, length, arith}
 use Rattle.std.specs.Prelude.{IsTrue}
 use Rattle.std.proofs.lemmas.Result.{err_from_is_err_and}
-use Rattle.cfb_content.specs.Contents.{IsNotChangeable, IsTooLongFor, len_of}
-use Rattle.cfb_content.specs.Laws.{LacksNumbersFor}
-use Rattle.cfb_content.proofs.Fullness.{lack-is-too-long}
-use Rattle.cfb_content.proofs.Changed.{moves-same, spares-same}
-use Rattle.cfb_content.proofs.Refusals.{refused-as}
-use Rattle.cfb_content.proofs.StreamEntry.{stream-inside}
-use Rattle.cfb_chains.proofs.ChainLists.{on_err}
+use Rattle.cfb_growing.specs.cfb_content.Contents.{IsNotChangeable, IsTooLongFor, len_of}
+use Rattle.cfb_growing.specs.cfb_content.Laws.{LacksNumbersFor}
+use Rattle.cfb_growing.proofs.cfb_content.Fullness.{lack-is-too-long}
+use Rattle.cfb_growing.proofs.cfb_content.Changed.{moves-same, spares-same}
+use Rattle.cfb_growing.proofs.cfb_content.StreamEntry.{stream-inside}
+use Rattle.cfb_growing.proofs.cfb_chains.ChainLists.{on_err}
 use Rattle.cfb_resizing.proofs.CanGrow.{refused-lacks}
 use Rattle.cfb_resizing.proofs.Named.{around-moves}
 use Rattle.cfb_growing.proofs.Appended.{err-both}
 use Rattle.cfb_growing.proofs.TakenRest.{begun-or-full}
 use Rattle.cfb_growing.proofs.appending.append_long_all.Goals as goal
+use Rattle.cfb_growing.proofs.cfb_tables.Refusals.{refused-as}
 
 pub content_in-len-requires : goal.content_in-len-requires
 content_in-len-requires g c = record { inside = stream-inside c.args.mini.now c.args.entry c.requires.stream }

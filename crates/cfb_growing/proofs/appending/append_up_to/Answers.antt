@@ -2,9 +2,9 @@ use Rattle.std.proofs.Common.{◌≡◌, ◌+◌, ◌-◌, sym, subst, length, t
 use Rattle.std.specs.Prelude.{IsTrue}
 use Rattle.std.proofs.lemmas.List.{length-take}
 use Rattle.std.proofs.lemmas.Result.{err_from_is_err_and}
-use Rattle.cfb_content.specs.Contents.{IsNotChangeable, len_of}
-use Rattle.cfb_content.specs.Laws.{LacksNumbersFor}
-use Rattle.cfb_content.proofs.StreamEntry.{stream-inside}
+use Rattle.cfb_growing.specs.cfb_content.Contents.{IsNotChangeable, len_of}
+use Rattle.cfb_growing.specs.cfb_content.Laws.{LacksNumbersFor}
+use Rattle.cfb_growing.proofs.cfb_content.StreamEntry.{stream-inside}
 use Rattle.cfb_resizing.proofs.Tightness.{leaves-less}
 use Rattle.cfb_growing.proofs.TakenRest.{begun-or-full}
 use Rattle.cfb_growing.proofs.appending.append_up_to.Goals as goal

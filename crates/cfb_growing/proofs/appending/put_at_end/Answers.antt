@@ -1,12 +1,12 @@
 use Rattle.std.proofs.Common.{◌+◌, inl, inr, subst, length, arith}
 use Rattle.std.proofs.lemmas.Result.{IfOk-weaker}
-use Rattle.cfb_chains.proofs.ChainLists.{on_err}
-use Rattle.cfb_content.specs.Laws.{LacksNumbersFor}
-use Rattle.cfb_content.proofs.Refusals.{refused-as}
-use Rattle.cfb_content.proofs.StreamEntry.{stream-inside}
+use Rattle.cfb_growing.proofs.cfb_chains.ChainLists.{on_err}
+use Rattle.cfb_growing.specs.cfb_content.Laws.{LacksNumbersFor}
+use Rattle.cfb_growing.proofs.cfb_content.StreamEntry.{stream-inside}
 use Rattle.cfb_resizing.specs.Turning.{MovesWith}
 use Rattle.cfb_growing.proofs.Appended.{err-then, ok-then, still-of}
 use Rattle.cfb_growing.proofs.appending.put_at_end.Goals as goal
+use Rattle.cfb_growing.proofs.cfb_tables.Refusals.{refused-as}
 
 pub content_in-len-requires : goal.content_in-len-requires
 content_in-len-requires g c = record { inside = stream-inside c.args.mini.now c.args.entry c.requires.stream }

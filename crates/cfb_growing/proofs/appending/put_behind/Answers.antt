@@ -1,25 +1,25 @@
 use Rattle.std.proofs.Common.{◌≡◌, ◌<◌, ◌+◌, ◌∙◌, length, subst, sym, ap, arith}
 use Rattle.std.proofs.lemmas.Result.{err_from_is_err_and}
 use Rattle.cfb_format.specs.Chain.{IsChain}
-use Rattle.cfb_tables.specs.Tables.{IsTooFew, first_or_end}
-use Rattle.cfb_alloc.specs.Alloc.{AllocatorState, HoldsTables}
-use Rattle.cfb_alloc.specs.ListedChain.{Lengthens}
-use Rattle.cfb_mini_sectors.specs.State.{version_of}
-use Rattle.cfb_mini_sectors.proofs.MiniStreams.{begins}
-use Rattle.cfb_mini.specs.MiniSectors.{IsWhole}
-use Rattle.cfb_content.specs.Contents.{len_of}
-use Rattle.cfb_content.specs.Laws.{LacksNumbersFor}
-use Rattle.cfb_content.proofs.Refusals.{refused-as}
-use Rattle.cfb_content.proofs.WholeStreams.{not-whole}
-use Rattle.cfb_content.proofs.DirCount.{table-count}
-use Rattle.cfb_content.proofs.FixedHeader.{table-keeps-header}
-use Rattle.cfb_content.proofs.Changed.{spares-same}
+use Rattle.cfb_growing.specs.cfb_tables.Tables.{IsTooFew, first_or_end}
+use Rattle.cfb_growing.specs.cfb_alloc.Alloc.{AllocatorState, HoldsTables}
+use Rattle.cfb_growing.specs.cfb_alloc.ListedChain.{Lengthens}
+use Rattle.cfb_growing.specs.cfb_mini_sectors.State.{version_of}
+use Rattle.cfb_growing.proofs.cfb_mini_sectors.MiniStreams.{begins}
+use Rattle.cfb_growing.specs.cfb_mini.MiniSectors.{IsOfWholeSectors}
+use Rattle.cfb_growing.specs.cfb_content.Contents.{len_of}
+use Rattle.cfb_growing.specs.cfb_content.Laws.{LacksNumbersFor}
+use Rattle.cfb_growing.proofs.cfb_content.WholeStreams.{not-whole}
+use Rattle.cfb_growing.proofs.cfb_content.DirCount.{table-count}
+use Rattle.cfb_growing.proofs.cfb_content.FixedHeader.{table-keeps-header}
+use Rattle.cfb_growing.proofs.cfb_content.Changed.{spares-same}
 use Rattle.cfb_resizing.proofs.PutBehind.{fits-u64}
 use Rattle.cfb_resizing.proofs.Tightness.{lengthened-tight}
 use Rattle.cfb_resizing.proofs.TurnedInSectors.{grow-held, grow-lacks, grow-spares-others, not-usable}
 use Rattle.cfb_resizing.proofs.SnugMinis.{table-snug}
 use Rattle.cfb_growing.proofs.Appended.{behind-there, fits-there, grow-appends, lacking-there}
 use Rattle.cfb_growing.proofs.appending.put_behind.Goals as goal
+use Rattle.cfb_growing.proofs.cfb_tables.Refusals.{refused-as}
 
 -- ---- the chain is listed
 
@@ -177,7 +177,7 @@ returns-clause-tidy g c told v change =
     rw c.end_chain.ensures (record {
       counted = table-count v c.args.mini.now c.open_whole_chain.new.allocator c.grow_listed_with.new.allocator same change.held (c.grow_listed_with.ensures.header told);
       whole = λ was.
-          c.in_ok-grow_listed_with.ensures.whole told v (subst (λ (a : AllocatorState). HoldsTables v a) (sym same) change.held.directory.tables) (subst IsWhole (sym same) was);
+          c.in_ok-grow_listed_with.ensures.whole told v (subst (λ (a : AllocatorState). HoldsTables v a) (sym same) change.held.directory.tables) (subst IsOfWholeSectors (sym same) was);
     })
 
 pub returns-clause-snug_mini : goal.returns-clause-snug_mini

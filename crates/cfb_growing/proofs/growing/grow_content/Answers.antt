@@ -3,19 +3,20 @@ use Rattle.std.specs.Prelude.{IsTrue}
 use Rattle.std.proofs.lemmas.Result.{err_from_is_err_and}
 use Rattle.cfb_format.specs.declared.validate.Validation.{Validation}
 use Rattle.cfb_format.specs.Bytes.{max_regular_sector}
-use Rattle.cfb_alloc.specs.Alloc.{AllocatorState}
-use Rattle.cfb_directory.specs.Growing.{ArePlaced}
-use Rattle.cfb_directory.proofs.Placed.{held_places}
-use Rattle.cfb_mini_sectors.specs.State.{HoldsMini}
-use Rattle.cfb_content.specs.Contents.{IsNotChangeable, IsTooLongFor, len_of}
-use Rattle.cfb_content.proofs.Fullness.{enough-is-not-too-long, lack-is-too-long}
-use Rattle.cfb_content.proofs.Refusals.{invalid-refused, refused-as}
-use Rattle.cfb_content.proofs.StreamEntry.{stream-inside}
-use Rattle.cfb_content.proofs.Changed.{moves-same, spares-same}
+use Rattle.cfb_growing.specs.cfb_alloc.Alloc.{AllocatorState}
+use Rattle.cfb_growing.specs.cfb_directory.Growing.{ArePlaced}
+use Rattle.cfb_growing.proofs.cfb_directory.Placed.{held_places}
+use Rattle.cfb_growing.specs.cfb_mini_sectors.State.{HoldsMini}
+use Rattle.cfb_growing.specs.cfb_content.Contents.{IsNotChangeable, IsTooLongFor, len_of}
+use Rattle.cfb_growing.proofs.cfb_content.Fullness.{enough-is-not-too-long, lack-is-too-long}
+use Rattle.cfb_growing.proofs.cfb_content.StreamEntry.{stream-inside}
+use Rattle.cfb_growing.proofs.cfb_content.Changed.{moves-same, spares-same}
 use Rattle.cfb_resizing.specs.Turning.{ResizesContent}
 use Rattle.cfb_resizing.proofs.Named.{around-moves}
 use Rattle.cfb_growing.proofs.TakenRest.{begun-or-full}
 use Rattle.cfb_growing.proofs.growing.grow_content.Goals as goal
+use Rattle.cfb_growing.proofs.cfb_tables.Refusals.{refused-as}
+use Rattle.cfb_growing.proofs.cfb_mini_changes.MiniExtended.{invalid-refused}
 
 pub content_in-len-requires : goal.content_in-len-requires
 content_in-len-requires g c = record { inside = stream-inside c.args.mini.now c.args.entry c.requires.stream }

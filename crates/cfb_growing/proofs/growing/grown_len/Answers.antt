@@ -2,10 +2,10 @@ use Rattle.std.proofs.Common.{◌≡◌, ◌≤◌, ◌<◌, ℕ, inl, inr, arit
 use Rattle.std.proofs.lemmas.Bool.{cases_lt}
 use Rattle.std.proofs.lemmas.Result.{IfOk-weaker, err_from_is_err_and}
 use Rattle.cfb_format.specs.declared.validate.Validation.{Validation}
-use Rattle.cfb_mini_sectors.specs.State.{HoldsMini}
-use Rattle.cfb_content.specs.Contents.{len_of}
-use Rattle.cfb_content.specs.Laws.{LacksNumbersFor}
-use Rattle.cfb_content.proofs.StreamEntry.{stream-inside}
+use Rattle.cfb_growing.specs.cfb_mini_sectors.State.{HoldsMini}
+use Rattle.cfb_growing.specs.cfb_content.Contents.{len_of}
+use Rattle.cfb_growing.specs.cfb_content.Laws.{LacksNumbersFor}
+use Rattle.cfb_growing.proofs.cfb_content.StreamEntry.{stream-inside}
 use Rattle.cfb_growing.proofs.growing.grown_len.Goals as goal
 
 pub content_in-len-requires : goal.content_in-len-requires

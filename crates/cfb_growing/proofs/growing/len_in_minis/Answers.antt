@@ -1,10 +1,10 @@
 use Rattle.std.proofs.Common.{◌≡◌, length, arith}
 use Rattle.std.proofs.lemmas.Result.{err_from_is_err_and}
-use Rattle.cfb_content.proofs.Refusals.{refused-as}
-use Rattle.cfb_content.proofs.StreamEntry.{stream-inside}
-use Rattle.cfb_content.proofs.WholeStreams.{not-whole-minis}
+use Rattle.cfb_growing.proofs.cfb_content.StreamEntry.{stream-inside}
+use Rattle.cfb_growing.proofs.cfb_content.WholeStreams.{not-whole-minis}
 use Rattle.cfb_growing.proofs.GrownLengths.{small-enough, small-stuck, small-within}
 use Rattle.cfb_growing.proofs.growing.len_in_minis.Goals as goal
+use Rattle.cfb_growing.proofs.cfb_tables.Refusals.{refused-as}
 
 pub content_in-start-requires : goal.content_in-start-requires
 content_in-start-requires g c = record { inside = stream-inside c.args.mini.now c.args.entry c.requires.stream }

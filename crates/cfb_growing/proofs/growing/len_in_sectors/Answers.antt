@@ -1,8 +1,8 @@
 use Rattle.std.proofs.lemmas.Result.{err_from_is_err_and}
-use Rattle.cfb_content.proofs.Refusals.{refused-as}
-use Rattle.cfb_content.proofs.WholeStreams.{not-whole}
+use Rattle.cfb_growing.proofs.cfb_content.WholeStreams.{not-whole}
 use Rattle.cfb_growing.proofs.GrownLengths.{large-enough, large-stuck, large-within}
 use Rattle.cfb_growing.proofs.growing.len_in_sectors.Goals as goal
+use Rattle.cfb_growing.proofs.cfb_tables.Refusals.{refused-as}
 
 pub returns-in_err-have-clause-err : goal.returns-in_err-have-clause-err
 returns-in_err-have-clause-err g c =

@@ -1,20 +1,20 @@
 use Rattle.std.proofs.Common.{◌≡◌, ◌<◌, ◌⊎◌, inl, inr, true, ap, subst, length, arith}
 use Rattle.std.proofs.lemmas.Result.{on_ok_weaker, IfErr-weaker}
-use Rattle.cfb_tables.specs.Listed.{ends_of, gained}
-use Rattle.cfb_tables.specs.Refused.{ChangeRefused}
-use Rattle.cfb_alloc.proofs.Answering.{on_both}
-use Rattle.cfb_mini_sectors.specs.Steps.{EndsNoChain, IsNotHeld, IsTooFewFor, StopsShortOrFull}
-use Rattle.cfb_mini_sectors.specs.State.{bytes_of, table_of}
-use Rattle.cfb_mini.specs.MiniSectors.{IsStill}
-use Rattle.cfb_content.specs.Contents.{IsNotChangeable}
-use Rattle.cfb_content.proofs.FixedHeader.{spared-keeps-header}
-use Rattle.cfb_content.proofs.Refusals.{refused-as}
-use Rattle.cfb_content.proofs.Changed.{spares-same}
+use Rattle.cfb_growing.specs.cfb_tables.Listed.{ends_of, gained}
+use Rattle.cfb_growing.specs.cfb_tables.Refused.{ChangeRefused}
+use Rattle.cfb_growing.proofs.cfb_alloc.Answering.{on_both}
+use Rattle.cfb_growing.specs.cfb_mini_sectors.Steps.{EndsNoChain, IsNotHeld, IsTooFewFor, StopsShortOrFull}
+use Rattle.cfb_growing.specs.cfb_mini_sectors.State.{bytes_of, table_of}
+use Rattle.cfb_growing.specs.cfb_mini.MiniSectors.{IsStill}
+use Rattle.cfb_growing.specs.cfb_content.Contents.{IsNotChangeable}
+use Rattle.cfb_growing.proofs.cfb_content.FixedHeader.{spared-keeps-header}
+use Rattle.cfb_growing.proofs.cfb_content.Changed.{spares-same}
 use Rattle.cfb_resizing.specs.Turning.{StopsOrIsFull}
 use Rattle.cfb_resizing.proofs.LengthenedMinis.{not-both}
 use Rattle.cfb_resizing.proofs.TurnedInMinis.{not-held}
 use Rattle.cfb_growing.proofs.TakenRest.{all-taken, none-left, on-both-ways, rest-minis-others, short-or-full, short-still, short-unwritten}
 use Rattle.cfb_growing.proofs.growing.take_minis_left.Goals as goal
+use Rattle.cfb_growing.proofs.cfb_tables.Refusals.{refused-as}
 
 -- ---- none is left
 

@@ -1,14 +1,14 @@
 use Rattle.std.proofs.Common.{◌≡◌, inl, inr, refl, length, arith, ap, ◌∙◌}
 use Rattle.std.proofs.lemmas.Result.{err_from_is_err_and}
 use Rattle.std.proofs.lemmas.Bool.{cases_lt}
-use Rattle.cfb_alloc.specs.Alloc.{AllocatorState}
-use Rattle.cfb_alloc.proofs.BrokenSpared.{after_any}
-use Rattle.cfb_content.proofs.FixedHeader.{table-keeps-header}
-use Rattle.cfb_content.proofs.Refusals.{refused-as}
+use Rattle.cfb_growing.specs.cfb_alloc.Alloc.{AllocatorState}
+use Rattle.cfb_growing.proofs.cfb_alloc.BrokenSpared.{after_any}
+use Rattle.cfb_growing.proofs.cfb_content.FixedHeader.{table-keeps-header}
 use Rattle.cfb_resizing.proofs.TurnedInSectors.{not-usable}
 use Rattle.cfb_resizing.proofs.LengthenedMinis.{not-both}
 use Rattle.cfb_growing.proofs.TakenRest.{rest-around, rest-full, rest-others}
 use Rattle.cfb_growing.proofs.growing.take_sectors_left.Goals as goal
+use Rattle.cfb_growing.proofs.cfb_tables.Refusals.{refused-as}
 
 pub returns-in_err-extend_chain_by-clause-spares : goal.returns-in_err-extend_chain_by-clause-spares
 returns-in_err-extend_chain_by-clause-spares g c told = record {

@@ -1,10 +1,10 @@
 use Rattle.std.proofs.Common.{◌≡◌, ◌≤◌, inl, inr, sym, subst, arith}
 use Rattle.std.proofs.lemmas.Result.{on_ok_weaker}
 use Rattle.cfb_format.specs.Full.{rounded_up}
-use Rattle.cfb_tables.specs.Tables.{IsTooFew}
-use Rattle.cfb_chains.proofs.LentContent.{wanted_is}
-use Rattle.cfb_mini_sectors.specs.State.{tables_in, version_of}
-use Rattle.cfb_mini_sectors.specs.Steps.{IsTooFewFor}
+use Rattle.cfb_growing.specs.cfb_tables.Tables.{IsTooFew}
+use Rattle.cfb_growing.proofs.cfb_chains.LentContent.{wanted_is}
+use Rattle.cfb_growing.specs.cfb_mini_sectors.State.{tables_in, version_of}
+use Rattle.cfb_growing.specs.cfb_mini_sectors.Steps.{IsTooFewFor}
 use Rattle.cfb_growing.proofs.TakenRest.{lacks-minis, lacks-sectors}
 use Rattle.cfb_growing.proofs.growing.take_the_rest.Goals as goal
 

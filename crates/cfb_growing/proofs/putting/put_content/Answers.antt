@@ -6,21 +6,21 @@ use Rattle.std.proofs.lemmas.Result.{err_from_is_err_and}
 use Rattle.cfb_format.specs.DirectoryEntry.{Entry}
 use Rattle.cfb_format.specs.Medium.{written}
 use Rattle.cfb_format.specs.Siblings.{entry_at}
-use Rattle.cfb_tables.specs.Changes.{NoneFree}
-use Rattle.cfb_tables.specs.Tables.{TableState}
-use Rattle.cfb_mini_sectors.specs.State.{content_of, entries_of}
-use Rattle.cfb_content.specs.Contents.{len_of}
-use Rattle.cfb_content.proofs.Readable.{whole-of}
-use Rattle.cfb_chains.proofs.ChainLists.{on_err}
-use Rattle.cfb_content.proofs.Refusals.{refused-as}
-use Rattle.cfb_content.proofs.Rewritten.{written-none}
-use Rattle.cfb_content.proofs.Snug.{same-is-sized}
-use Rattle.cfb_content.proofs.StreamEntry.{stream-inside}
-use Rattle.cfb_content.proofs.Changed.{moves-same, spares-same, changed-same, tidy-same}
+use Rattle.cfb_growing.specs.cfb_tables.Changes.{NoneFree}
+use Rattle.cfb_growing.specs.cfb_tables.Tables.{TableState}
+use Rattle.cfb_growing.specs.cfb_mini_sectors.State.{content_of, entries_of}
+use Rattle.cfb_growing.specs.cfb_content.Contents.{len_of}
+use Rattle.cfb_growing.proofs.cfb_content.Readable.{whole-of}
+use Rattle.cfb_growing.proofs.cfb_chains.ChainLists.{on_err}
+use Rattle.cfb_growing.proofs.cfb_content.Rewritten.{written-none}
+use Rattle.cfb_growing.proofs.cfb_content.Snug.{same-is-sized}
+use Rattle.cfb_growing.proofs.cfb_content.StreamEntry.{stream-inside}
+use Rattle.cfb_growing.proofs.cfb_content.Changed.{moves-same, spares-same, changed-same, tidy-same}
 use Rattle.cfb_resizing.proofs.PutBehind.{filed-entries, filed-sized, filed-tables, filed-tidy, filed-used, filed-alone}
 use Rattle.cfb_resizing.proofs.Tightness.{leaves-less}
 use Rattle.cfb_resizing.proofs.SnugMinis.{filed-snug}
 use Rattle.cfb_growing.proofs.putting.put_content.Goals as goal
+use Rattle.cfb_growing.proofs.cfb_tables.Refusals.{refused-as}
 
 pub content_in-len-requires : goal.content_in-len-requires
 content_in-len-requires g c = record { inside = stream-inside c.args.mini.now c.args.entry c.requires.stream }

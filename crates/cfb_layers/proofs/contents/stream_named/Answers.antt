@@ -1,6 +1,6 @@
 use Rattle.std.proofs.Common.{refl}
-use Rattle.cfb_mini_sectors.specs.State.{cases_of, entries_of}
-use Rattle.cfb_trees.proofs.Members.{streams-are-by-kind}
+use Rattle.cfb_layers.specs.cfb_mini_sectors.State.{cases_of, entries_of}
+use Rattle.cfb_layers.proofs.cfb_trees.Members.{streams-are-by-kind}
 use Rattle.cfb_layers.proofs.contents.stream_named.Goals as goal
 
 -- a child that is a stream is one of the tree's streams

@@ -2,7 +2,7 @@ use Rattle.std.proofs.Common.{◌≡◌, ℕ, List, ◌++◌, length, map}
 use Rattle.std.specs.List.{AllZip}
 use denote.Shadow.{shadow}
 use denote.Text.{Utf8}
-use Rattle.cfb_rules.specs.Lists.{Command}
+use Rattle.cfb_lines.specs.cfb_rules.Lists.{Command}
 use Rattle.cfb_lines.specs.Commands.{IsLine}
 use Rattle.cfb_lines.specs.Lines.{lines_in}
 use Rattle.cfb_commands.specs.Commands.{command_of}

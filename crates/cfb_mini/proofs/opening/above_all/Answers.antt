@@ -1,6 +1,6 @@
 use Rattle.std.proofs.Common.{◌++◌, ℕ, List, [], ap, sym}
 use Rattle.std.proofs.lemmas.List.{append-nil}
-use Rattle.cfb_directory.proofs.LeastAbove.{least-kept, least-of-none}
+use Rattle.cfb_mini.proofs.cfb_directory.LeastAbove.{least-kept, least-of-none}
 use Rattle.cfb_mini.proofs.opening.above_all.Goals as goal
 
 pub returns-in-Some : goal.returns-in-Some

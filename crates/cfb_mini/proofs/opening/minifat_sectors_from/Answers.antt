@@ -2,7 +2,7 @@ use Rattle.std.proofs.Common.{◌≡◌, ℕ, ◌*◌, List, length, sym, ◌∙
 use Rattle.cfb_format.specs.Bytes.{words_per_sector}
 use Rattle.cfb_format.specs.Chain.{IsChain}
 use Rattle.cfb_format.proofs.Unique.{IsChain-unique}
-use Rattle.cfb_alloc.specs.Alloc.{AllocatorState}
+use Rattle.cfb_mini.specs.cfb_alloc.Alloc.{AllocatorState}
 use Rattle.cfb_mini.proofs.MiniOpening.{invalid-because}
 use Rattle.cfb_mini.proofs.opening.minifat_sectors_from.Goals as goal
 

@@ -2,8 +2,8 @@ use Rattle.std.proofs.Common.{◌≡◌, ◌++◌, ℕ, List, [], length, sym, a
 use Rattle.std.specs.Prelude.{option_map, unwrap_or}
 use Rattle.std.proofs.lemmas.Result.{err_from_is_err_and}
 use Rattle.cfb_codecs.proofs.Refusals.{refusal_follows}
-use Rattle.cfb_directory.proofs.DirectoryRefusals.{walk_invalid}
-use Rattle.cfb_directory.proofs.LeastAbove.{least-kept}
+use Rattle.cfb_mini.proofs.cfb_directory.DirectoryRefusals.{walk_invalid}
+use Rattle.cfb_mini.proofs.cfb_directory.LeastAbove.{least-kept}
 use Rattle.cfb_mini.proofs.opening.open_parts.Goals as goal
 
 pub returns-in_err-minifat_sectors-clause-refused : goal.returns-in_err-minifat_sectors-clause-refused

@@ -1,9 +1,9 @@
 use Rattle.std.proofs.Common.{ℕ, List, [], ap, length}
 use Rattle.std.specs.Prelude.{Option, unwrap_or}
-use Rattle.cfb_alloc.specs.Alloc.{AllocatorState}
-use Rattle.cfb_tables.proofs.Members.{Contains-here}
+use Rattle.cfb_mini_chains.specs.cfb_alloc.Alloc.{AllocatorState}
 use Rattle.cfb_mini.proofs.MiniKnown.{mini-has}
 use Rattle.cfb_mini_chains.proofs.mini_chain.check_mini_sector.Goals as goal
+use Rattle.cfb_format.proofs.Members.{Contains-here}
 
 pub returns-clause-ok : goal.returns-clause-ok
 returns-clause-ok g c =

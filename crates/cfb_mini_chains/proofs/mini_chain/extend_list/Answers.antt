@@ -1,7 +1,7 @@
 use Rattle.std.proofs.Common.{◌≡◌, ◌∙◌, ℕ, List, ◌≤◌, sym, ap, length, length-append, ◌++◌, arith}
 use Rattle.cfb_tables.specs.Listed.{ends_of, gained}
 use Rattle.cfb_tables.specs.Tables.{first_or_end}
-use Rattle.cfb_alloc.proofs.ChainView.{chain_few, only_first}
+use Rattle.cfb_mini_chains.proofs.cfb_alloc.ChainView.{chain_few, only_first}
 use Rattle.cfb_chains.proofs.ChainLists.{after_map, ends_among, listed_chain, listed_found, start_is}
 use Rattle.cfb_mini_sectors.proofs.MiniFrames.{spares-less}
 use Rattle.cfb_mini_chains.proofs.MiniChainAnswers.{on_err}

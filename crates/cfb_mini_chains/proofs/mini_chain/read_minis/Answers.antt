@@ -1,12 +1,12 @@
-use Rattle.std.proofs.Common.{◌≡◌, ◌/◌, ◌%◌, ◌++◌, ◌∙◌, inl, inr, arith, drop, length-take}
+use Rattle.std.proofs.Common.{◌/◌, ◌%◌, ◌∙◌, inl, inr, arith, drop, length-take}
 use Rattle.std.proofs.lemmas.List.{take-append-le}
 use Rattle.std.proofs.lemmas.Result.{err_from_is_err_and}
 use Rattle.std.specs.Prelude.{Ok, slice_index}
 use Rattle.cfb_mini.proofs.MiniStretches.{begun_rest}
 use Rattle.cfb_mini_chains.proofs.MiniChainAnswers.{invalid_reason, medium_reason}
-use Rattle.cfb_mini_chains.proofs.MiniChainHeld.{byte_or}
 use Rattle.cfb_mini_chains.proofs.MiniChainRuns.{run_together}
 use Rattle.cfb_mini_chains.proofs.mini_chain.read_minis.Goals as goal
+use Rattle.cfb_mini.proofs.MiniPieces.{byte-or-not}
 
 pub returns-clause-together : goal.returns-clause-together
 returns-clause-together g c =
@@ -32,7 +32,7 @@ pub returns-in_err-count-clause-err : goal.returns-in_err-count-clause-err
 returns-in_err-count-clause-err g c =
     let e = c.in_err-count.ensures in
     let p = err_from_is_err_and c.from_residual.result c.from_residual.ensures.1 in
-    rw (p.1, p.2) (elim (byte_or c.args.minialloc.now (slice_index c.args.ids.now (c.args.at / 64)) (c.args.at % 64)) [
+    rw (p.1, p.2) (elim (byte-or-not c.args.minialloc.now (slice_index c.args.ids.now (c.args.at / 64)) (c.args.at % 64)) [
       | inl has ↦ medium_reason _ c.in_err-count.field-0.0 (e.err has) (λ f. tt)
       | inr none ↦ invalid_reason _ c.in_err-count.field-0.0 (e.cut none) none
     ])

@@ -1,6 +1,6 @@
 use Rattle.std.proofs.Common.{◌≡◌, ◌∙◌, sym, ap, subst}
-use Rattle.cfb_alloc.proofs.Answering.{on_ok}
-use Rattle.cfb_alloc.proofs.ChainView.{chain_few}
+use Rattle.cfb_mini_chains.proofs.cfb_alloc.Answering.{on_ok}
+use Rattle.cfb_mini_chains.proofs.cfb_alloc.ChainView.{chain_few}
 use Rattle.cfb_tables.specs.Clean.{IsUnnamed}
 use Rattle.cfb_tables.specs.Tables.{first_or_end}
 use Rattle.cfb_chains.proofs.ChainLists.{after_map, listed_chain, listed_found, start_is}

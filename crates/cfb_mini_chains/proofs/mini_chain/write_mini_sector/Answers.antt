@@ -1,4 +1,4 @@
-use Rattle.cfb_alloc.proofs.Answering.{on_ok}
+use Rattle.cfb_mini_chains.proofs.cfb_alloc.Answering.{on_ok}
 use Rattle.cfb_mini.proofs.MiniKnown.{mini-or-not}
 use Rattle.cfb_mini_chains.proofs.MiniChainAnswers.{refused_either}
 use Rattle.cfb_mini_chains.proofs.mini_chain.write_mini_sector.Goals as goal

@@ -1,7 +1,8 @@
 use Rattle.std.proofs.Common.{◌++◌, ℕ, List, take, drop, subst}
-use Rattle.cfb_directory.specs.Slots.{IsLeastAbove}
-use Rattle.cfb_mini_changes.proofs.LeastAbove.{least-with-rest, part-behind}
+use Rattle.cfb_mini_changes.specs.cfb_slots.Slots.{IsLeastAbove}
+use Rattle.cfb_mini_changes.proofs.LeastAbove.{least-with-rest}
 use Rattle.cfb_mini_changes.proofs.changing.above_both.Goals as goal
+use Rattle.cfb_mini_changes.proofs.cfb_tables.ListedLemmas.{rest-is}
 
 pub returns : goal.returns
 returns c least =
@@ -11,7 +12,7 @@ returns c least =
     let k = c.args.minis in
     let before = take j words ++ take k minis in
     let first : IsLeastAbove (before ++ drop j words) c.least_above-above_minifat.result =
-    subst (λ (l : List ℕ). IsLeastAbove (before ++ l) c.least_above-above_minifat.result) (part-behind words j) (c.least_above-above_minifat.ensures before least) in
+    subst (λ (l : List ℕ). IsLeastAbove (before ++ l) c.least_above-above_minifat.result) (rest-is words j) (c.least_above-above_minifat.ensures before least) in
     let both : IsLeastAbove ((before ++ drop j words) ++ drop k minis) c.least_above.result =
-    subst (λ (l : List ℕ). IsLeastAbove ((before ++ drop j words) ++ l) c.least_above.result) (part-behind minis k) (c.least_above.ensures (before ++ drop j words) first) in
+    subst (λ (l : List ℕ). IsLeastAbove ((before ++ drop j words) ++ l) c.least_above.result) (rest-is minis k) (c.least_above.ensures (before ++ drop j words) first) in
     least-with-rest words minis j k c.least_above.result both

@@ -1,11 +1,11 @@
 use Rattle.std.proofs.Common.{◌≡◌, ◌-◌, ℕ, true, false, List, [], ◌++◌, Some, refl, sym, ap, subst, length, take, drop, arith}
 use Rattle.std.specs.Prelude.{Contains, OnOk}
 use Rattle.cfb_format.specs.Chain.{IsChain}
-use Rattle.cfb_tables.specs.Listed.{ends_of}
-use Rattle.cfb_tables.specs.Tables.{first_or_end}
-use Rattle.cfb_alloc.proofs.Answering.{on_both, on_ok}
-use Rattle.cfb_alloc.proofs.Spared.{spares_refl}
-use Rattle.cfb_mini_table.specs.MiniTable.{MiniGivesBack, MiniTableState}
+use Rattle.cfb_mini_changes.specs.cfb_tables.Listed.{ends_of}
+use Rattle.cfb_mini_changes.specs.cfb_tables.Tables.{first_or_end}
+use Rattle.cfb_mini_changes.proofs.cfb_alloc.Answering.{on_both, on_ok}
+use Rattle.cfb_mini_changes.proofs.cfb_alloc.Spared.{spares_refl}
+use Rattle.cfb_mini_changes.specs.cfb_mini_table.MiniTable.{MiniGivesBack, MiniTableState}
 use Rattle.cfb_mini_sectors.specs.Steps.{IsInMiniStream, IsNotHeld, IsZeroMini, system_sectors}
 use Rattle.cfb_mini_sectors.specs.Held.{HoldsMiniBut, with_minifat}
 use Rattle.cfb_mini_sectors.specs.Pieces.{HaveMinis, HaveWords}

@@ -6,21 +6,20 @@ use Rattle.cfb_format.specs.Chain.{IsChain}
 use Rattle.cfb_format.specs.Content.{mini_sector_len}
 use Rattle.cfb_format.specs.Full.{free_count}
 use Rattle.cfb_format.specs.Refused.{AfterMedium, CountsFailure}
-use Rattle.cfb_sectors.specs.Sectors.{IsMediumError}
-use Rattle.cfb_sectors.specs.Words.{RangeStays}
-use Rattle.cfb_sectors.proofs.SectorLemmas.{Stays_refl}
-use Rattle.cfb_tables.specs.Listed.{ends_of, gained}
-use Rattle.cfb_tables.specs.Refused.{ChangeRefused}
-use Rattle.cfb_tables.specs.Tables.{TableState, first_or_end}
-use Rattle.cfb_alloc.specs.Frame.{Spares}
-use Rattle.cfb_alloc.proofs.AllocLemmas.{refused-less}
-use Rattle.cfb_alloc.proofs.Answering.{all_ok, on_ok}
-use Rattle.cfb_alloc.proofs.Listed.{not_in_nil}
-use Rattle.cfb_alloc.proofs.Spared.{spares_refl}
-use Rattle.cfb_directory.specs.Growing.{AreSectorsOf}
-use Rattle.cfb_directory.specs.State.{DirectoryState}
-use Rattle.cfb_directory.proofs.InsertGrow.{medium-broke}
-use Rattle.cfb_mini_table.specs.MiniTable.{IsTooFewMini, MiniTableState, TakesMini}
+use Rattle.cfb_mini_changes.specs.cfb_sectors.Sectors.{IsMediumError}
+use Rattle.cfb_mini_changes.specs.cfb_sectors.Words.{RangeStays}
+use Rattle.cfb_mini_changes.proofs.cfb_sectors.SectorLemmas.{Stays_refl}
+use Rattle.cfb_mini_changes.specs.cfb_tables.Listed.{ends_of, gained}
+use Rattle.cfb_mini_changes.specs.cfb_tables.Refused.{ChangeRefused}
+use Rattle.cfb_mini_changes.specs.cfb_tables.Tables.{TableState, first_or_end}
+use Rattle.cfb_mini_changes.specs.cfb_alloc.Frame.{Spares}
+use Rattle.cfb_mini_changes.proofs.cfb_alloc.AllocLemmas.{refused-less}
+use Rattle.cfb_mini_changes.proofs.cfb_alloc.Answering.{all_ok, on_ok}
+use Rattle.cfb_mini_changes.proofs.cfb_alloc.Spared.{spares_refl}
+use Rattle.cfb_mini_changes.specs.cfb_directory.Growing.{AreSectorsOf}
+use Rattle.cfb_mini_changes.specs.cfb_directory.State.{DirectoryState}
+use Rattle.cfb_mini_changes.proofs.cfb_directory.InsertGrow.{medium-broke}
+use Rattle.cfb_mini_changes.specs.cfb_mini_table.MiniTable.{IsTooFewMini, MiniTableState, TakesMini}
 use Rattle.cfb_mini_sectors.specs.State.{HoldsMini, bytes_of, mini_place}
 use Rattle.cfb_mini_sectors.specs.Steps.{EndsNoChain, GrowsFor, IsNotHeld, IsTooFewFor, IsZeroMini, KeepsLimits, MovesRoot, SparesMini, StopsShortOrFull, system_sectors}
 use Rattle.cfb_mini_sectors.specs.Held.{HoldsMiniBut}
@@ -29,11 +28,13 @@ use Rattle.cfb_mini_sectors.proofs.HeldSteps.{held-but}
 use Rattle.cfb_mini_sectors.proofs.MinifatGrown.{medium_changed, same_listed}
 use Rattle.cfb_mini_sectors.proofs.MiniFrames.{nothing-touched, spares-less}
 use Rattle.cfb_mini_changes.specs.Changing.{mini_of}
-use Rattle.cfb_mini_changes.specs.MiniSectors.{HasMiniSector, IsWhole}
-use Rattle.cfb_mini_changes.proofs.MiniExtended.{after-both, at-parts, grown-then, grows-still, header-then, header-whole, limits-then, medium-stops, mini-there, moves-from, moves-none, refused-among, refused-counts, taken-bytes, taken-spares, unchanged-stops}
-use Rattle.cfb_directory.proofs.LeastAbove.{least-kept}
+use Rattle.cfb_mini_changes.specs.MiniSectors.{HasMiniSector, IsOfWholeSectors}
+use Rattle.cfb_mini_changes.proofs.MiniExtended.{after-both, at-parts, grown-then, grows-still, header-then, header-whole, limits-then, medium-stops, mini-there, moves-from, refused-among, refused-counts, taken-bytes, taken-spares, unchanged-stops}
+use Rattle.cfb_mini_changes.proofs.cfb_directory.LeastAbove.{least-kept}
 use Rattle.cfb_mini_changes.proofs.WholeFiles.{same-whole}
 use Rattle.cfb_mini_changes.proofs.changing.extend_listed.Goals as goal
+use Rattle.cfb_format.proofs.Members.{Contains-nil}
+use Rattle.cfb_mini_changes.proofs.MiniSettled.{root-still}
 
 pub returns-in_err-prepare_extension-clause-listed : goal.returns-in_err-prepare_extension-clause-listed
 returns-in_err-prepare_extension-clause-listed g c =
@@ -59,7 +60,7 @@ returns-in_err-prepare_extension-clause-entries g c =
     let prepared = c.prepare_extension.new.table in
     let a = mini_of directory table sectors (Some stream) in
     let b = mini_of directory prepared sectors (Some stream) in
-    moves-none a b refl
+    root-still a b refl
 
 pub returns-in_err-prepare_extension-clause-spares : goal.returns-in_err-prepare_extension-clause-spares
 returns-in_err-prepare_extension-clause-spares g c told =
@@ -182,7 +183,7 @@ returns-in_err-grow_sectors-clause-entries g c =
     let sectors1 = c.grow_sectors.new.minifat_sectors.items in
     let stream1 = c.grow_sectors.new.stream.items in
     let b = mini_of grown prepared sectors1 (Some stream1) in
-    moves-none a b (ap (λ (d : DirectoryState). d.entries) c.grow_sectors.ensures.rest)
+    root-still a b (ap (λ (d : DirectoryState). d.entries) c.grow_sectors.ensures.rest)
 
 pub returns-in_err-grow_sectors-clause-spares : goal.returns-in_err-grow_sectors-clause-spares
 returns-in_err-grow_sectors-clause-spares g c told =
@@ -202,7 +203,7 @@ returns-in_err-grow_sectors-clause-mini_spares g c told validation h =
     let sectors1 = c.grow_sectors.new.minifat_sectors.items in
     let stream1 = c.grow_sectors.new.stream.items in
     let b = mini_of grown prepared sectors1 (Some stream1) in
-    spares-less [] (ends_of ids) a b (λ m n. absurd (not_in_nil m n)) (subst (λ (t : MiniTableState). HoldsMini validation (mini_of directory t sectors (Some stream)) → SparesMini [] (mini_of directory t sectors (Some stream)) b) same
+    spares-less [] (ends_of ids) a b (λ m n. absurd (Contains-nil m n)) (subst (λ (t : MiniTableState). HoldsMini validation (mini_of directory t sectors (Some stream)) → SparesMini [] (mini_of directory t sectors (Some stream)) b) same
     (c.grow_sectors.ensures.mini_spares told validation) h)
 
 pub returns-in_err-grow_sectors-clause-bytes : goal.returns-in_err-grow_sectors-clause-bytes
@@ -438,7 +439,7 @@ returns-clause-whole g c told validation h was =
     let of = c.take_prepared.ensures in
     let held = subst (λ (t : MiniTableState). HoldsMini validation (mini_of directory t sectors (Some stream)) → HoldsMiniBut [] validation (mini_of grown t sectors1 (Some stream1))) same
     (c.in_ok-grow_sectors.ensures.held told validation) h in
-    let first = subst (λ (t : MiniTableState). HoldsMini validation (mini_of directory t sectors (Some stream)) → IsWhole directory.table → IsWhole grown.table) same
+    let first = subst (λ (t : MiniTableState). HoldsMini validation (mini_of directory t sectors (Some stream)) → IsOfWholeSectors directory.table → IsOfWholeSectors grown.table) same
     (c.in_ok-grow_sectors.ensures.whole told validation) h was in
     on_ok _ _ c.take_prepared.result
     (λ after. same-whole validation grown.table now.table after.directory.tables (ap (λ (t : TableState). t.version) of.kept.1) (ap (λ (t : TableState). length t.fat) of.kept.1)

@@ -1,6 +1,6 @@
 use Rattle.std.proofs.Common.{◌≡◌, ◌++◌, Some, true, false, [], refl, length, arith}
 use Rattle.std.proofs.lemmas.List.Elements.{Contains-append_left}
-use Rattle.cfb_alloc.proofs.Frames.{spares-less}
+use Rattle.cfb_mini_changes.proofs.cfb_alloc.Frames.{spares-less}
 use Rattle.cfb_mini_sectors.specs.Steps.{minifat_needs, mini_stream_needs, system_sectors}
 use Rattle.cfb_mini_sectors.proofs.HeldShortened.{but-can}
 use Rattle.cfb_mini_changes.specs.Changing.{mini_of}

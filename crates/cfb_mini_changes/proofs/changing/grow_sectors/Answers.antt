@@ -3,21 +3,21 @@ use Rattle.std.proofs.lemmas.Result.{IfErr-weaker}
 use Rattle.cfb_format.specs.Bytes.{sector_len, words_per_sector}
 use Rattle.cfb_format.specs.Content.{mini_sector_len}
 use Rattle.cfb_format.specs.Full.{rounded_up}
-use Rattle.cfb_sectors.specs.declared.sector.SectorInit.TheVariants.{Zero}
-use Rattle.cfb_tables.specs.Listed.{ends_of}
-use Rattle.cfb_tables.specs.Refused.{ChangeRefused}
-use Rattle.cfb_tables.specs.Tables.{IsTooFew}
-use Rattle.cfb_alloc.specs.Alloc.{AllocatorState, HoldsTables, IsUsable}
-use Rattle.cfb_alloc.specs.Frame.{Spares}
-use Rattle.cfb_alloc.proofs.Answering.{on_both, on_ok, on_three}
+use Rattle.cfb_mini_changes.specs.cfb_sectors.declared.sector.SectorInit.TheVariants.{Zero}
+use Rattle.cfb_mini_changes.specs.cfb_tables.Listed.{ends_of}
+use Rattle.cfb_mini_changes.specs.cfb_tables.Refused.{ChangeRefused}
+use Rattle.cfb_mini_changes.specs.cfb_tables.Tables.{IsTooFew}
+use Rattle.cfb_mini_changes.specs.cfb_alloc.Alloc.{AllocatorState, HoldsTables, IsUsable}
+use Rattle.cfb_mini_changes.specs.cfb_alloc.Frame.{Spares}
+use Rattle.cfb_mini_changes.proofs.cfb_alloc.Answering.{on_both, on_ok, on_three}
 use Rattle.cfb_mini_sectors.specs.Growing.{EndApart, GainsFilled, GrowsBoth, KeepsInUse}
 use Rattle.cfb_mini_sectors.specs.State.{mini_stream_of}
 use Rattle.cfb_mini_sectors.specs.Steps.{IsNotHeld, IsTooFewFor, mini_stream_lacks, minifat_lacks, minifat_len_with}
 use Rattle.cfb_mini_sectors.proofs.HeldSteps.{held-but}
 use Rattle.cfb_mini_changes.specs.Changing.{mini_of}
-use Rattle.cfb_mini_changes.specs.MiniSectors.{IsWhole}
+use Rattle.cfb_mini_changes.specs.MiniSectors.{IsOfWholeSectors}
 use Rattle.cfb_mini_changes.proofs.MiniGrown.{both-refused, grown-minis, grown-placed, grown-sectors, grown-stream, grown-words, in-use-spares, system-spares}
-use Rattle.cfb_directory.proofs.LeastAbove.{least-kept}
+use Rattle.cfb_mini_changes.proofs.cfb_directory.LeastAbove.{least-kept}
 use Rattle.cfb_mini_changes.proofs.LeastAbove.{listed-before}
 use Rattle.cfb_mini_changes.proofs.WholeFiles.{both-whole}
 use Rattle.cfb_mini_changes.proofs.changing.grow_sectors.Goals as goal
@@ -124,10 +124,10 @@ returns-clause-whole g c told validation h was =
     let of = c.grow_both-grown.ensures in
     let before = subst (λ (a : AllocatorState). HoldsTables validation a) (sym c.allocator_mut.ensures.value) h.directory.tables in
     let Zeros = GainsFilled Zero (mini_stream_of s) stream t.tables.version t.file.bytes in
-    let with-zeros = on_three _ _ _ (Zeros → IsWhole t) c.grow_both-grown.result
+    let with-zeros = on_three _ _ _ (Zeros → IsOfWholeSectors t) c.grow_both-grown.result
     (λ both now minifat mini_stream. both-whole validation lent t lacks.minifat lacks.mini_stream s.minifat_sectors more (mini_stream_of s) stream now both (of.in_use told).no_shorter
-    minifat mini_stream (subst IsWhole (sym c.allocator_mut.ensures.value) was)) of.grown (of.holds told validation before) (of.filled told validation before) in
-    on_both (Zeros → IsWhole t) Zeros (IsWhole t) c.grow_both-grown.result (λ whole zeros. whole zeros) with-zeros (of.filled_stream told validation before)
+    minifat mini_stream (subst IsOfWholeSectors (sym c.allocator_mut.ensures.value) was)) of.grown (of.holds told validation before) (of.filled told validation before) in
+    on_both (Zeros → IsOfWholeSectors t) Zeros (IsOfWholeSectors t) c.grow_both-grown.result (λ whole zeros. whole zeros) with-zeros (of.filled_stream told validation before)
 
 pub returns-clause-err : goal.returns-clause-err
 returns-clause-err g c =

@@ -3,7 +3,7 @@ use Rattle.std.proofs.lemmas.Bool.{le-leb, leb-true}
 use Rattle.cfb_format.specs.Bytes.{sector_len, words_per_sector}
 use Rattle.cfb_format.specs.Content.{mini_sector_len}
 use Rattle.cfb_format.specs.Full.{rounded_up}
-use Rattle.cfb_alloc.specs.Alloc.{AllocatorState}
+use Rattle.cfb_mini_changes.specs.cfb_alloc.Alloc.{AllocatorState}
 use Rattle.cfb_mini_changes.proofs.LeastAbove.{both-above, first-below, second-below}
 use Rattle.cfb_mini_changes.proofs.MiniKnown.{minis-enough, words-enough}
 use Rattle.cfb_mini_changes.proofs.changing.have_sectors.Goals as goal

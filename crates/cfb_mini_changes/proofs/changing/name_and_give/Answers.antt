@@ -4,14 +4,14 @@ use Rattle.std.proofs.lemmas.List.Elements.{Contains-append_left}
 use Rattle.cfb_format.specs.Bytes.{sector_len, words_per_sector}
 use Rattle.cfb_format.specs.Content.{mini_sector_len}
 use Rattle.cfb_format.specs.DirectoryEntry.{Entry}
-use Rattle.cfb_sectors.specs.Sectors.{SectorStays}
-use Rattle.cfb_soundness.specs.Places.{mini_start}
-use Rattle.cfb_tables.specs.Clean.{IsUnnamed}
-use Rattle.cfb_tables.specs.Tables.{TableState, first_or_end}
-use Rattle.cfb_alloc.specs.Alloc.{AllocatorState}
-use Rattle.cfb_alloc.specs.Frame.{Spares, table_sectors}
-use Rattle.cfb_alloc.proofs.Answering.{on_both, on_ok}
-use Rattle.cfb_alloc.proofs.Frames.{spares-less, spares-then}
+use Rattle.cfb_mini_changes.specs.cfb_sectors.Sectors.{SectorStays}
+use Rattle.cfb_mini_changes.specs.cfb_soundness.Places.{mini_start}
+use Rattle.cfb_mini_changes.specs.cfb_tables.Clean.{IsUnnamed}
+use Rattle.cfb_mini_changes.specs.cfb_tables.Tables.{TableState, first_or_end}
+use Rattle.cfb_mini_changes.specs.cfb_alloc.Alloc.{AllocatorState}
+use Rattle.cfb_mini_changes.specs.cfb_alloc.Frame.{Spares, table_sectors}
+use Rattle.cfb_mini_changes.proofs.cfb_alloc.Answering.{on_both, on_ok}
+use Rattle.cfb_mini_changes.proofs.cfb_alloc.Frames.{spares-less, spares-then}
 use Rattle.cfb_mini_sectors.specs.Giving.{CanGiveBack, ShortensBoth}
 use Rattle.cfb_mini_sectors.specs.Growing.{KeepsOutsideMini}
 use Rattle.cfb_mini_sectors.specs.Steps.{KeepsSizes, minifat_needs, mini_stream_needs, system_sectors}
@@ -21,8 +21,9 @@ use Rattle.cfb_mini_changes.specs.Changing.{mini_of}
 use Rattle.cfb_mini_changes.proofs.MiniExtended.{header-then, header-whole}
 use Rattle.cfb_mini_changes.proofs.MiniGiven.{cut-or-kept, given-stays, gives-both, kept-named, needs-cover, needs-few, needs-minis, needs-room, needs-words, none-minis, none-words}
 use Rattle.cfb_mini_changes.proofs.MiniKnown.{mini_index}
-use Rattle.cfb_mini_changes.proofs.MiniSettled.{apart-stays, behind-directory, root-moves, stays-then}
+use Rattle.cfb_mini_changes.proofs.MiniSettled.{apart-stays, behind-directory, root-moves}
 use Rattle.cfb_mini_changes.proofs.changing.name_and_give.Goals as goal
+use Rattle.cfb_mini_changes.proofs.cfb_sectors.SectorLemmas.{Stays_trans}
 
 -- ---- the root's entry
 
@@ -195,7 +196,7 @@ returns-clause-minis g c told apart m has =
     let one = subst (λ (x : AllocatorState). (i : ℕ) → (Contains (table_sectors x.tables) i → ⊥) → SectorStays x.tables.version i x.file.bytes t.file.bytes)
     c.allocator_mut.ensures.value (c.give_back_both.ensures.sectors told) in
     let two = subst (λ (x : TableState). (i : ℕ) → (Contains (table_sectors x) i → ⊥) → SectorStays x.version i d1.table.file.bytes t.file.bytes) was.kept.1 one in
-    stays-then at (at + mini_sector_len) d0.table.file.bytes d1.table.file.bytes t.file.bytes
+    Stays_trans at (at + mini_sector_len) d0.table.file.bytes d1.table.file.bytes t.file.bytes
     (apart-stays a d0.table d1.table apart refl (was.spares told) m lt) (given-stays a d1.table.file.bytes t.file.bytes m apart two lt)
 
 pub returns-clause-spares : goal.returns-clause-spares

@@ -1,4 +1,4 @@
-use Rattle.cfb_alloc.proofs.Spared.{spares_refl}
+use Rattle.cfb_mini_changes.proofs.cfb_alloc.Spared.{spares_refl}
 use Rattle.cfb_mini_changes.proofs.changing.name_mini_stream.Goals as goal
 
 pub returns-then-root-stream_len-clause-spares : goal.returns-then-root-stream_len-clause-spares

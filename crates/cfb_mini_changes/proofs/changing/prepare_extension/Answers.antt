@@ -1,5 +1,5 @@
 use Rattle.std.proofs.Common.{◌≡◌, ◌⊎◌, inl, inr, true, false, Some, subst}
-use Rattle.cfb_mini_table.specs.MiniTable.{IsTooFewMini}
+use Rattle.cfb_mini_changes.specs.cfb_mini_table.MiniTable.{IsTooFewMini}
 use Rattle.cfb_mini_sectors.specs.Steps.{EndsNoChain, IsNotHeld}
 use Rattle.cfb_mini_changes.specs.Changing.{mini_of}
 use Rattle.cfb_mini_changes.proofs.MiniCut.{no-end}

@@ -5,20 +5,21 @@ use Rattle.cfb_format.specs.Bytes.{sector_len}
 use Rattle.cfb_format.specs.Content.{mini_sector_len}
 use Rattle.cfb_format.specs.DirectoryEntry.{Entry}
 use Rattle.cfb_format.specs.Siblings.{entry_at}
-use Rattle.cfb_tables.specs.Tables.{TableState, first_or_end}
-use Rattle.cfb_alloc.specs.Frame.{Spares}
-use Rattle.cfb_alloc.proofs.Answering.{all_ok, on_both, on_ok}
-use Rattle.cfb_alloc.proofs.Frames.{spares-less, spares-then}
-use Rattle.cfb_directory.specs.Growing.{ArePlaced}
-use Rattle.cfb_directory.specs.State.{DirectoryState}
-use Rattle.cfb_soundness.specs.Places.{mini_start}
+use Rattle.cfb_mini_changes.specs.cfb_tables.Tables.{TableState, first_or_end}
+use Rattle.cfb_mini_changes.specs.cfb_alloc.Frame.{Spares}
+use Rattle.cfb_mini_changes.proofs.cfb_alloc.Answering.{all_ok, on_both, on_ok}
+use Rattle.cfb_mini_changes.proofs.cfb_alloc.Frames.{spares-less, spares-then}
+use Rattle.cfb_mini_changes.specs.cfb_directory.Growing.{ArePlaced}
+use Rattle.cfb_mini_changes.specs.cfb_directory.State.{DirectoryState}
+use Rattle.cfb_mini_changes.specs.cfb_soundness.Places.{mini_start}
 use Rattle.cfb_mini_sectors.specs.Steps.{system_sectors}
 use Rattle.cfb_mini_sectors.specs.Held.{with_minifat}
 use Rattle.cfb_mini_sectors.specs.Pieces.{AreZeros}
 use Rattle.cfb_mini_changes.specs.Changing.{mini_of}
 use Rattle.cfb_mini_changes.proofs.MiniKnown.{mini_index}
-use Rattle.cfb_mini_changes.proofs.MiniSettled.{named-held, named-stays, named-zero, root-moves, root-still, stays-then, behind-directory}
+use Rattle.cfb_mini_changes.proofs.MiniSettled.{named-held, named-stays, named-zero, root-moves, root-still, behind-directory}
 use Rattle.cfb_mini_changes.proofs.changing.settle.Goals as goal
+use Rattle.cfb_mini_changes.proofs.cfb_sectors.SectorLemmas.{Stays_trans}
 
 -- ---- the words or the zeros failed
 
@@ -114,7 +115,7 @@ returns-clause-other_minis g c told validation late minifat h m has out =
     let same : c.write_sectors.new.directory.sectors ≡ c.args.directory.now.sectors = ap (λ (x : DirectoryState). x.sectors) c.write_sectors.ensures.rest in
     let spares = subst (λ (l : List ℕ). Spares l b d.table) same (c.name_mini_stream.ensures.spares told) in
     let at = mini_start a.tables.version stream m in
-    stays-then at (at + mini_sector_len) a.file.bytes b.file.bytes d.table.file.bytes (c.write_sectors.ensures.other_minis told h.apart m has out)
+    Stays_trans at (at + mini_sector_len) a.file.bytes b.file.bytes d.table.file.bytes (c.write_sectors.ensures.other_minis told h.apart m has out)
     (named-stays validation late s b d.table h c.write_sectors.ensures.tables spares m (mini_index a.tables.version (length stream) m has.in_stream))
 
 pub returns-clause-spares : goal.returns-clause-spares

@@ -2,14 +2,14 @@ use Rattle.std.proofs.Common.{◌++◌, ◌+◌, inr, ℕ, List, [], Some, refl,
 use Rattle.std.specs.Prelude.{Contains, nat_eq}
 use Rattle.std.specs.List.{IsDistinct}
 use Rattle.cfb_format.specs.Content.{mini_sector_len}
-use Rattle.cfb_sectors.specs.Words.{RangeStays}
-use Rattle.cfb_tables.specs.Tables.{TableState}
-use Rattle.cfb_alloc.specs.Frame.{Spares}
-use Rattle.cfb_alloc.proofs.Answering.{all_ok, on_ok}
-use Rattle.cfb_alloc.proofs.Frames.{spares-less, spares-then}
-use Rattle.cfb_directory.specs.Growing.{ArePlaced}
-use Rattle.cfb_directory.specs.State.{DirectoryState}
-use Rattle.cfb_soundness.specs.Places.{mini_start}
+use Rattle.cfb_mini_changes.specs.cfb_sectors.Words.{RangeStays}
+use Rattle.cfb_mini_changes.specs.cfb_tables.Tables.{TableState}
+use Rattle.cfb_mini_changes.specs.cfb_alloc.Frame.{Spares}
+use Rattle.cfb_mini_changes.proofs.cfb_alloc.Answering.{all_ok, on_ok}
+use Rattle.cfb_mini_changes.proofs.cfb_alloc.Frames.{spares-less, spares-then}
+use Rattle.cfb_mini_changes.specs.cfb_directory.Growing.{ArePlaced}
+use Rattle.cfb_mini_changes.specs.cfb_directory.State.{DirectoryState}
+use Rattle.cfb_mini_changes.specs.cfb_soundness.Places.{mini_start}
 use Rattle.cfb_mini_sectors.specs.State.{mini_place}
 use Rattle.cfb_mini_sectors.specs.Steps.{IsZeroMini, system_sectors}
 use Rattle.cfb_mini_sectors.specs.Held.{HoldsMiniBut, with_minifat}
@@ -18,8 +18,9 @@ use Rattle.cfb_mini_changes.specs.MiniSectors.{HasMiniSector}
 use Rattle.cfb_mini_changes.proofs.MiniExtended.{header-then, header-whole}
 use Rattle.cfb_mini_changes.proofs.MiniGiven.{apart-with, can-then, gives-then, kept-named, kept-then, left-place, left-zero, starts-then}
 use Rattle.cfb_mini_changes.proofs.MiniKnown.{has-mini, mini-has}
-use Rattle.cfb_mini_changes.proofs.MiniSettled.{behind-directory, root-still, stays-then, stream-apart}
+use Rattle.cfb_mini_changes.proofs.MiniSettled.{behind-directory, root-still, stream-apart}
 use Rattle.cfb_mini_changes.proofs.changing.settle_freed.Goals as goal
+use Rattle.cfb_mini_changes.proofs.cfb_sectors.SectorLemmas.{Stays_trans}
 
 -- ---- the words or the zeros failed
 
@@ -168,7 +169,7 @@ returns-clause-other_minis g c told validation late minifat h m has out =
     (ap (λ (t : TableState). length t.fat) (sym tables)) (has-mini a m has) in
     let second = subst (λ (t : TableState). RangeStays (mini_start t.version stream m) (mini_start t.version stream m + mini_sector_len) mid.table.file.bytes new.directory.table.file.bytes) tables
     (c.give_room_back.ensures.minis told apart m here) in
-    stays-then at (at + mini_sector_len) old.table.file.bytes mid.table.file.bytes new.directory.table.file.bytes first second
+    Stays_trans at (at + mini_sector_len) old.table.file.bytes mid.table.file.bytes new.directory.table.file.bytes first second
 
 pub returns-clause-spares : goal.returns-clause-spares
 returns-clause-spares g c told =

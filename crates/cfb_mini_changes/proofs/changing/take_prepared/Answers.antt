@@ -4,13 +4,14 @@ use Rattle.cfb_format.specs.Bytes.{sector_len, words_per_sector}
 use Rattle.cfb_format.specs.Chain.{value}
 use Rattle.cfb_format.specs.Content.{mini_sector_len}
 use Rattle.cfb_format.specs.Full.{free_count}
-use Rattle.cfb_tables.specs.Listed.{ends_of, gained}
-use Rattle.cfb_alloc.proofs.Answering.{on_ok}
-use Rattle.cfb_mini_table.specs.MiniTable.{MiniTableState}
+use Rattle.cfb_mini_changes.specs.cfb_tables.Listed.{ends_of, gained}
+use Rattle.cfb_mini_changes.proofs.cfb_alloc.Answering.{on_ok}
+use Rattle.cfb_mini_changes.specs.cfb_mini_table.MiniTable.{MiniTableState}
 use Rattle.cfb_mini_sectors.specs.Held.{HoldsMiniBut, with_minifat}
 use Rattle.cfb_mini_changes.specs.Changing.{mini_of}
-use Rattle.cfb_mini_changes.proofs.MiniTaken.{last-or-gained, mini-known, shown-behind, taken-below, taken-late, taken-len, word-known}
+use Rattle.cfb_mini_changes.proofs.MiniTaken.{last-or-gained, mini-known, taken-below, taken-late, taken-len, word-known}
 use Rattle.cfb_mini_changes.proofs.changing.take_prepared.Goals as goal
+use Rattle.cfb_mini_changes.proofs.cfb_tables.ListedLemmas.{rest-is}
 
 -- the words of those that were taken, and of the one before them, have their places
 pub settle-requires-clause-words : goal.settle-requires-clause-words
@@ -20,7 +21,7 @@ settle-requires-clause-words g c m here =
     let list = c.deref-2.result.now in
     let k = c.saturating_sub.result in
     let from : k ≡ length ids - 1 = omega (arith, c.args.ids.now.ok.0) in
-    let shown : take (length list - k) (drop k list) ≡ drop (length ids - 1) ids' = shown-behind list k ∙ (λ i. drop (from i) (c.deref-2.ensures.value i)) in
+    let shown : take (length list - k) (drop k list) ≡ drop (length ids - 1) ids' = rest-is list k ∙ (λ i. drop (from i) (c.deref-2.ensures.value i)) in
     let e = c.extend_prepared.ensures in
     let d = c.args.directory.now in
     let old = c.args.table.now.minifat in
@@ -41,7 +42,7 @@ settle-requires-clause-minis g c m here =
     let list = c.deref.result.now in
     let n = c.len-before.result in
     let len : n ≡ length ids = omega (arith, c.args.ids.now.ok.0) in
-    let shown : take (length list - n) (drop n list) ≡ gained ids ids' = shown-behind list n ∙ (λ i. drop (len i) (c.deref.ensures.value i)) in
+    let shown : take (length list - n) (drop n list) ≡ gained ids ids' = rest-is list n ∙ (λ i. drop (len i) (c.deref.ensures.value i)) in
     let e = c.extend_prepared.ensures in
     let d = c.args.directory.now in
     let old = c.args.table.now.minifat in
@@ -76,7 +77,7 @@ returns-clause-holds g c told validation h =
     let list = c.deref-2.result.now in
     let k = c.saturating_sub.result in
     let from : k ≡ length ids - 1 = omega (arith, c.args.ids.now.ok.0) in
-    let shown : take (length list - k) (drop k list) ≡ drop (length ids - 1) ids' = shown-behind list k ∙ (λ i. drop (from i) (c.deref-2.ensures.value i)) in
+    let shown : take (length list - k) (drop k list) ≡ drop (length ids - 1) ids' = rest-is list k ∙ (λ i. drop (from i) (c.deref-2.ensures.value i)) in
     let e = c.extend_prepared.ensures in
     let d = c.args.directory.now in
     let sectors = c.args.minifat_sectors.now in
@@ -104,7 +105,7 @@ returns-clause-filled g c told validation h =
     let list = c.deref.result.now in
     let n = c.len-before.result in
     let len : n ≡ length ids = omega (arith, c.args.ids.now.ok.0) in
-    let shown : take (length list - n) (drop n list) ≡ gained ids ids' = shown-behind list n ∙ (λ i. drop (len i) (c.deref.ensures.value i)) in
+    let shown : take (length list - n) (drop n list) ≡ gained ids ids' = rest-is list n ∙ (λ i. drop (len i) (c.deref.ensures.value i)) in
     let d = c.args.directory.now in
     let old = c.args.table.now.minifat in
     let here = subst (λ (t : MiniTableState). HoldsMiniBut [] validation (with_minifat (mini_of d t c.args.minifat_sectors.now (Some c.args.stream.now)) old)) (sym c.extend_prepared.ensures.rest) h in
@@ -117,7 +118,7 @@ returns-clause-other_minis g c told validation h m has out =
     let list = c.deref.result.now in
     let n = c.len-before.result in
     let len : n ≡ length ids = omega (arith, c.args.ids.now.ok.0) in
-    let shown : take (length list - n) (drop n list) ≡ gained ids ids' = shown-behind list n ∙ (λ i. drop (len i) (c.deref.ensures.value i)) in
+    let shown : take (length list - n) (drop n list) ≡ gained ids ids' = rest-is list n ∙ (λ i. drop (len i) (c.deref.ensures.value i)) in
     let d = c.args.directory.now in
     let old = c.args.table.now.minifat in
     let here = subst (λ (t : MiniTableState). HoldsMiniBut [] validation (with_minifat (mini_of d t c.args.minifat_sectors.now (Some c.args.stream.now)) old)) (sym c.extend_prepared.ensures.rest) h in

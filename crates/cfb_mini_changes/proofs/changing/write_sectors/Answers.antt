@@ -4,23 +4,23 @@ use Rattle.std.proofs.lemmas.List.Elements.{Contains-append_left, Contains-appen
 use Rattle.cfb_format.specs.Bytes.{sector_len}
 use Rattle.cfb_format.specs.Chain.{value}
 use Rattle.cfb_format.specs.Content.{mini_sector_len}
-use Rattle.cfb_sectors.specs.Sectors.{SectorStays}
-use Rattle.cfb_sectors.specs.Words.{RangeStays}
-use Rattle.cfb_tables.specs.Tables.{TableState, first_or_end}
-use Rattle.cfb_tables.proofs.Members.{distinct-left, distinct-right}
-use Rattle.cfb_alloc.specs.Alloc.{AllocatorState, HoldsTables}
-use Rattle.cfb_alloc.specs.Frame.{Spares}
-use Rattle.cfb_alloc.specs.InSector.{IsNoTableSector}
-use Rattle.cfb_alloc.proofs.Answering.{all_ok, on_both}
-use Rattle.cfb_alloc.proofs.Frames.{spares-less, spares-then}
-use Rattle.cfb_alloc.proofs.HeldOrder.{members-no_table}
-use Rattle.cfb_directory.proofs.Placed.{begun_as, begun_holds, begun_spares}
-use Rattle.cfb_soundness.specs.Places.{mini_start}
+use Rattle.cfb_mini_changes.specs.cfb_sectors.Sectors.{SectorStays}
+use Rattle.cfb_mini_changes.specs.cfb_sectors.Words.{RangeStays}
+use Rattle.cfb_mini_changes.specs.cfb_tables.Tables.{TableState, first_or_end}
+use Rattle.cfb_mini_changes.specs.cfb_alloc.Alloc.{AllocatorState, HoldsTables}
+use Rattle.cfb_mini_changes.specs.cfb_alloc.Frame.{Spares}
+use Rattle.cfb_mini_changes.specs.cfb_alloc.InSector.{IsNoTableSector}
+use Rattle.cfb_mini_changes.proofs.cfb_alloc.Answering.{all_ok, on_both}
+use Rattle.cfb_mini_changes.proofs.cfb_alloc.Frames.{spares-less, spares-then}
+use Rattle.cfb_mini_changes.proofs.cfb_alloc.HeldOrder.{members-no_table}
+use Rattle.cfb_mini_changes.proofs.cfb_directory.Placed.{begun_as, begun_holds, begun_spares}
+use Rattle.cfb_mini_changes.specs.cfb_soundness.Places.{mini_start}
 use Rattle.cfb_mini_sectors.specs.Pieces.{AreZeros, HaveMinis, HaveWords}
 use Rattle.cfb_mini_changes.specs.Changing.{mini_of}
 use Rattle.cfb_mini_changes.proofs.MiniKnown.{mini_index}
 use Rattle.cfb_mini_changes.proofs.MiniSettled.{other-left, settled, stream-no_tables, zero-mini}
 use Rattle.cfb_mini_changes.proofs.changing.write_sectors.Goals as goal
+use Rattle.cfb_format.proofs.Members.{distinct-left, distinct-right}
 
 -- ---- the zeros
 

@@ -3,8 +3,8 @@ use Rattle.std.specs.Prelude.{Ok, Err, OnOk, Result}
 use Rattle.std.specs.Result.{is_ok}
 use Rattle.std.proofs.lemmas.Bool.{false≢true}
 use Rattle.cfb_format.specs.Chain.{IsChain}
-use Rattle.cfb_tables.specs.Tables.{first_or_end}
-use Rattle.cfb_alloc.specs.ListedChain.{from_last_of}
+use Rattle.cfb_mini_sectors.specs.cfb_tables.Tables.{first_or_end}
+use Rattle.cfb_mini_sectors.specs.cfb_alloc.ListedChain.{from_last_of}
 use Rattle.cfb_mini_sectors.proofs.giving.can_give_back.Goals as goal
 use Rattle.cfb_mini_sectors.proofs.giving.can_give_back.Goals.{then-is_usable, else-is_usable, then-is_ok, else-is_ok}
 

@@ -1,4 +1,4 @@
-use Rattle.cfb_alloc.specs.Alloc.{IsUsable}
+use Rattle.cfb_mini_sectors.specs.cfb_alloc.Alloc.{IsUsable}
 use Rattle.cfb_mini_sectors.proofs.HeldShortened.{cut-begun, cut-listed, cut-refused, cut-sizes}
 use Rattle.cfb_mini_sectors.proofs.giving.cut_longer.Goals as goal
 

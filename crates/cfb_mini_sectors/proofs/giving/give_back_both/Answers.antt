@@ -4,15 +4,14 @@ use Rattle.std.proofs.lemmas.List.Elements.{Contains-append_left, Contains-appen
 use Rattle.cfb_format.specs.Bytes.{max_regular_sector, word_at}
 use Rattle.cfb_sectors.proofs.SectorLemmas.{SectorStays_next, after_header}
 use Rattle.cfb_sectors.proofs.WordLemmas.{word_stays}
-use Rattle.cfb_tables.specs.Clean.{IsUnnamed}
-use Rattle.cfb_tables.specs.Listed.{ends_of}
-use Rattle.cfb_tables.specs.Tables.{TableState, first_or_end}
-use Rattle.cfb_alloc.specs.Alloc.{AllocatorState, ChangesSectors, HoldsTables, IsUsable}
-use Rattle.cfb_alloc.specs.Frame.{Spares}
-use Rattle.cfb_alloc.specs.ListedChain.{CanShorten, Shortens}
-use Rattle.cfb_alloc.proofs.Answering.{on_both, on_ok}
-use Rattle.cfb_alloc.proofs.Frames.{spares-less, spares-then}
-use Rattle.cfb_alloc.proofs.Listed.{not_in_nil}
+use Rattle.cfb_mini_sectors.specs.cfb_tables.Clean.{IsUnnamed}
+use Rattle.cfb_mini_sectors.specs.cfb_tables.Listed.{ends_of}
+use Rattle.cfb_mini_sectors.specs.cfb_tables.Tables.{TableState, first_or_end}
+use Rattle.cfb_mini_sectors.specs.cfb_alloc.Alloc.{AllocatorState, ChangesSectors, HoldsTables, IsUsable}
+use Rattle.cfb_mini_sectors.specs.cfb_alloc.Frame.{Spares}
+use Rattle.cfb_mini_sectors.specs.cfb_alloc.ListedChain.{CanShorten, Shortens}
+use Rattle.cfb_mini_sectors.proofs.cfb_alloc.Answering.{on_both, on_ok}
+use Rattle.cfb_mini_sectors.proofs.cfb_alloc.Frames.{spares-less, spares-then}
 use Rattle.cfb_mini_sectors.specs.State.{mini_stream_of, table_of, tables_in}
 use Rattle.cfb_mini_sectors.specs.Steps.{KeepsSizes}
 use Rattle.cfb_mini_sectors.proofs.HeldGrown.{but-long}
@@ -20,6 +19,7 @@ use Rattle.cfb_mini_sectors.proofs.HeldShortened.{both-given, but-stream-shorten
 use Rattle.cfb_mini_sectors.proofs.ListedChains.{can-still}
 use Rattle.cfb_mini_sectors.proofs.MinifatGrown.{outside_named}
 use Rattle.cfb_mini_sectors.proofs.giving.give_back_both.Goals as goal
+use Rattle.cfb_format.proofs.Members.{Contains-nil}
 
 pub cut_longer-requires-clause-can : goal.cut_longer-requires-clause-can
 cut_longer-requires-clause-can g c = c.requires.can.first
@@ -128,7 +128,7 @@ pub returns-in_err-name_minifat-clause-spares : goal.returns-in_err-name_minifat
 returns-in_err-name_minifat-clause-spares g c told =
     let sectors = c.args.minifat_sectors.now.items in
     let stream = c.args.stream.now.items in
-    spares-then (sectors ++ stream) [] c.args.allocator.now c.cut_longer.new.allocator c.name_minifat.new.allocator (λ i m. absurd (not_in_nil i m))
+    spares-then (sectors ++ stream) [] c.args.allocator.now c.cut_longer.new.allocator c.name_minifat.new.allocator (λ i m. absurd (Contains-nil i m))
     (spares-less stream (sectors ++ stream) c.args.allocator.now c.cut_longer.new.allocator (Contains-append_right sectors stream) (c.cut_longer.ensures.spares told))
     (c.name_minifat.ensures.spares told)
 
@@ -138,7 +138,7 @@ returns-clause-spares g c told =
     let stream = c.args.stream.now.items in
     spares-then (sectors ++ stream) sectors c.args.allocator.now c.name_minifat.new.allocator c.cut_longer-2.new.allocator
     (λ i m. inr (Contains-append_left sectors stream i m))
-    (spares-then (sectors ++ stream) [] c.args.allocator.now c.cut_longer.new.allocator c.name_minifat.new.allocator (λ i m. absurd (not_in_nil i m))
+    (spares-then (sectors ++ stream) [] c.args.allocator.now c.cut_longer.new.allocator c.name_minifat.new.allocator (λ i m. absurd (Contains-nil i m))
     (spares-less stream (sectors ++ stream) c.args.allocator.now c.cut_longer.new.allocator (Contains-append_right sectors stream) (c.cut_longer.ensures.spares told))
     (c.name_minifat.ensures.spares told))
     (c.cut_longer-2.ensures.spares told)

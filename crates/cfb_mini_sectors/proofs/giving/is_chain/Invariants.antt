@@ -1,7 +1,7 @@
 use Rattle.std.proofs.Common.{drop}
 use Rattle.std.specs.Prelude.{◌↔◌}
 use Rattle.cfb_format.specs.Chain.{Follows}
-use Rattle.cfb_tables.specs.Tables.{first_or_end}
+use Rattle.cfb_mini_sectors.specs.cfb_tables.Tables.{first_or_end}
 use Rattle.cfb_mini_sectors.proofs.giving.is_chain.Given as goal
 
 -- the whole list goes on from the first one exactly where what is left does from the one that is named now

@@ -1,7 +1,7 @@
 use Rattle.std.proofs.Common.{ℕ, List, sym, ◌∙◌, ap, subst, drop, arith}
 use Rattle.cfb_format.specs.Chain.{IsChain}
-use Rattle.cfb_tables.specs.Tables.{first_or_end}
-use Rattle.cfb_tables.proofs.ListedLemmas.{rest-is}
+use Rattle.cfb_mini_sectors.specs.cfb_tables.Tables.{first_or_end}
+use Rattle.cfb_mini_sectors.proofs.cfb_tables.ListedLemmas.{rest-is}
 use Rattle.cfb_mini_sectors.proofs.giving.is_chain_behind.Goals as goal
 
 pub returns-else-sectors-left : goal.returns-else-sectors-left

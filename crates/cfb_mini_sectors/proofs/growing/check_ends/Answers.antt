@@ -1,6 +1,6 @@
 use Rattle.std.proofs.Common.{◌≡◌, ◌≢◌, sym, ◌∙◌}
 use Rattle.cfb_format.specs.Bytes.{end_of_chain}
-use Rattle.cfb_tables.specs.Listed.{last_or_end}
+use Rattle.cfb_mini_sectors.specs.cfb_tables.Listed.{last_or_end}
 use Rattle.cfb_directory.proofs.DirectoryRefusals.{invalid_for}
 use Rattle.cfb_mini_sectors.specs.Growing.{EndApart}
 use Rattle.cfb_mini_sectors.proofs.MinifatGrown.{ends_apart, ends_same}

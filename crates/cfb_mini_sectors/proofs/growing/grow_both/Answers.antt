@@ -2,12 +2,12 @@ use Rattle.std.proofs.Common.{◌≡◌, ◌+◌, ◌-◌, ◌++◌, inl, inr, m
 use Rattle.std.specs.Prelude.{Some}
 use Rattle.std.proofs.lemmas.Bool.{cases_lt}
 use Rattle.cfb_sectors.specs.declared.sector.SectorInit.TheVariants.{Fat, Zero}
-use Rattle.cfb_tables.specs.Listed.{ends_of}
-use Rattle.cfb_tables.specs.Tables.{IsTooFew}
-use Rattle.cfb_tables.proofs.RoomLemmas.{more-is-too-few}
-use Rattle.cfb_alloc.specs.Alloc.{AllocatorState, HoldsTables}
-use Rattle.cfb_alloc.specs.Frame.{Spares}
-use Rattle.cfb_alloc.proofs.Spared.{spares_refl}
+use Rattle.cfb_mini_sectors.specs.cfb_tables.Listed.{ends_of}
+use Rattle.cfb_mini_sectors.specs.cfb_tables.Tables.{IsTooFew}
+use Rattle.cfb_mini_sectors.proofs.cfb_tables.RoomLemmas.{more-is-too-few}
+use Rattle.cfb_mini_sectors.specs.cfb_alloc.Alloc.{AllocatorState, HoldsTables}
+use Rattle.cfb_mini_sectors.specs.cfb_alloc.Frame.{Spares}
+use Rattle.cfb_mini_sectors.proofs.cfb_alloc.Spared.{spares_refl}
 use Rattle.cfb_mini_sectors.specs.Growing.{GainsFilled, KeepsInUse, KeepsOutsideMini}
 use Rattle.cfb_mini_sectors.proofs.MinifatGrown.{in_use_refl}
 use Rattle.cfb_mini_sectors.proofs.growing.grow_both.Goals as goal

@@ -3,12 +3,12 @@ use Rattle.std.proofs.lemmas.Bool.{cases_lt}
 use Rattle.std.proofs.lemmas.Result.{err_from_is_err_and}
 use Rattle.cfb_format.specs.Bytes.{word_at}
 use Rattle.cfb_format.specs.Refused.{CountsError}
-use Rattle.cfb_tables.specs.Listed.{EndsChain, ends_of, gained}
-use Rattle.cfb_tables.specs.Tables.{IsTooFew}
-use Rattle.cfb_tables.proofs.RoomLemmas.{more-is-too-few}
-use Rattle.cfb_alloc.specs.Alloc.{AllocatorState, IsUsable}
-use Rattle.cfb_alloc.specs.ListedChain.{Lengthens}
-use Rattle.cfb_alloc.proofs.BrokenSpared.{after_any}
+use Rattle.cfb_mini_sectors.specs.cfb_tables.Listed.{EndsChain, ends_of, gained}
+use Rattle.cfb_mini_sectors.specs.cfb_tables.Tables.{IsTooFew}
+use Rattle.cfb_mini_sectors.proofs.cfb_tables.RoomLemmas.{more-is-too-few}
+use Rattle.cfb_mini_sectors.specs.cfb_alloc.Alloc.{AllocatorState, IsUsable}
+use Rattle.cfb_mini_sectors.specs.cfb_alloc.ListedChain.{Lengthens}
+use Rattle.cfb_mini_sectors.proofs.cfb_alloc.BrokenSpared.{after_any}
 use Rattle.cfb_directory.specs.Growing.{KeepsBounds}
 use Rattle.cfb_mini_sectors.proofs.BothGrown.{both-bounds, both-full, both-held, both-outside, both-raised, both-spare, broke-begun, filled-after, first-spares, other-chain, other-ends, room-left, still-apart, usable-after}
 use Rattle.cfb_mini_sectors.proofs.MinifatGrown.{bounds_refl, bounds_taken, in_use_others, in_use_then, outside_others, same_listed, word_kept}

@@ -4,15 +4,14 @@ use Rattle.std.proofs.lemmas.Bool.{eqb-false}
 use Rattle.cfb_format.specs.Bytes.{word_at}
 use Rattle.cfb_sectors.specs.Sectors.{IsMediumError, SectorFile}
 use Rattle.cfb_sectors.specs.declared.sector.SectorInit.TheVariants.{Fat}
-use Rattle.cfb_tables.specs.Listed.{EndsChain, ends_of, gained}
-use Rattle.cfb_tables.specs.Refused.{ChangeRefused}
-use Rattle.cfb_tables.specs.Tables.{TableState, IsTooFew, first_or_end}
-use Rattle.cfb_alloc.specs.Alloc.{AllocatorState, HoldsTables, IsUsable}
-use Rattle.cfb_alloc.specs.ListedChain.{Lengthens, ListBreaksOff}
-use Rattle.cfb_alloc.proofs.Answering.{all_ok, on_ok, on_three}
-use Rattle.cfb_alloc.proofs.BrokenSpared.{after_any}
-use Rattle.cfb_alloc.proofs.Frames.{spares-then}
-use Rattle.cfb_alloc.proofs.Listed.{not_in_nil}
+use Rattle.cfb_mini_sectors.specs.cfb_tables.Listed.{EndsChain, ends_of, gained}
+use Rattle.cfb_mini_sectors.specs.cfb_tables.Refused.{ChangeRefused}
+use Rattle.cfb_mini_sectors.specs.cfb_tables.Tables.{TableState, IsTooFew, first_or_end}
+use Rattle.cfb_mini_sectors.specs.cfb_alloc.Alloc.{AllocatorState, HoldsTables, IsUsable}
+use Rattle.cfb_mini_sectors.specs.cfb_alloc.ListedChain.{Lengthens, ListBreaksOff}
+use Rattle.cfb_mini_sectors.proofs.cfb_alloc.Answering.{all_ok, on_ok, on_three}
+use Rattle.cfb_mini_sectors.proofs.cfb_alloc.BrokenSpared.{after_any}
+use Rattle.cfb_mini_sectors.proofs.cfb_alloc.Frames.{spares-then}
 use Rattle.cfb_directory.specs.Growing.{IsListedChain, KeepsBounds}
 use Rattle.cfb_directory.proofs.DirectoryRefusals.{err_map}
 use Rattle.cfb_directory.proofs.InsertGrow.{medium-broke}
@@ -22,6 +21,7 @@ use Rattle.cfb_mini_sectors.specs.State.{table_of}
 use Rattle.cfb_mini_sectors.proofs.HeldGrown.{but-long, but-minifat-grows, minifat-still}
 use Rattle.cfb_mini_sectors.proofs.MinifatGrown.{bounds_refl, bounds_taken, filled_named, first_still, in_use_named, in_use_others, medium_changed, outside_named, outside_others, same_listed, word_kept}
 use Rattle.cfb_mini_sectors.proofs.growing.grow_minifat.Goals as goal
+use Rattle.cfb_format.proofs.Members.{Contains-nil}
 
 -- ---- refused
 
@@ -112,7 +112,7 @@ returns-clause-in_use g c told =
 
 pub returns-clause-spares : goal.returns-clause-spares
 returns-clause-spares g c told =
-    spares-then (ends_of c.args.sectors.now.items) [] c.args.allocator.now c.extend_listed.new.self c.name_minifat.new.allocator (λ i m. absurd (not_in_nil i m))
+    spares-then (ends_of c.args.sectors.now.items) [] c.args.allocator.now c.extend_listed.new.self c.name_minifat.new.allocator (λ i m. absurd (Contains-nil i m))
     (c.extend_listed.ensures.spares told) (c.name_minifat.ensures.spares told)
 
 pub returns-clause-bounds : goal.returns-clause-bounds

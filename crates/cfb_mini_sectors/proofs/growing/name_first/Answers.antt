@@ -1,5 +1,5 @@
 use Rattle.std.proofs.Common.{[]}
-use Rattle.cfb_alloc.proofs.Spared.{spares_refl}
+use Rattle.cfb_mini_sectors.proofs.cfb_alloc.Spared.{spares_refl}
 use Rattle.cfb_mini_sectors.proofs.growing.name_first.Goals as goal
 
 pub returns-then-not-is_new-clause-spares : goal.returns-then-not-is_new-clause-spares

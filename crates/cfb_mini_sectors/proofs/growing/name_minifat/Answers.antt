@@ -4,12 +4,12 @@ use Rattle.cfb_format.proofs.ByteLemmas.{ChangesOnly_wider}
 use Rattle.cfb_sectors.specs.Sectors.{SectorFile}
 use Rattle.cfb_sectors.specs.Words.{with_word}
 use Rattle.cfb_sectors.proofs.WordLemmas.{length-with_word, word_with_word}
-use Rattle.cfb_alloc.specs.Alloc.{AllocatorState}
-use Rattle.cfb_alloc.proofs.Answering.{all_ok, on_ok}
-use Rattle.cfb_alloc.proofs.Frames.{spares-then}
-use Rattle.cfb_alloc.proofs.Listed.{not_in_nil}
+use Rattle.cfb_mini_sectors.specs.cfb_alloc.Alloc.{AllocatorState}
+use Rattle.cfb_mini_sectors.proofs.cfb_alloc.Answering.{all_ok, on_ok}
+use Rattle.cfb_mini_sectors.proofs.cfb_alloc.Frames.{spares-then}
 use Rattle.cfb_mini_sectors.proofs.MinifatNamed.{both_words, first_named, first_stays}
 use Rattle.cfb_mini_sectors.proofs.growing.name_minifat.Goals as goal
+use Rattle.cfb_format.proofs.Members.{Contains-nil}
 
 pub returns-in_err-name_first-clause-others : goal.returns-in_err-name_first-clause-others
 returns-in_err-name_first-clause-others g c told = ChangesOnly_wider 60 8 60 4 _ _ (omega arith) (omega arith) (c.name_first.ensures.others told)
@@ -19,7 +19,7 @@ returns-clause-others g c told = both_words _ _ _ (c.name_first.ensures.others t
 
 pub returns-clause-spares : goal.returns-clause-spares
 returns-clause-spares g c told =
-    spares-then [] [] c.args.allocator.now c.name_first.new.allocator c.write_header_word.new.self (λ i m. absurd (not_in_nil i m))
+    spares-then [] [] c.args.allocator.now c.name_first.new.allocator c.write_header_word.new.self (λ i m. absurd (Contains-nil i m))
     (c.name_first.ensures.spares told) (c.write_header_word.ensures.spares told)
 
 pub returns-clause-first : goal.returns-clause-first

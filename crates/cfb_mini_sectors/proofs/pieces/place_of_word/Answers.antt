@@ -1,6 +1,6 @@
 use Rattle.std.proofs.Common.{◌+◌, ◌*◌, ◌%◌, ◌≤◌, sym, subst}
 use Rattle.cfb_format.specs.Bytes.{sector_len}
-use Rattle.cfb_alloc.proofs.TableWords.{home_fits}
+use Rattle.cfb_mini_sectors.proofs.cfb_alloc.TableWords.{home_fits}
 use Rattle.cfb_mini_sectors.proofs.pieces.place_of_word.Goals as goal
 
 pub returns-clause-within : goal.returns-clause-within

@@ -1,15 +1,16 @@
-use Rattle.std.proofs.Common.{◌≡◌, ◌<◌, ◌≤◌, ◌+◌, ◌-◌, inl, inr, ℕ, refl, sym, ◌∙◌, ap, subst, arith, length, get_or}
+use Rattle.std.proofs.Common.{◌≡◌, ◌+◌, ◌-◌, inl, inr, refl, sym, ◌∙◌, ap, subst, arith, length, get_or}
 use Rattle.std.proofs.lemmas.Bool.{cases_lt}
 use Rattle.std.proofs.lemmas.List.{get_or_default}
 use Rattle.cfb_format.specs.declared.version.Version.{Version}
 use Rattle.cfb_format.specs.Content.{mini_sector_len}
-use Rattle.cfb_tables.specs.Tables.{TableState}
-use Rattle.cfb_alloc.specs.InSector.{IsNoTableSector}
-use Rattle.cfb_mini_sectors.specs.Pieces.{AreInARow, AreZeros, HaveMinis}
+use Rattle.cfb_mini_sectors.specs.cfb_tables.Tables.{TableState}
+use Rattle.cfb_mini_sectors.specs.cfb_alloc.InSector.{IsNoTableSector}
+use Rattle.cfb_mini_sectors.specs.Pieces.{AreZeros, HaveMinis}
 use Rattle.cfb_soundness.specs.Places.{mini_start}
 use Rattle.cfb_mini_sectors.proofs.MiniRows.{minis_after}
-use Rattle.cfb_mini_sectors.proofs.PieceWrites.{among_after, among_refl, kept_after, other_mini_stays, pieces_refl}
+use Rattle.cfb_mini_sectors.proofs.PieceWrites.{among_after, among_refl, other_mini_stays, pieces_refl}
 use Rattle.cfb_mini_sectors.proofs.pieces.wipe.Goals as goal
+use Rattle.cfb_runs.proofs.Along.{kept_after}
 
 pub wipe_row-requires-clause-known : goal.wipe_row-requires-clause-known
 wipe_row-requires-clause-known g c =

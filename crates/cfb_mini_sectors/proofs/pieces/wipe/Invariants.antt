@@ -2,8 +2,8 @@ use Rattle.std.proofs.Common.{◌≡◌, ◌<◌, ◌≤◌, ◌-◌, ℕ, get_o
 use Rattle.std.specs.Prelude.{Contains, IsTrue}
 use Rattle.cfb_format.specs.declared.validate.Validation.{Validation}
 use Rattle.cfb_sectors.specs.Sectors.{IsRaised}
-use Rattle.cfb_alloc.specs.Alloc.{HoldsTables}
-use Rattle.cfb_alloc.specs.InSector.{IsNoTableSector}
+use Rattle.cfb_mini_sectors.specs.cfb_alloc.Alloc.{HoldsTables}
+use Rattle.cfb_mini_sectors.specs.cfb_alloc.InSector.{IsNoTableSector}
 use Rattle.cfb_mini_sectors.specs.Pieces.{AreZeros, ChangesMinis, WritesAmong}
 use Rattle.cfb_soundness.specs.Places.{mini_start}
 use Rattle.cfb_mini_sectors.proofs.pieces.wipe.Given as goal

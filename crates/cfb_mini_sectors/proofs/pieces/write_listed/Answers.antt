@@ -5,11 +5,11 @@ use Rattle.cfb_format.specs.declared.version.Version.{Version}
 use Rattle.cfb_format.specs.Bytes.{sector_start}
 use Rattle.cfb_format.specs.Medium.{ChangesOnlyBytes}
 use Rattle.cfb_sectors.proofs.SectorLemmas.{other_sector}
-use Rattle.cfb_tables.proofs.Members.{Contains-one}
-use Rattle.cfb_alloc.proofs.Frames.{spares-less}
-use Rattle.cfb_alloc.proofs.Spared.{in_sector_spares, start_past}
+use Rattle.cfb_mini_sectors.proofs.cfb_alloc.Frames.{spares-less}
+use Rattle.cfb_mini_sectors.proofs.cfb_alloc.Spared.{in_sector_spares, start_past}
 use Rattle.cfb_mini_sectors.proofs.PiecePlaces.{outside_tables, piece_inside}
 use Rattle.cfb_mini_sectors.proofs.pieces.write_listed.Goals as goal
+use Rattle.cfb_format.proofs.Members.{Contains-one}
 
 pub returns-clause-err : goal.returns-clause-err
 returns-clause-err g c =

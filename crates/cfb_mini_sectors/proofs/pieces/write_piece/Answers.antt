@@ -1,5 +1,5 @@
 use Rattle.cfb_sectors.proofs.SectorLemmas.{SectorStays_refl}
-use Rattle.cfb_alloc.proofs.Spared.{spares_refl}
+use Rattle.cfb_mini_sectors.proofs.cfb_alloc.Spared.{spares_refl}
 use Rattle.cfb_mini_sectors.proofs.pieces.write_piece.Goals as goal
 
 pub returns-then-is_none-clause-sectors : goal.returns-then-is_none-clause-sectors

@@ -3,10 +3,10 @@ use Rattle.std.specs.Prelude.{slice_index}
 use Rattle.cfb_format.specs.Bytes.{sector_start, word_bytes, words_per_sector}
 use Rattle.cfb_format.specs.Medium.{ChangesOnlyBytes, written}
 use Rattle.cfb_sectors.specs.Sectors.{SectorFile}
-use Rattle.cfb_alloc.specs.Agreement.{word_home}
-use Rattle.cfb_alloc.proofs.Answering.{on_ok}
-use Rattle.cfb_table_words.proofs.RunWords.{length-word_bytes}
+use Rattle.cfb_mini_sectors.specs.cfb_alloc.Agreement.{word_home}
+use Rattle.cfb_mini_sectors.proofs.cfb_alloc.Answering.{on_ok}
 use Rattle.cfb_mini_sectors.proofs.pieces.write_run.Goals as goal
+use Rattle.cfb_mini_sectors.proofs.cfb_table_words.DifatWords.{length-word_bytes}
 
 pub returns-clause-ok : goal.returns-clause-ok
 returns-clause-ok g c told =

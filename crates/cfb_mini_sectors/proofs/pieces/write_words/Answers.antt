@@ -6,14 +6,15 @@ use Rattle.cfb_format.specs.declared.version.Version.{Version}
 use Rattle.cfb_format.specs.Bytes.{words_per_sector, word_bytes}
 use Rattle.cfb_format.specs.Chain.{value}
 use Rattle.cfb_format.specs.Medium.{ChangesOnlyBytes, written}
-use Rattle.cfb_tables.specs.Tables.{TableState}
-use Rattle.cfb_alloc.specs.Agreement.{word_home, word_of}
-use Rattle.cfb_alloc.specs.InSector.{IsNoTableSector}
-use Rattle.cfb_table_words.proofs.RunWords.{words_most}
+use Rattle.cfb_mini_sectors.specs.cfb_tables.Tables.{TableState}
+use Rattle.cfb_mini_sectors.specs.cfb_alloc.Agreement.{word_home, word_of}
+use Rattle.cfb_mini_sectors.specs.cfb_alloc.InSector.{IsNoTableSector}
+use Rattle.cfb_mini_sectors.proofs.cfb_table_words.RunWords.{words_most}
 use Rattle.cfb_mini_sectors.specs.Pieces.{HasWord}
-use Rattle.cfb_mini_sectors.proofs.PieceWrites.{among_after, among_refl, kept_after, other_word_stays, pieces_refl}
+use Rattle.cfb_mini_sectors.proofs.PieceWrites.{among_after, among_refl, other_word_stays, pieces_refl}
 use Rattle.cfb_mini_sectors.proofs.WordRuns.{run_still, run_written, words_after}
 use Rattle.cfb_mini_sectors.proofs.pieces.write_words.Goals as goal
+use Rattle.cfb_runs.proofs.Along.{kept_after}
 
 pub loop-done-init : goal.loop-done-init
 loop-done-init g c = record {

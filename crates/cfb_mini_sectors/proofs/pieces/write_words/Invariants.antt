@@ -3,8 +3,8 @@ use Rattle.std.specs.Prelude.{Contains, IsTrue}
 use Rattle.std.specs.List.{IsDistinct}
 use Rattle.cfb_format.specs.declared.validate.Validation.{Validation}
 use Rattle.cfb_sectors.specs.Sectors.{IsRaised}
-use Rattle.cfb_alloc.specs.Alloc.{HoldsTables}
-use Rattle.cfb_alloc.specs.InSector.{IsNoTableSector}
+use Rattle.cfb_mini_sectors.specs.cfb_alloc.Alloc.{HoldsTables}
+use Rattle.cfb_mini_sectors.specs.cfb_alloc.InSector.{IsNoTableSector}
 use Rattle.cfb_mini_sectors.specs.Pieces.{ChangesWords, WritesAmong}
 use Rattle.cfb_mini_sectors.proofs.PieceWrites.{WordStands}
 use Rattle.cfb_mini_sectors.proofs.pieces.write_words.Given as goal

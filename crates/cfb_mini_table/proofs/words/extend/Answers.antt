@@ -1,10 +1,11 @@
 use Rattle.std.proofs.Common.{◌≡◌, ◌≤◌, ◌-◌, List, ℕ, length, drop, take, vec_len, sym, subst, arith}
-use Rattle.cfb_tables.proofs.Members.{value-below}
 use Rattle.cfb_format.specs.Bytes.{max_regular_sector, end_of_chain}
 use Rattle.cfb_format.specs.Chain.{value}
 use Rattle.cfb_mini_table.specs.Steps.{CanLink, Links}
-use Rattle.cfb_mini_table.proofs.LinkLemmas.{can-link-behind, takes-behind, linked-next, rest-is}
+use Rattle.cfb_mini_table.proofs.LinkLemmas.{can-link-behind, takes-behind, linked-next}
 use Rattle.cfb_mini_table.proofs.words.extend.Goals as goal
+use Rattle.cfb_format.proofs.Walks.{value-below}
+use Rattle.cfb_tables.proofs.ListedLemmas.{rest-is}
 
 -- the end of a chain is a number of a mini sector
 last-regular : (table : List ℕ) (last limit : ℕ) → length table ≤ limit → limit ≤ max_regular_sector → value table last ≡ end_of_chain → last ≤ max_regular_sector

@@ -2,11 +2,11 @@ use Rattle.std.proofs.Common.{◌≡◌, ◌≢◌, length, sym, ◌∙◌, subs
 use Rattle.cfb_format.specs.Bytes.{free_sector}
 use Rattle.cfb_format.specs.Chain.{value}
 use Rattle.cfb_tables.specs.Changes.{ListsFree}
-use Rattle.cfb_tables.proofs.Members.{value-at}
 use Rattle.cfb_tables.proofs.FreeLemmas.{lists-none, lists-more, lists-skip, lists-count}
 use Rattle.cfb_mini_table.proofs.MiniFreeLemmas.{TakesLastFirst, next-none, next-more, next-skip}
 use Rattle.cfb_mini_table.proofs.words.free_numbers.Goals as goal
 use Rattle.cfb_mini_table.proofs.words.free_numbers.Goals.{then-minifat-number, else-minifat-number}
+use Rattle.cfb_format.proofs.Walks.{value-at}
 
 pub loop-number-init : goal.loop-number-init
 loop-number-init g c = record {

@@ -2,7 +2,6 @@ use Rattle.std.proofs.Common.{◌≡◌, ◌<◌, ℕ, inl, List, [], ◌∷◌,
 use Rattle.std.proofs.lemmas.List.{nil_from_length}
 use Rattle.std.specs.Prelude.{Contains}
 use Rattle.std.proofs.lemmas.List.Elements.{Contains-append_left, Contains-push}
-use Rattle.cfb_tables.proofs.Members.{Contains-nil}
 use Rattle.cfb_format.specs.Bytes.{end_of_chain}
 use Rattle.cfb_format.specs.Full.{free_count}
 use Rattle.cfb_tables.specs.Changes.{NoneFree}
@@ -12,6 +11,7 @@ use Rattle.cfb_mini_table.specs.Steps.{TakesOne}
 use Rattle.cfb_mini_table.proofs.MiniFreeLemmas.{mini-skip, mini-pop, mini-none, mini-grow, pop-busy, skip-busy}
 use Rattle.cfb_mini_table.proofs.TakenLemmas.{one-set, one-push}
 use Rattle.cfb_mini_table.proofs.words.take_one.Goals as goal
+use Rattle.cfb_format.proofs.Members.{Contains-nil}
 
 pub returns-then-number-len-clause-taken : goal.returns-then-number-len-clause-taken
 returns-then-number-len-clause-taken g c =

@@ -9,7 +9,7 @@ use Rattle.cfb_format.specs.Header.{IfStrict}
 use Rattle.cfb_format.specs.Reading.{IsStrictCount, Outline}
 use Rattle.cfb_alloc.specs.Alloc.{AllocatorState}
 use Rattle.cfb_codecs.specs.EntryModel.{entries_of, entry_of}
-use Rattle.cfb_entries.specs.EntryList.{HaveShortNames}
+use Rattle.cfb_opening.specs.cfb_entries.EntryList.{HaveShortNames}
 use Rattle.cfb_outline.specs.Outlines.{AcceptsOutline}
 use Rattle.cfb_reading.proofs.PartRefusals.{refused-bytes, refused-weaker}
 use Rattle.cfb_opening.specs.Acceptable.{IsRefused}

@@ -5,10 +5,10 @@ use Rattle.cfb_format.specs.Content.{mini_sector_len}
 use Rattle.cfb_format.specs.Full.{max_mini_sectors}
 use Rattle.cfb_format.specs.Header.{IfStrict}
 use Rattle.cfb_alloc.specs.Alloc.{AllocatorState}
-use Rattle.cfb_tables.specs.Tables.{AreSizes, sizes_of}
-use Rattle.cfb_directory.specs.State.{DirectoryState}
-use Rattle.cfb_mini_table.specs.MiniTable.{AcceptsMini}
-use Rattle.cfb_mini.specs.Changing.{AreMinifatSectors, root_len_in}
+use Rattle.cfb_opening.specs.cfb_tables.Tables.{AreSizes, sizes_of}
+use Rattle.cfb_opening.specs.cfb_directory.State.{DirectoryState}
+use Rattle.cfb_opening.specs.cfb_mini_table.MiniTable.{AcceptsMini}
+use Rattle.cfb_opening.specs.cfb_mini.Changing.{AreMinifatSectors, root_len_in}
 use Rattle.cfb_opening.specs.Acceptable.{IsRefused}
 use Rattle.cfb_opening.proofs.BuiltParts.{minis-known, minis-refused}
 use Rattle.cfb_opening.proofs.Refusals.{memory-refused}

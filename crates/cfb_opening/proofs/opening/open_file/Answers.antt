@@ -1,5 +1,5 @@
 use Rattle.std.proofs.Common.{◌∙◌, ap, sym, subst}
-use Rattle.cfb_mini_sectors.specs.State.{MiniState, cases_of, table_of, tables_in}
+use Rattle.cfb_opening.specs.cfb_mini_sectors.State.{MiniState, cases_of, table_of, tables_in}
 use Rattle.cfb_opening.specs.Opened.{IsOpened}
 use Rattle.cfb_opening.proofs.OpenedFile.{opened}
 use Rattle.cfb_opening.proofs.opening.open_file.Goals as goal

@@ -3,8 +3,8 @@ use Rattle.cfb_format.specs.DirectoryEntry.{Entry}
 use Rattle.cfb_format.specs.Reading.{IsOutline}
 use Rattle.cfb_sectors.specs.Sectors.{SectorFile}
 use Rattle.cfb_alloc.specs.Alloc.{AllocatorState}
-use Rattle.cfb_directory.specs.State.{DirectoryState}
-use Rattle.cfb_mini_sectors.specs.State.{reading_of}
+use Rattle.cfb_opening.specs.cfb_directory.State.{DirectoryState}
+use Rattle.cfb_opening.specs.cfb_mini_sectors.State.{reading_of}
 use Rattle.cfb_opening.proofs.OpenedFile.{reads}
 use Rattle.cfb_opening.proofs.soundness.is_sound.Goals as goal
 

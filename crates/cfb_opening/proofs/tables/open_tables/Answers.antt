@@ -5,7 +5,7 @@ use Rattle.cfb_sectors.specs.Sectors.{SectorFile}
 use Rattle.cfb_alloc.specs.Alloc.{AreListed, IsMeasured}
 use Rattle.cfb_reading.specs.FatWords.{AcceptsFatWords, AcceptsNoFatWords, PointsInto}
 use Rattle.cfb_reading.proofs.PartRefusals.{refused-weaker}
-use Rattle.cfb_tables.specs.ReadFat.{AcceptsNoFat}
+use Rattle.cfb_opening.specs.cfb_tables.ReadFat.{AcceptsNoFat}
 use Rattle.cfb_opening.specs.Known.{unchanged_sectors}
 use Rattle.cfb_opening.proofs.Refusals.{table-refused}
 use Rattle.cfb_opening.proofs.TableParts.{difat-accepted, difat-refused, fat-refused, tables-known, words-accepted, words-refused}

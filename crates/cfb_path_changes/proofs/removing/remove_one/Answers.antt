@@ -3,8 +3,8 @@ use Rattle.std.proofs.lemmas.Result.{err_from_is_err_and}
 use Rattle.cfb_path_changes.specs.Removing.{StandsIn, removal}
 use Rattle.cfb_path_changes.proofs.Heeding.{heeds_change, heeds_refused}
 use Rattle.cfb_path_changes.proofs.Removed.{none_is_root, removal_asks, removed_answers}
-use Rattle.cfb_path_changes.proofs.Refusing.{unchanged_setting}
 use Rattle.cfb_path_changes.proofs.removing.remove_one.Goals as goal
+use Rattle.cfb_volume.proofs.Settings.{setting-same}
 
 pub returns-in_err-names-clause-does : goal.returns-in_err-names-clause-does
 returns-in_err-names-clause-does g c =
@@ -46,4 +46,4 @@ returns-in-Some-clause-any g c =
 pub returns-clause-any : goal.returns-clause-any
 returns-clause-any g c =
     let there = c.in_ok-names.ensures.found in
-    heeds_change c.args.volume.now _ c.args.volume.now there.unfailed there.sound (unchanged_setting c.args.volume.now) tt
+    heeds_change c.args.volume.now _ c.args.volume.now there.unfailed there.sound (setting-same c.args.volume.now) tt

@@ -1,7 +1,7 @@
 use Rattle.std.proofs.Common.{◌≡◌, ◌∙◌, ap, chars, map, sym, subst, Bor, List, ℕ, []}
 use Rattle.std.specs.Prelude.{Option, Some, None, IfNone, IfSome}
 use Rattle.std.proofs.lemmas.Result.{err_from_is_err_and}
-use Rattle.cfb_rules.specs.Calls.{remove_storage_all}
+use Rattle.cfb_path_changes.specs.cfb_rules.Calls.{remove_storage_all}
 use Rattle.cfb_path_changes.specs.Removing.{StandsIn}
 use Rattle.cfb_path_changes.proofs.Heeding.{heeds_change, heeds_refused}
 use Rattle.cfb_path_changes.proofs.Removed.{all_asks, all_removed_answers, root_is_first}

@@ -6,7 +6,7 @@ use Rattle.std.proofs.lemmas.List.Folds.{list_all_more}
 use Rattle.std.proofs.lemmas.List.Sums.{AllPass-from_list_all}
 use Rattle.cfb_format.specs.Bytes.{is_whole_sector, sector_words}
 use Rattle.cfb_sectors.specs.Sectors.{SectorFile}
-use Rattle.cfb_tables.specs.ReadFat.{is_padding_in}
+use Rattle.cfb_reading.specs.cfb_tables.ReadFat.{is_padding_in}
 use Rattle.cfb_reading.specs.Difat.{has_sector}
 use Rattle.cfb_reading.specs.FatWords.{AreThere, ArePadding}
 use Rattle.cfb_reading.proofs.PartRefusals.{refused-weaker}

@@ -5,9 +5,9 @@ use Rattle.cfb_format.specs.Bytes.{is_whole_sector}
 use Rattle.cfb_format.specs.Chain.{IsChain}
 use Rattle.cfb_alloc.specs.Alloc.{AllocatorState, IsMeasured}
 use Rattle.cfb_reading.specs.ReadMinifat.{NoMinifatWords}
-use Rattle.cfb_reading.proofs.Refusals.{refused-as}
 use Rattle.cfb_reading.proofs.WordReading.{no-words, words-all}
 use Rattle.cfb_reading.proofs.minifat.read_minifat_words.Goals as goal
+use Rattle.cfb_reading.proofs.cfb_tables.Refusals.{refused-as}
 
 pub returns-in_err-read_words-clause-err : goal.returns-in_err-read_words-clause-err
 returns-in_err-read_words-clause-err g c =

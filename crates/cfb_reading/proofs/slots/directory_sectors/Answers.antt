@@ -4,9 +4,9 @@ use Rattle.std.proofs.lemmas.Bool.{eqb-true}
 use Rattle.cfb_format.specs.Bytes.{entries_per_sector}
 use Rattle.cfb_format.specs.Full.{max_entries}
 use Rattle.cfb_reading.specs.ReadDirectory.{IsDirectoryChain}
-use Rattle.cfb_reading.proofs.Refusals.{refused-as}
 use Rattle.cfb_reading.proofs.SlotReading.{no-sector, too-many-sectors}
 use Rattle.cfb_reading.proofs.slots.directory_sectors.Goals as goal
+use Rattle.cfb_reading.proofs.cfb_tables.Refusals.{refused-as}
 
 pub returns-then-is_empty-clause-err : goal.returns-then-is_empty-clause-err
 returns-then-is_empty-clause-err g c =

@@ -11,9 +11,9 @@ use Rattle.cfb_codecs.specs.EntryModel.{entries_of, entry_of}
 use Rattle.cfb_alloc.specs.Alloc.{AllocatorState, IsMeasured}
 use Rattle.cfb_sectors.specs.Sectors.{SectorFile}
 use Rattle.cfb_reading.specs.ReadDirectory.{IsDirectoryChain, NoDirectory}
-use Rattle.cfb_reading.proofs.Refusals.{refused-as}
 use Rattle.cfb_reading.proofs.SlotReading.{HasReadSlots, miscounted-directory, no-directory, read-accepted, read-count, read-from_slots, read-more, read-none, read-short}
 use Rattle.cfb_reading.proofs.slots.read_entries.Goals as goal
+use Rattle.cfb_reading.proofs.cfb_tables.Refusals.{refused-as}
 
 pub returns-in_err-sectors-clause-err : goal.returns-in_err-sectors-clause-err
 returns-in_err-sectors-clause-err g c =

@@ -4,22 +4,22 @@ use Rattle.std.proofs.lemmas.Result.{err_from_is_err_and}
 use Rattle.cfb_format.specs.Chain.{IsChain}
 use Rattle.cfb_format.specs.Full.{rounded_up}
 use Rattle.cfb_tables.specs.Tables.{first_or_end}
-use Rattle.cfb_alloc.proofs.BrokenSpared.{after_any}
-use Rattle.cfb_mini.proofs.WholeFiles.{same-whole}
+use Rattle.cfb_resizing.proofs.cfb_alloc.BrokenSpared.{after_any}
+use Rattle.cfb_resizing.proofs.cfb_mini.WholeFiles.{same-whole}
 use Rattle.cfb_content.proofs.Apart.{starts-unnamed}
-use Rattle.cfb_content.proofs.Refusals.{refused-as}
 use Rattle.cfb_content.proofs.WholeStreams.{not-whole-minis, owned-minis, whole-minis-as}
 use Rattle.cfb_resizing.specs.Turning.{Turns}
 use Rattle.cfb_content.proofs.DirCount.{count-stays}
 use Rattle.cfb_content.proofs.FixedHeader.{spared-keeps-header}
 use Rattle.cfb_resizing.proofs.CutShort.{mini-cut-takes-few}
-use Rattle.cfb_mini_sectors.specs.State.{MiniState, bytes_of, table_of}
+use Rattle.cfb_resizing.specs.cfb_mini_sectors.State.{MiniState, bytes_of, table_of}
 use Rattle.cfb_content.proofs.Changed.{spares-same}
 use Rattle.cfb_resizing.proofs.LengthenedMinis.{not-both}
 use Rattle.cfb_resizing.proofs.Tightness.{sizes-tight}
 use Rattle.cfb_resizing.proofs.TurnedInMinis.{cut-lacks-none, cut-settles, first-mini, first-unnamed, mini-cut-turns, own-minis-kept}
 use Rattle.cfb_resizing.proofs.SnugMinis.{freed-snug}
 use Rattle.cfb_resizing.proofs.in_place.cut_in_minis.Goals as goal
+use Rattle.cfb_tables.proofs.Refusals.{refused-as}
 
 pub returns-in_err-ids-clause-spares : goal.returns-in_err-ids-clause-spares
 returns-in_err-ids-clause-spares g c told = spares-same c.args.mini.now c.args.entry

@@ -5,14 +5,13 @@ use Rattle.cfb_format.specs.Bytes.{sector_len}
 use Rattle.cfb_format.specs.Chain.{IsChain}
 use Rattle.cfb_format.specs.Full.{rounded_up}
 use Rattle.cfb_tables.specs.Tables.{TableState, first_or_end}
-use Rattle.cfb_alloc.specs.Alloc.{AllocatorState}
-use Rattle.cfb_alloc.specs.ListedChain.{Shortens}
-use Rattle.cfb_alloc.proofs.ListedLemmas.{can_shorten}
-use Rattle.cfb_alloc.proofs.BrokenSpared.{after_any}
-use Rattle.cfb_mini_sectors.proofs.MiniStreams.{begins}
-use Rattle.cfb_mini.specs.MiniSectors.{IsWhole}
-use Rattle.cfb_mini.proofs.WholeFiles.{same-whole}
-use Rattle.cfb_content.proofs.Refusals.{refused-as}
+use Rattle.cfb_resizing.specs.cfb_alloc.Alloc.{AllocatorState}
+use Rattle.cfb_resizing.specs.cfb_alloc.ListedChain.{Shortens}
+use Rattle.cfb_resizing.proofs.cfb_alloc.ListedLemmas.{can_shorten}
+use Rattle.cfb_resizing.proofs.cfb_alloc.BrokenSpared.{after_any}
+use Rattle.cfb_resizing.proofs.cfb_mini_sectors.MiniStreams.{begins}
+use Rattle.cfb_resizing.specs.cfb_mini.MiniSectors.{IsOfWholeSectors}
+use Rattle.cfb_resizing.proofs.cfb_mini.WholeFiles.{same-whole}
 use Rattle.cfb_content.proofs.WholeStreams.{not-whole, whole-as}
 use Rattle.cfb_content.proofs.DirCount.{table-count}
 use Rattle.cfb_content.proofs.FixedHeader.{table-keeps-header}
@@ -23,6 +22,7 @@ use Rattle.cfb_resizing.proofs.TurnedInSectors.{cut-has-all, cut-held, cut-keeps
 use Rattle.cfb_resizing.proofs.SnugMinis.{table-snug}
 use Rattle.cfb_resizing.proofs.LengthenedMinis.{not-both}
 use Rattle.cfb_resizing.proofs.in_place.cut_in_sectors.Goals as goal
+use Rattle.cfb_tables.proofs.Refusals.{refused-as}
 
 pub returns-in_err-ids-clause-spares : goal.returns-in_err-ids-clause-spares
 returns-in_err-ids-clause-spares g c told = rw (c.open_whole_chain.ensures.unchanged, c.allocator_mut-allocator.ensures.value) (spares-same c.args.mini.now c.args.entry)
@@ -107,7 +107,7 @@ returns-clause-turned g c told =
             (λ w. c.in_ok-cut_listed.ensures.holds told w) v change in
             let given = c.in_ok-cut_listed.ensures.shortened.given_back in
             same-whole v c.open_whole_chain.new.allocator c.cut_listed.new.self held (ap (λ (t : TableState). t.version) given.rest) given.given.same_length
-            (c.cut_listed.ensures.changes told).no_shorter (subst IsWhole (sym same) was);
+            (c.cut_listed.ensures.changes told).no_shorter (subst IsOfWholeSectors (sym same) was);
       };
     })
 

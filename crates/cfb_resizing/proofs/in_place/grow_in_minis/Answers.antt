@@ -3,11 +3,10 @@ use Rattle.std.specs.Prelude.{Contains}
 use Rattle.std.proofs.lemmas.Result.{err_from_is_err_and}
 use Rattle.cfb_format.specs.Full.{rounded_up}
 use Rattle.cfb_tables.specs.Tables.{first_or_end}
-use Rattle.cfb_mini_sectors.specs.State.{HoldsMini, MiniState, bytes_of, table_of}
-use Rattle.cfb_mini_sectors.specs.Steps.{IsNotHeld, IsSnugMini}
-use Rattle.cfb_mini.specs.MiniSectors.{HasMiniSector, IsWhole}
-use Rattle.cfb_mini.proofs.MiniExtended.{invalid-refused}
-use Rattle.cfb_content.proofs.Refusals.{refused-as}
+use Rattle.cfb_resizing.specs.cfb_mini_sectors.State.{HoldsMini, MiniState, bytes_of, table_of}
+use Rattle.cfb_resizing.specs.cfb_mini_sectors.Steps.{IsNotHeld, IsSnugMini}
+use Rattle.cfb_resizing.specs.cfb_mini.MiniSectors.{HasMiniSector, IsOfWholeSectors}
+use Rattle.cfb_resizing.proofs.cfb_mini.MiniExtended.{invalid-refused}
 use Rattle.cfb_content.proofs.StreamEntry.{stream-inside}
 use Rattle.cfb_content.proofs.WholeStreams.{not-whole-minis}
 use Rattle.cfb_resizing.specs.Turning.{Turns}
@@ -17,6 +16,7 @@ use Rattle.cfb_content.proofs.Changed.{spares-same, spares-as}
 use Rattle.cfb_resizing.proofs.LengthenedMinis.{not-both}
 use Rattle.cfb_resizing.proofs.TurnedInMinis.{grow-minis-lacks, grow-minis-others, grow-minis-room, grow-minis-starts, grow-minis-there, grow-minis-turned, not-held, not-in-stream}
 use Rattle.cfb_resizing.proofs.in_place.grow_in_minis.Goals as goal
+use Rattle.cfb_tables.proofs.Refusals.{refused-as}
 
 pub content_in-start-requires : goal.content_in-start-requires
 content_in-start-requires g c = record { inside = stream-inside c.args.mini.now c.args.entry c.requires.stream }
@@ -130,7 +130,7 @@ returns-clause-turned g c told = record {
         count-since v c.args.mini.now c.reserve.new.self c.lengthen_in_minis.new.mini c.reserve.ensures.unchanged change.held (c.in_ok-lengthen_in_minis.ensures.header told);
     whole = λ was.
         c.in_ok-lengthen_in_minis.ensures.whole told v (subst (λ (m : MiniState). HoldsMini v m) (sym c.reserve.ensures.unchanged) change.held)
-        (subst (λ (m : MiniState). IsWhole (table_of m)) (sym c.reserve.ensures.unchanged) was);
+        (subst (λ (m : MiniState). IsOfWholeSectors (table_of m)) (sym c.reserve.ensures.unchanged) was);
   };
 }
 

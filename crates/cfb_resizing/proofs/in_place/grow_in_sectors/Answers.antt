@@ -4,11 +4,10 @@ use Rattle.cfb_format.specs.Bytes.{sector_len}
 use Rattle.cfb_format.specs.Chain.{IsChain}
 use Rattle.cfb_format.specs.Full.{rounded_up}
 use Rattle.cfb_tables.specs.Tables.{first_or_end}
-use Rattle.cfb_alloc.specs.Alloc.{AllocatorState, HoldsTables}
-use Rattle.cfb_alloc.specs.ListedChain.{Lengthens}
-use Rattle.cfb_mini_sectors.proofs.MiniStreams.{begins}
-use Rattle.cfb_mini.specs.MiniSectors.{IsWhole}
-use Rattle.cfb_content.proofs.Refusals.{refused-as}
+use Rattle.cfb_resizing.specs.cfb_alloc.Alloc.{AllocatorState, HoldsTables}
+use Rattle.cfb_resizing.specs.cfb_alloc.ListedChain.{Lengthens}
+use Rattle.cfb_resizing.proofs.cfb_mini_sectors.MiniStreams.{begins}
+use Rattle.cfb_resizing.specs.cfb_mini.MiniSectors.{IsOfWholeSectors}
 use Rattle.cfb_content.proofs.WholeStreams.{not-whole}
 use Rattle.cfb_content.proofs.DirCount.{table-count}
 use Rattle.cfb_content.proofs.FixedHeader.{table-keeps-header}
@@ -17,6 +16,7 @@ use Rattle.cfb_resizing.proofs.Tightness.{lengthened-tight}
 use Rattle.cfb_resizing.proofs.TurnedInSectors.{grow-held, grow-lacks, grow-spares-others, grow-there, grow-turned, not-usable}
 use Rattle.cfb_resizing.proofs.SnugMinis.{table-snug}
 use Rattle.cfb_resizing.proofs.in_place.grow_in_sectors.Goals as goal
+use Rattle.cfb_tables.proofs.Refusals.{refused-as}
 
 pub returns-in_err-ids-clause-spares : goal.returns-in_err-ids-clause-spares
 returns-in_err-ids-clause-spares g c told = rw (c.open_whole_chain.ensures.unchanged, c.allocator_mut-allocator.ensures.value) (spares-same c.args.mini.now c.args.entry)
@@ -91,7 +91,7 @@ returns-clause-turned g c told =
             table-count v c.args.mini.now c.open_whole_chain.new.allocator c.lengthen_in_sectors.new.allocator same change.held (c.lengthen_in_sectors.ensures.header told);
         whole = λ was.
             let same = c.open_whole_chain.ensures.unchanged ∙ c.allocator_mut-allocator.ensures.value in
-            c.in_ok-lengthen_in_sectors.ensures.whole told v (subst (λ (a : AllocatorState). HoldsTables v a) (sym same) change.held.directory.tables) (subst IsWhole (sym same) was);
+            c.in_ok-lengthen_in_sectors.ensures.whole told v (subst (λ (a : AllocatorState). HoldsTables v a) (sym same) change.held.directory.tables) (subst IsOfWholeSectors (sym same) was);
       };
     })
 

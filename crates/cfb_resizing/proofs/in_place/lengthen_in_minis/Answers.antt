@@ -7,19 +7,20 @@ use Rattle.cfb_format.specs.Refused.{CountsFailure}
 use Rattle.cfb_tables.specs.Listed.{ends_of, gained}
 use Rattle.cfb_tables.specs.Tables.{TableState, first_or_end}
 use Rattle.cfb_tables.proofs.ListedLemmas.{chain_ends}
-use Rattle.cfb_alloc.proofs.Answering.{all_ok, on_ok}
-use Rattle.cfb_chains.proofs.ChainLists.{ends_among}
-use Rattle.cfb_mini_table.specs.MiniTable.{TakesMini}
-use Rattle.cfb_mini_sectors.specs.State.{bytes_of, table_of}
-use Rattle.cfb_mini_sectors.proofs.MiniFrames.{spares-less}
-use Rattle.cfb_mini.proofs.WholeFiles.{same-whole}
+use Rattle.cfb_resizing.proofs.cfb_alloc.Answering.{all_ok, on_ok}
+use Rattle.cfb_resizing.proofs.cfb_chains.ChainLists.{ends_among}
+use Rattle.cfb_resizing.specs.cfb_mini_table.MiniTable.{TakesMini}
+use Rattle.cfb_resizing.specs.cfb_mini_sectors.State.{bytes_of, table_of}
+use Rattle.cfb_resizing.proofs.cfb_mini_sectors.MiniFrames.{spares-less}
+use Rattle.cfb_resizing.proofs.cfb_mini.WholeFiles.{same-whole}
 use Rattle.cfb_content.proofs.Changing.{growth-stays}
-use Rattle.cfb_content.proofs.DirCount.{minis-outside, outside-then}
-use Rattle.cfb_content.proofs.Refusals.{refused-as}
+use Rattle.cfb_content.proofs.DirCount.{minis-outside}
 use Rattle.cfb_resizing.proofs.LengthenedMinis.{minis-lengthened-mini-spare, minis-lengthened-padded, minis-lengthened-spare, minis-lengthened-tight, minis-tail-placed, tail-unwritten}
 use Rattle.cfb_resizing.proofs.Tightness.{file-around, file-mini, file-system}
 use Rattle.cfb_resizing.proofs.SnugMinis.{extended-snug, file-snug}
 use Rattle.cfb_resizing.proofs.in_place.lengthen_in_minis.Goals as goal
+use Rattle.cfb_tables.proofs.Refusals.{refused-as}
+use Rattle.cfb_resizing.proofs.cfb_mini_sectors.BothGrown.{both-outside}
 
 pub zero_in_minis-requires : goal.zero_in_minis-requires
 zero_in_minis-requires g c =
@@ -115,7 +116,7 @@ returns-clause-header g c told =
     let s = c.args.mini.now in
     let mid = c.extend_mini_listed.new.self in
     let new = c.zero_in_minis.new.mini in
-    all_ok c.zero_in_minis.result (outside-then (bytes_of s) (bytes_of mid) (bytes_of new) (c.extend_mini_listed.ensures.spares told).no_shorter (c.extend_mini_listed.ensures.header told)
+    all_ok c.zero_in_minis.result (both-outside (bytes_of s) (bytes_of mid) (bytes_of new) (c.extend_mini_listed.ensures.spares told).no_shorter (c.extend_mini_listed.ensures.header told)
     (minis-outside mid c.deref.result.now c.args.len _ (bytes_of mid) (bytes_of new) (c.zero_in_minis.ensures.others told)))
 
 pub returns-clause-around : goal.returns-clause-around

@@ -3,20 +3,20 @@ use Rattle.std.proofs.lemmas.Result.{err_from_is_err_and}
 use Rattle.cfb_tables.specs.Listed.{ends_of, gained}
 use Rattle.cfb_tables.specs.Tables.{IsTooFew, TableState, first_or_end}
 use Rattle.cfb_tables.proofs.ListedLemmas.{chain_ends}
-use Rattle.cfb_alloc.specs.Frame.{Spares, table_sectors}
+use Rattle.cfb_resizing.specs.cfb_alloc.Frame.{Spares, table_sectors}
 use Rattle.cfb_tables.specs.Changes.{AreDisjoint}
-use Rattle.cfb_alloc.proofs.Answering.{all_ok, on_ok}
-use Rattle.cfb_alloc.proofs.Frames.{spares-less}
-use Rattle.cfb_chains.proofs.ChainLists.{ends_among}
-use Rattle.cfb_chains.proofs.Sparing.{gained_spared}
-use Rattle.cfb_mini_sectors.proofs.HeldMini.{no-tables}
-use Rattle.cfb_mini.proofs.WholeFiles.{same-whole, taken-whole}
-use Rattle.cfb_content.proofs.Refusals.{refused-as}
+use Rattle.cfb_resizing.proofs.cfb_alloc.Answering.{all_ok, on_ok}
+use Rattle.cfb_resizing.proofs.cfb_alloc.Frames.{spares-less}
+use Rattle.cfb_resizing.proofs.cfb_chains.ChainLists.{ends_among}
+use Rattle.cfb_resizing.proofs.cfb_chains.Sparing.{gained_spared}
+use Rattle.cfb_resizing.proofs.cfb_mini_sectors.HeldMini.{no-tables}
+use Rattle.cfb_resizing.proofs.cfb_mini.WholeFiles.{same-whole, taken-whole}
 use Rattle.cfb_content.proofs.GrownWith.{header-left}
 use Rattle.cfb_resizing.proofs.LengthenedSectors.{lacking-is, lengthened-padded, tail-placed}
 use Rattle.std.specs.List.{IsDistinct}
 use Rattle.std.specs.Prelude.{nat_eq}
 use Rattle.cfb_resizing.proofs.in_place.lengthen_in_sectors.Goals as goal
+use Rattle.cfb_tables.proofs.Refusals.{refused-as}
 
 pub returns-in_err-extend_listed-clause-spares : goal.returns-in_err-extend_listed-clause-spares
 returns-in_err-extend_listed-clause-spares g c told =

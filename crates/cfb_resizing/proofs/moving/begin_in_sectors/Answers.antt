@@ -1,9 +1,9 @@
 use Rattle.std.proofs.Common.{List, ℕ, length, subst}
 use Rattle.cfb_sectors.specs.declared.sector.SectorInit.TheVariants.{Zero}
-use Rattle.cfb_table_words.proofs.FilledSectors.{filled_whole_each}
+use Rattle.cfb_resizing.proofs.cfb_table_words.FilledSectors.{filled_whole_each}
 use Rattle.cfb_tables.specs.Listed.{ends_of, gained}
-use Rattle.cfb_alloc.specs.Frame.{Spares}
-use Rattle.cfb_mini.proofs.WholeFiles.{taken-whole}
+use Rattle.cfb_resizing.specs.cfb_alloc.Frame.{Spares}
+use Rattle.cfb_resizing.proofs.cfb_mini.WholeFiles.{taken-whole}
 use Rattle.cfb_resizing.proofs.BegunInSectors.{begun-fits, begun-padded}
 use Rattle.cfb_resizing.proofs.moving.begin_in_sectors.Goals as goal
 

@@ -7,19 +7,18 @@ use Rattle.cfb_tables.specs.Clean.{IsUnnamed}
 use Rattle.cfb_tables.specs.Listed.{ends_of, gained}
 use Rattle.cfb_tables.specs.Tables.{TableState, TablesGiveBack, first_or_end}
 use Rattle.std.proofs.lemmas.List.Elements.{Contains-append_right}
-use Rattle.cfb_alloc.specs.Alloc.{AllocatorState, IsUsable}
-use Rattle.cfb_alloc.proofs.Frames.{spares-less}
-use Rattle.cfb_alloc.proofs.HeldOrder.{held-usable}
-use Rattle.cfb_alloc.specs.Frame.{Spares}
-use Rattle.cfb_alloc.proofs.Answering.{all_ok, on_ok}
-use Rattle.cfb_mini_table.specs.MiniTable.{TakesMini}
-use Rattle.cfb_mini_sectors.specs.State.{MiniState, bytes_of, table_of, tables_in}
-use Rattle.cfb_mini_sectors.specs.Steps.{SparesMini, system_sectors}
-use Rattle.cfb_mini_sectors.specs.Growing.{KeepsOutsideMini}
-use Rattle.cfb_mini_sectors.specs.Held.{with_table}
-use Rattle.cfb_mini.proofs.WholeFiles.{same-whole}
-use Rattle.cfb_content.proofs.DirCount.{minis-outside, outside-other, outside-then}
-use Rattle.cfb_content.proofs.Refusals.{refused-as}
+use Rattle.cfb_resizing.specs.cfb_alloc.Alloc.{AllocatorState, IsUsable}
+use Rattle.cfb_resizing.proofs.cfb_alloc.Frames.{spares-less}
+use Rattle.cfb_resizing.proofs.cfb_alloc.HeldOrder.{held-usable}
+use Rattle.cfb_resizing.specs.cfb_alloc.Frame.{Spares}
+use Rattle.cfb_resizing.proofs.cfb_alloc.Answering.{all_ok, on_ok}
+use Rattle.cfb_resizing.specs.cfb_mini_table.MiniTable.{TakesMini}
+use Rattle.cfb_resizing.specs.cfb_mini_sectors.State.{MiniState, bytes_of, table_of, tables_in}
+use Rattle.cfb_resizing.specs.cfb_mini_sectors.Steps.{SparesMini, system_sectors}
+use Rattle.cfb_resizing.specs.cfb_mini_sectors.Growing.{KeepsOutsideMini}
+use Rattle.cfb_resizing.specs.cfb_mini_sectors.Held.{with_table}
+use Rattle.cfb_resizing.proofs.cfb_mini.WholeFiles.{same-whole}
+use Rattle.cfb_content.proofs.DirCount.{minis-outside, outside-other}
 use Rattle.cfb_resizing.proofs.BegunInSectors.{no-chain}
 use Rattle.cfb_resizing.proofs.CarriedToMinis.{begun-all, broken-as-long, broken-keeps, carried-around-all, carried-minis, carried-minis-all, carried-minis-both, carried-spares-all, carried-spares-both, carried-stops, carried-tight-all, came-free, given-held, given-lent, given-room, medium-after, medium-stops, minis-placed, minis-stand}
 use Rattle.cfb_resizing.proofs.CarriedToSectors.{apart-spares-mini}
@@ -27,6 +26,8 @@ use Rattle.cfb_resizing.proofs.LengthenedMinis.{not-both}
 use Rattle.cfb_resizing.proofs.Tightness.{file-mini, file-system}
 use Rattle.cfb_resizing.proofs.SnugMinis.{extended-snug, file-snug, table-snug}
 use Rattle.cfb_resizing.proofs.moving.carry_to_minis.Goals as goal
+use Rattle.cfb_tables.proofs.Refusals.{refused-as}
+use Rattle.cfb_resizing.proofs.cfb_mini_sectors.BothGrown.{both-outside}
 
 pub put_in_minis-requires : goal.put_in_minis-requires
 put_in_minis-requires g c =
@@ -142,8 +143,8 @@ returns-clause-header g c told =
     let first = subst (λ (b : AllocatorState). (length b.file.bytes ≤ length freed.file.bytes) × KeepsOutsideMini b.file.bytes freed.file.bytes) c.allocator_mut.ensures.value
     (changes.no_shorter, outside-other lent.tables.version lent.file.bytes freed.file.bytes changes.header) in
     let grown = (c.extend_mini_listed.ensures.spares told).no_shorter in
-    let second = outside-then (bytes_of s) freed.file.bytes (bytes_of mid) first.0 first.1 (c.extend_mini_listed.ensures.header told) in
-    all_ok c.put_in_minis.result (outside-then (bytes_of s) (bytes_of mid) (bytes_of new) (omega (arith, first.0, grown)) second
+    let second = both-outside (bytes_of s) freed.file.bytes (bytes_of mid) first.0 first.1 (c.extend_mini_listed.ensures.header told) in
+    all_ok c.put_in_minis.result (both-outside (bytes_of s) (bytes_of mid) (bytes_of new) (omega (arith, first.0, grown)) second
     (minis-outside mid c.deref.result.now 0 (length c.args.bytes.now) (bytes_of mid) (bytes_of new) (c.put_in_minis.ensures.others told)))
 
 pub returns-clause-around : goal.returns-clause-around

@@ -1,18 +1,19 @@
 use Rattle.std.proofs.Common.{◌≡◌, ◌∙◌, ℕ, ap, sym, subst, length}
 use Rattle.cfb_format.specs.Refused.{CountsFailure}
 use Rattle.cfb_tables.specs.Tables.{IsTooFew, TableState}
-use Rattle.cfb_alloc.specs.Alloc.{AllocatorState, IsUsable}
-use Rattle.cfb_alloc.proofs.Answering.{all_ok, on_both, on_ok}
-use Rattle.cfb_mini_sectors.specs.Growing.{KeepsOutsideMini}
-use Rattle.cfb_mini_sectors.specs.State.{bytes_of, table_of, tables_in}
-use Rattle.cfb_mini_sectors.proofs.HeldShortened.{usable-left}
-use Rattle.cfb_mini.specs.MiniSectors.{IsWhole}
-use Rattle.cfb_mini.proofs.WholeFiles.{same-whole}
-use Rattle.cfb_content.proofs.DirCount.{outside-other, outside-then}
+use Rattle.cfb_resizing.specs.cfb_alloc.Alloc.{AllocatorState, IsUsable}
+use Rattle.cfb_resizing.proofs.cfb_alloc.Answering.{all_ok, on_both, on_ok}
+use Rattle.cfb_resizing.specs.cfb_mini_sectors.Growing.{KeepsOutsideMini}
+use Rattle.cfb_resizing.specs.cfb_mini_sectors.State.{bytes_of, table_of, tables_in}
+use Rattle.cfb_resizing.proofs.cfb_mini_sectors.HeldShortened.{usable-left}
+use Rattle.cfb_resizing.specs.cfb_mini.MiniSectors.{IsOfWholeSectors}
+use Rattle.cfb_resizing.proofs.cfb_mini.WholeFiles.{same-whole}
+use Rattle.cfb_content.proofs.DirCount.{outside-other}
 use Rattle.cfb_content.proofs.RoomGiven.{lacking-before}
 use Rattle.cfb_resizing.proofs.CarriedToSectors.{carried-apart, carried-around, carried-err, carried-held, carried-makes, carried-mini-spares, carried-padded, carried-refused, carried-spares, carried-tables, carried-tight, carried-unwritten, carried-zeros, freed-held}
 use Rattle.cfb_resizing.proofs.SnugMinis.{freed-snug, table-snug}
 use Rattle.cfb_resizing.proofs.moving.carry_to_sectors.Goals as goal
+use Rattle.cfb_resizing.proofs.cfb_mini_sectors.BothGrown.{both-outside}
 
 pub returns-clause-carried : goal.returns-clause-carried
 returns-clause-carried g c v held =
@@ -88,7 +89,7 @@ returns-clause-whole g c told v held unnamed was =
     (c.cut_mini_listed.ensures.spares told).no_shorter was in
     c.begin_in_sectors.ensures.whole told v
     (carried-tables s mid list lent c.begin_in_sectors.new.allocator c.allocator_mut.ensures.value c.cut_mini_listed.ensures.limits v held')
-    (subst IsWhole (sym c.allocator_mut.ensures.value) first)
+    (subst IsOfWholeSectors (sym c.allocator_mut.ensures.value) first)
 
 pub returns-clause-header : goal.returns-clause-header
 returns-clause-header g c told =
@@ -98,7 +99,7 @@ returns-clause-header g c told =
     let begun = c.begin_in_sectors.new.allocator in
     let second = subst (λ (b : AllocatorState). KeepsOutsideMini b.file.bytes begun.file.bytes) c.allocator_mut.ensures.value
     (outside-other lent.tables.version lent.file.bytes begun.file.bytes (c.begin_in_sectors.ensures.header told)) in
-    all_ok c.begin_in_sectors.result (outside-then (bytes_of s) (bytes_of mid) begun.file.bytes (c.cut_mini_listed.ensures.spares told).no_shorter (c.cut_mini_listed.ensures.header told) second)
+    all_ok c.begin_in_sectors.result (both-outside (bytes_of s) (bytes_of mid) begun.file.bytes (c.cut_mini_listed.ensures.spares told).no_shorter (c.cut_mini_listed.ensures.header told) second)
 
 pub returns-clause-around : goal.returns-clause-around
 returns-clause-around g c =

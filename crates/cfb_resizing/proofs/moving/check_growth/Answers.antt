@@ -1,6 +1,6 @@
 use Rattle.std.proofs.Common.{◌≡◌, ◌∙◌, ◌-◌, ◌*◌, ℕ, List, ap, refl, subst, arith, length}
 use Rattle.std.specs.Prelude.{Contains}
-use Rattle.cfb_alloc.specs.Alloc.{AllocatorState}
+use Rattle.cfb_resizing.specs.cfb_alloc.Alloc.{AllocatorState}
 use Rattle.cfb_format.specs.Bytes.{sector_len, words_per_sector}
 use Rattle.cfb_format.specs.Full.{rounded_up}
 use Rattle.cfb_resizing.proofs.MiniGrowth.{asked-as, bytes-lack-none, ends-are-apart, minifat-goes-on, stream-goes-on, words-lack-none}

@@ -3,12 +3,11 @@ use Rattle.std.proofs.lemmas.Result.{err_from_is_err_and}
 use Rattle.cfb_format.specs.Full.{rounded_up}
 use Rattle.cfb_tables.specs.Changes.{AreDisjoint}
 use Rattle.cfb_tables.specs.Tables.{first_or_end}
-use Rattle.cfb_mini_sectors.specs.State.{HoldsMini, MiniState, bytes_of, table_of, tables_in}
-use Rattle.cfb_mini_sectors.specs.Steps.{IsTooFewAfterFor, system_sectors, IsSnugMini}
-use Rattle.cfb_mini.specs.MiniSectors.{IsStill, IsWhole}
-use Rattle.cfb_mini.proofs.MiniExtended.{invalid-refused}
+use Rattle.cfb_resizing.specs.cfb_mini_sectors.State.{HoldsMini, MiniState, bytes_of, table_of, tables_in}
+use Rattle.cfb_resizing.specs.cfb_mini_sectors.Steps.{IsTooFewAfterFor, system_sectors, IsSnugMini}
+use Rattle.cfb_resizing.specs.cfb_mini.MiniSectors.{IsStill, IsOfWholeSectors}
+use Rattle.cfb_resizing.proofs.cfb_mini.MiniExtended.{invalid-refused}
 use Rattle.cfb_content.specs.Parts.{IsWholeChain}
-use Rattle.cfb_content.proofs.Refusals.{refused-as}
 use Rattle.cfb_content.proofs.StreamEntry.{stream-inside}
 use Rattle.cfb_content.proofs.WholeStreams.{not-whole}
 use Rattle.cfb_resizing.specs.Turning.{KeepsAround, StopsOrBegun, Turns}
@@ -20,6 +19,7 @@ use Rattle.cfb_resizing.proofs.MovedToMinis.{few-still, leave-apart, leave-asked
 use Rattle.cfb_resizing.proofs.MovedToSectors.{still-around, still-kept, still-stops, still-tight}
 use Rattle.cfb_resizing.proofs.TurnedInMinis.{not-held}
 use Rattle.cfb_resizing.proofs.moving.move_to_minis.Goals as goal
+use Rattle.cfb_tables.proofs.Refusals.{refused-as}
 
 pub content_in-start-requires : goal.content_in-start-requires
 content_in-start-requires g c =
@@ -260,7 +260,7 @@ returns-clause-turned g c told = record {
         let same = c.in_ok-content.ensures.same told ∙ first in
         leave-asked c.args.mini.now c.taken_from_sectors.new.mini c.carry_to_minis.new.mini c.args.entry c.args.size c.div_ceil-count.result c.content_in-start.result.0 c.content_in-start.result.1
         c.allocator.result.now c.deref-3.result.now c.requires.stream c.requires.large c.requires.small c.allocator.ensures c.content_in-start.ensures.start c.content_in-start.ensures.len
-        found wanted (λ m. IsWhole (table_of m) → IsWhole (table_of c.carry_to_minis.new.mini)) same v change (c.in_ok-carry_to_minis.ensures.whole told v) was;
+        found wanted (λ m. IsOfWholeSectors (table_of m) → IsOfWholeSectors (table_of c.carry_to_minis.new.mini)) same v change (c.in_ok-carry_to_minis.ensures.whole told v) was;
   };
 }
 

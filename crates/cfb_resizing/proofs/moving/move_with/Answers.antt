@@ -1,11 +1,10 @@
 use Rattle.std.proofs.Common.{◌∙◌, ap, sym, subst, length, arith}
 use Rattle.std.proofs.lemmas.Result.{err_from_is_err_and}
 use Rattle.cfb_tables.specs.Tables.{first_or_end}
-use Rattle.cfb_alloc.specs.Alloc.{AllocatorState}
-use Rattle.cfb_mini_sectors.specs.State.{HoldsMini, MiniState, bytes_of, table_of}
-use Rattle.cfb_mini_sectors.specs.Held.{with_table}
-use Rattle.cfb_mini.specs.MiniSectors.{IsStill, IsWhole}
-use Rattle.cfb_content.proofs.Refusals.{refused-as}
+use Rattle.cfb_resizing.specs.cfb_alloc.Alloc.{AllocatorState}
+use Rattle.cfb_resizing.specs.cfb_mini_sectors.State.{HoldsMini, MiniState, bytes_of, table_of}
+use Rattle.cfb_resizing.specs.cfb_mini_sectors.Held.{with_table}
+use Rattle.cfb_resizing.specs.cfb_mini.MiniSectors.{IsStill, IsOfWholeSectors}
 use Rattle.cfb_content.proofs.StreamEntry.{stream-inside}
 use Rattle.cfb_content.proofs.WholeStreams.{not-whole-minis}
 use Rattle.cfb_resizing.specs.Turning.{MovesWith, StopsOrBegun}
@@ -13,9 +12,10 @@ use Rattle.cfb_content.proofs.DirCount.{count-since}
 use Rattle.cfb_content.proofs.FixedHeader.{bytes-keep-header, spared-since-keeps-header}
 use Rattle.cfb_resizing.proofs.MovedToSectors.{move-asked, move-enough, move-fits, move-held, move-lacks, move-moved, move-others, move-starts, still-around, still-kept, still-stops, still-tight, whole-first, whole-last, whole-long}
 use Rattle.cfb_resizing.proofs.TurnedInSectors.{not-usable}
-use Rattle.cfb_mini_sectors.specs.Steps.{IsSnugMini}
+use Rattle.cfb_resizing.specs.cfb_mini_sectors.Steps.{IsSnugMini}
 use Rattle.cfb_content.proofs.Changed.{spares-same, spares-as}
 use Rattle.cfb_resizing.proofs.moving.move_with.Goals as goal
+use Rattle.cfb_tables.proofs.Refusals.{refused-as}
 
 pub content_in-start-requires : goal.content_in-start-requires
 content_in-start-requires g c =
@@ -189,7 +189,7 @@ returns-clause-moved g c told = rw (c.end_chain.ensures, c.allocator_mut-2.ensur
         whole =
             move-asked c.args.mini.now c.joined_from_minis.new.mini c.carry_to_sectors.new.mini c.args.entry c.args.size c.div_ceil-count.result c.content_in-start.result.0 c.content_in-start.result.1
             c.sector_len.result c.in_ok-old.old.items c.requires.stream c.requires.small c.requires.large c.content_in-start.ensures.start c.content_in-start.ensures.len c.in_ok-old.ensures.whole
-            c.sector_len.ensures c.div_ceil-count.ensures (λ m. IsWhole (table_of m) → IsWhole (table_of c.carry_to_sectors.new.mini)) same v change (c.in_ok-carry_to_sectors.ensures.whole told v);
+            c.sector_len.ensures c.div_ceil-count.ensures (λ m. IsOfWholeSectors (table_of m) → IsOfWholeSectors (table_of c.carry_to_sectors.new.mini)) same v change (c.in_ok-carry_to_sectors.ensures.whole told v);
       };
 })
 

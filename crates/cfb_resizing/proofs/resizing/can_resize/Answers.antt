@@ -2,7 +2,7 @@ use Rattle.std.proofs.Common.{◌≤◌, subst}
 use Rattle.std.specs.Prelude.{◌↔◌, IsTrue}
 use Rattle.std.proofs.lemmas.Result.{IfOk-weaker}
 use Rattle.cfb_format.specs.Bytes.{max_regular_sector}
-use Rattle.cfb_alloc.specs.Alloc.{AllocatorState}
+use Rattle.cfb_resizing.specs.cfb_alloc.Alloc.{AllocatorState}
 use Rattle.cfb_content.specs.Contents.{IsTooLongFor}
 use Rattle.cfb_content.specs.Laws.{LacksNumbersFor}
 use Rattle.cfb_content.proofs.StreamEntry.{stream-inside}

@@ -1,10 +1,10 @@
 use Rattle.std.proofs.Common.{◌≡◌, refl, length, arith}
 use Rattle.std.proofs.lemmas.Result.{err_from_is_err_and}
-use Rattle.cfb_content.proofs.Refusals.{refused-as}
 use Rattle.cfb_content.proofs.StreamEntry.{stream-inside}
 use Rattle.cfb_content.proofs.WholeStreams.{not-whole-minis}
 use Rattle.cfb_resizing.proofs.CanGrow.{entering-can, mini-can}
 use Rattle.cfb_resizing.proofs.resizing.can_turn_small.Goals as goal
+use Rattle.cfb_tables.proofs.Refusals.{refused-as}
 
 pub content_in-start-requires : goal.content_in-start-requires
 content_in-start-requires g c = record { inside = stream-inside c.args.mini.now c.args.entry c.requires.stream }

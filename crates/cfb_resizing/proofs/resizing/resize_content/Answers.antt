@@ -8,23 +8,22 @@ use Rattle.cfb_format.specs.Chain.{IsChain}
 use Rattle.cfb_format.specs.Siblings.{entry_at}
 use Rattle.cfb_tables.specs.Changes.{NoneFree}
 use Rattle.cfb_tables.specs.Tables.{TableState}
-use Rattle.cfb_alloc.specs.Alloc.{AllocatorState}
-use Rattle.cfb_alloc.proofs.Answering.{on_both}
-use Rattle.cfb_directory.specs.Growing.{ArePlaced}
-use Rattle.cfb_directory.proofs.Placed.{held_places}
-use Rattle.cfb_mini_sectors.specs.State.{HoldsMini, IsChangeable, content_of, entries_of, tables_in, table_of}
+use Rattle.cfb_resizing.specs.cfb_alloc.Alloc.{AllocatorState}
+use Rattle.cfb_resizing.proofs.cfb_alloc.Answering.{on_both}
+use Rattle.cfb_resizing.specs.cfb_directory.Growing.{ArePlaced}
+use Rattle.cfb_resizing.proofs.cfb_directory.Placed.{held_places}
+use Rattle.cfb_resizing.specs.cfb_mini_sectors.State.{HoldsMini, IsChangeable, content_of, entries_of, tables_in, table_of}
 use Rattle.cfb_content.specs.Contents.{IsNotChangeable, IsTooLongFor}
 use Rattle.cfb_content.specs.Laws.{LacksNumbersFor}
 use Rattle.cfb_content.proofs.Fullness.{enough-is-not-too-long, lack-is-too-long}
 use Rattle.cfb_content.proofs.Outlines.{moved-root-moved, stream-is-no-root, stream-stays}
 use Rattle.cfb_content.proofs.Readable.{whole-of}
-use Rattle.cfb_content.proofs.Refusals.{invalid-refused, refused-as}
 use Rattle.cfb_content.proofs.Rewritten.{resized-same}
 use Rattle.cfb_content.proofs.Sound.{all-used-kept, changed-is-changeable}
 use Rattle.cfb_content.proofs.StreamEntry.{stream-inside}
 use Rattle.cfb_content.proofs.FixedHeader.{header-then, spared-keeps-header}
 use Rattle.cfb_resizing.proofs.CarriedToMinis.{kept-after, medium-after}
-use Rattle.cfb_resizing.proofs.Named.{WasNamed, moves-then, named-changes, named-keeps-others, named-tidy, placed-stays, around-moves, limits-then}
+use Rattle.cfb_resizing.proofs.Named.{WasNamed, moves-then, named-changes, named-keeps-others, named-tidy, placed-stays, around-moves}
 use Rattle.cfb_resizing.proofs.Tightness.{turned-stays-full, same-tight}
 use Rattle.cfb_resizing.proofs.Turned.{WasTurned, always-on-ok, turned, turned-whole, all-changed, all-resized}
 use Rattle.cfb_format.specs.DirectoryEntry.{Entry}
@@ -33,6 +32,8 @@ use Rattle.cfb_content.proofs.Changed.{moves-same, spares-same, changed-same}
 use Rattle.cfb_resizing.proofs.PutBehind.{tight-then}
 use Rattle.cfb_resizing.proofs.LengthenedMinis.{not-both}
 use Rattle.cfb_resizing.proofs.resizing.resize_content.Goals as goal
+use Rattle.cfb_tables.proofs.Refusals.{refused-as}
+use Rattle.cfb_resizing.proofs.cfb_mini_changes.MiniExtended.{invalid-refused, limits-then}
 
 pub content_in-len-requires : goal.content_in-len-requires
 content_in-len-requires g c = record { inside = stream-inside c.args.mini.now c.args.entry c.requires.stream }

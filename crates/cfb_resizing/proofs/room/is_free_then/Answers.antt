@@ -3,9 +3,9 @@ use Rattle.std.specs.Prelude.{◌↔◌, IsTrue}
 use Rattle.cfb_format.specs.Bytes.{free_sector}
 use Rattle.cfb_format.specs.Chain.{value}
 use Rattle.cfb_format.specs.Full.{freed}
-use Rattle.cfb_tables.proofs.Members.{value-at}
 use Rattle.cfb_content.proofs.Freed.{free-now, searched-free}
 use Rattle.cfb_resizing.proofs.room.is_free_then.Goals as goal
+use Rattle.cfb_format.proofs.Walks.{value-at}
 
 pub returns-then-table-number : goal.returns-then-table-number
 returns-then-table-number c =

@@ -4,15 +4,15 @@ use Rattle.std.proofs.lemmas.Bool.{eqb-false, eqb-true}
 use Rattle.std.proofs.lemmas.List.{nil_from_length}
 use Rattle.std.proofs.lemmas.Result.{IfOk-weaker, err_from_is_err_and}
 use Rattle.cfb_tables.specs.Room.{IsTooFewAfter}
-use Rattle.cfb_alloc.specs.Alloc.{AllocatorState}
-use Rattle.cfb_mini_sectors.specs.State.{tables_in}
+use Rattle.cfb_resizing.specs.cfb_alloc.Alloc.{AllocatorState}
+use Rattle.cfb_resizing.specs.cfb_mini_sectors.State.{tables_in}
 use Rattle.cfb_content.specs.Contents.{mini_sectors_owned}
 use Rattle.cfb_content.specs.Room.{ComesFree, room_given}
-use Rattle.cfb_content.proofs.Refusals.{refused-as}
 use Rattle.cfb_content.proofs.StreamEntry.{stream-inside}
 use Rattle.cfb_content.proofs.WholeStreams.{not-whole-minis, owned-minis, whole-minis-as}
 use Rattle.cfb_resizing.proofs.RoomForMove.{all-counted, none-counted}
 use Rattle.cfb_resizing.proofs.room.room_for_move.Goals as goal
+use Rattle.cfb_tables.proofs.Refusals.{refused-as}
 
 pub returns-then-can_take-clause-lacks : goal.returns-then-can_take-clause-lacks
 returns-then-can_take-clause-lacks g c =

@@ -1,7 +1,7 @@
 use Rattle.std.proofs.Common.{◌≡◌, ◌<◌, ◌+◌, ◌-◌, ◌/◌, ℕ, List, refl, sym, ◌∙◌, ap, subst, arith, length, drop, length-take, length-drop, get_or-take, inl, inr}
 use Rattle.cfb_format.specs.Bytes.{sector_len}
-use Rattle.cfb_sectors.specs.Sectors.{SectorFile}
-use Rattle.cfb_tables.specs.Tables.{TableState}
+use Rattle.cfb_runs.specs.cfb_sectors.Sectors.{SectorFile}
+use Rattle.cfb_runs.specs.cfb_tables.Tables.{TableState}
 use borrow.Rule.Slice.PartMut.{put_mid}
 use Rattle.std.specs.Prelude.{slice_index}
 use Rattle.std.proofs.lemmas.Bool.{cases_lt}

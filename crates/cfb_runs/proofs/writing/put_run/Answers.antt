@@ -3,7 +3,7 @@ use Rattle.std.specs.Prelude.{MatchResult, OnOk, true}
 use Rattle.cfb_format.specs.Bytes.{sector_len}
 use Rattle.cfb_format.specs.Medium.{ChangesOnlyBytes, written}
 use Rattle.cfb_alloc.specs.Frame.{LieAmong, LieOutside, table_sectors}
-use Rattle.cfb_sectors.specs.Sectors.{sectors_end}
+use Rattle.cfb_runs.specs.cfb_sectors.Sectors.{sectors_end}
 use Rattle.cfb_runs.proofs.Runs.{placed_at, run_among, run_inside, run_outside}
 use Rattle.cfb_runs.proofs.writing.put_run.Goals as goal
 

@@ -3,9 +3,9 @@ use Rattle.std.specs.Prelude.{IsTrue, slice_index}
 use Rattle.cfb_format.specs.declared.version.Version.{Version}
 use Rattle.cfb_format.specs.Bytes.{sector_len}
 use Rattle.cfb_format.specs.Medium.{written}
-use Rattle.cfb_sectors.specs.Sectors.{SectorFile}
-use Rattle.cfb_tables.specs.Changes.{AreDisjoint}
-use Rattle.cfb_tables.specs.Tables.{TableState}
+use Rattle.cfb_runs.specs.cfb_sectors.Sectors.{SectorFile}
+use Rattle.cfb_runs.specs.cfb_tables.Changes.{AreDisjoint}
+use Rattle.cfb_runs.specs.cfb_tables.Tables.{TableState}
 use Rattle.cfb_alloc.specs.Frame.{table_sectors}
 use Rattle.cfb_alloc.proofs.Frames.{spares-then}
 use Rattle.cfb_alloc.proofs.Spared.{spares_refl}

@@ -3,8 +3,8 @@ use Rattle.std.specs.Prelude.{IsTrue, slice_index}
 use Rattle.std.specs.List.{IsDistinct}
 use Rattle.cfb_format.specs.declared.validate.Validation.{Validation}
 use Rattle.cfb_format.specs.Bytes.{sector_len}
-use Rattle.cfb_sectors.specs.Sectors.{IsRaised}
-use Rattle.cfb_tables.specs.Changes.{AreDisjoint}
+use Rattle.cfb_runs.specs.cfb_sectors.Sectors.{IsRaised}
+use Rattle.cfb_runs.specs.cfb_tables.Changes.{AreDisjoint}
 use Rattle.cfb_alloc.specs.Alloc.{HoldsTables}
 use Rattle.cfb_alloc.specs.Frame.{Spares, table_sectors}
 use Rattle.cfb_runs.specs.Along.{ChangesOnlyPlaces}

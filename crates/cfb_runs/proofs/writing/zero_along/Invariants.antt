@@ -2,8 +2,8 @@ use Rattle.std.proofs.Common.{◌-◌, ◌≡◌, ◌<◌, ◌≤◌, nat_eq}
 use Rattle.std.specs.Prelude.{IsTrue}
 use Rattle.std.specs.List.{IsDistinct}
 use Rattle.cfb_format.specs.declared.validate.Validation.{Validation}
-use Rattle.cfb_sectors.specs.Sectors.{IsRaised}
-use Rattle.cfb_tables.specs.Changes.{AreDisjoint}
+use Rattle.cfb_runs.specs.cfb_sectors.Sectors.{IsRaised}
+use Rattle.cfb_runs.specs.cfb_tables.Changes.{AreDisjoint}
 use Rattle.cfb_alloc.specs.Alloc.{HoldsTables}
 use Rattle.cfb_alloc.specs.Frame.{Spares, table_sectors}
 use Rattle.cfb_runs.specs.Along.{ChangesOnlyPlaces}

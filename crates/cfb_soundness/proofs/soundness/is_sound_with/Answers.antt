@@ -12,9 +12,9 @@ use Rattle.cfb_soundness.specs.Parts.{parts_reading, tables_and_directory}
 use Rattle.cfb_soundness.specs.Streams.{own_sectors, own_mini_sectors, StreamsFit}
 use Rattle.cfb_soundness.proofs.Decision.{known-parts, decided-sound, decided-parts}
 use Rattle.cfb_soundness.proofs.MarkLemmas.{true_false, fresh-from, holds-more}
-use Rattle.cfb_soundness.proofs.Members.{distinct-left}
 use Rattle.cfb_soundness.proofs.StreamLemmas.{some-is}
 use Rattle.cfb_soundness.proofs.soundness.is_sound_with.Goals as goal
+use Rattle.cfb_format.proofs.Members.{distinct-left}
 
 pub returns-then-not-covers-clause-exact : goal.returns-then-not-covers-clause-exact
 returns-then-not-covers-clause-exact g c = λ cases bytes r reads are. (

@@ -7,9 +7,10 @@ use Rattle.cfb_format.proofs.Chains.{chain_from-IsChain}
 use Rattle.cfb_soundness.specs.Parts.{parts_reading}
 use Rattle.cfb_soundness.proofs.MarkLemmas.{fresh-none}
 use Rattle.cfb_soundness.proofs.StreamLemmas.{entry-there}
-use Rattle.cfb_soundness.proofs.TableLemmas.{IfOk-map, IfSome-map, IfNone-map, root-chain}
+use Rattle.cfb_soundness.proofs.TableLemmas.{IfSome-map, IfNone-map, root-chain}
 use Rattle.cfb_soundness.proofs.soundness.mark_mini_stream.Goals as goal
 use Rattle.cfb_soundness.proofs.soundness.mark_mini_stream.Goals.{else-root-eq0-via-then-root-eq0+else-root-gt-MAX_REGULAR_SECTOR, else-root-eq0-via-else-root-eq0}
+use Rattle.cfb_codecs.proofs.Refusals.{ok_follows}
 
 pub returns-then-root-gt-MAX_REGULAR_SECTOR-clause-fresh : goal.returns-then-root-gt-MAX_REGULAR_SECTOR-clause-fresh
 returns-then-root-gt-MAX_REGULAR_SECTOR-clause-fresh g c = rw c.new.ensures.items (fresh-none c.args.marks.now)
@@ -24,7 +25,7 @@ returns-clause-chain g c =
       | else-root-eq0-via-then-root-eq0+else-root-gt-MAX_REGULAR_SECTOR w ↦ inr w.if-root-gt-MAX_REGULAR_SECTOR.false
       | else-root-eq0-via-else-root-eq0 w ↦ inl w.if-root-eq0.false
     ]) in
-    IfOk-map c.walk_marking.result _ _
+    ok_follows c.walk_marking.result _ _
     (λ found. IfSome-map found _ _ (λ root chain. there ∙ (chain_from-IsChain r.fat e.start_sector root.items).1 chain))
     c.walk_marking.ensures.chain
 
@@ -38,7 +39,7 @@ returns-clause-none g c =
       | else-root-eq0-via-then-root-eq0+else-root-gt-MAX_REGULAR_SECTOR w ↦ inr w.if-root-gt-MAX_REGULAR_SECTOR.false
       | else-root-eq0-via-else-root-eq0 w ↦ inl w.if-root-eq0.false
     ]) in
-    IfOk-map c.walk_marking.result _ _
+    ok_follows c.walk_marking.result _ _
     (λ found. IfNone-map found _ _
     (λ none _some root is fresh. none root ((chain_from-IsChain r.fat e.start_sector root).0 (sym there ∙ is)) fresh))
     c.walk_marking.ensures.none

@@ -7,8 +7,8 @@ use Rattle.cfb_soundness.specs.Marks.{Marked}
 use Rattle.cfb_soundness.specs.Parts.{parts_reading}
 use Rattle.cfb_soundness.proofs.MarkLemmas.{marked-none}
 use Rattle.cfb_soundness.proofs.StreamLemmas.{large-none, large-fits, large-own, large-mini, small-sectors, empty-mini, empty-fits, small-own, small-fits, small-none}
-use Rattle.cfb_soundness.proofs.Walks.{follows-member}
 use Rattle.cfb_soundness.proofs.streams.mark_stream.Goals as goal
+use Rattle.cfb_format.proofs.Walks.{follows-member}
 
 -- one test after another
 through : (A B C : Type 0) → A ↔ B → B ↔ C → A ↔ C

@@ -12,8 +12,8 @@ use Rattle.cfb_table_words.proofs.HeldLemmas.{header_long, listed_fill, filled_d
 use Rattle.cfb_table_words.proofs.DifatLemmas.{listing_stays}
 use Rattle.cfb_table_words.proofs.DifatLinked.{difat_sector_linked}
 use Rattle.cfb_table_words.proofs.DifatWords.{fresh_difat_words}
-use Rattle.cfb_tables.proofs.Members.{Contains-one}
 use Rattle.cfb_table_words.proofs.writing.add_difat_sector.Goals as goal
+use Rattle.cfb_format.proofs.Members.{Contains-one}
 
 pub returns-in_err-fill_sector-clause-changes : goal.returns-in_err-fill_sector-clause-changes
 returns-in_err-fill_sector-clause-changes g c told =

@@ -5,15 +5,14 @@ use Rattle.std.proofs.lemmas.List.Elements.{Contains-get_or}
 use Rattle.cfb_format.specs.declared.version.Version.{Version}
 use Rattle.cfb_format.specs.Bytes.{is_whole_sector}
 use Rattle.cfb_sectors.specs.declared.sector.SectorInit.TheVariants.{Fat}
-use Rattle.cfb_table_words.specs.Holding.{ChangesSectors, IsFilled}
+use Rattle.cfb_table_words.specs.Holding.{ChangesSectors, IsAsFilled}
 use Rattle.cfb_table_words.specs.Difat.{ListsTables}
 use Rattle.cfb_sectors.specs.Sectors.{SectorFile}
 use Rattle.cfb_table_words.proofs.FrameLemmas.{changes_more, changes_trans}
 use Rattle.cfb_table_words.proofs.HeldLemmas.{in_taken, listed_fill, filled_whole, stays_filled, header_long}
 use Rattle.cfb_table_words.proofs.DifatLemmas.{listing_stays}
-use Rattle.cfb_table_words.proofs.Listed.{in_rest}
-use Rattle.cfb_tables.proofs.Members.{Contains-one}
 use Rattle.cfb_table_words.proofs.writing.add_fat_sector.Goals as goal
+use Rattle.cfb_format.proofs.Members.{Contains-there, Contains-one}
 
 first : (x : ℕ) (own : List ℕ) (v : Version) (a b : List ℕ) → ChangesSectors (x ∷ []) v a b → ChangesSectors (x ∷ own) v a b
 first x own v a b change = changes_more (x ∷ []) (x ∷ own) v a b (λ i m. (0, omega arith, Contains-one x i m)) change
@@ -21,7 +20,7 @@ first x own v a b change = changes_more (x ∷ []) (x ∷ own) v a b (λ i m. (0
 then_own : (x : ℕ) (own some : List ℕ) (v w : Version) (a b c : List ℕ) → w ≡ v → ((i : ℕ) → Contains some i → Contains own i)
     → ChangesSectors (x ∷ own) v a b → ChangesSectors some w b c → ChangesSectors (x ∷ own) v a c
 then_own x own some v w a b c same within before after =
-    changes_trans (x ∷ own) v a b c before (changes_more some (x ∷ own) v b c (λ i m. in_rest x own i (within i m)) (subst (λ (u : Version). ChangesSectors some u b c) same after))
+    changes_trans (x ∷ own) v a b c before (changes_more some (x ∷ own) v b c (λ i m. Contains-there x own i (within i m)) (subst (λ (u : Version). ChangesSectors some u b c) same after))
 
 pub returns-in_err-fill_sector-clause-changes : goal.returns-in_err-fill_sector-clause-changes
 returns-in_err-fill_sector-clause-changes g c told =
@@ -92,9 +91,9 @@ returns-clause-listed g c told validation l measured once apart =
     let same = ap (λ (f : SectorFile). f.version) c.fill_sector.ensures.kept in
     let same' = ap (λ (f : SectorFile). f.version) c.grow_difat.ensures.kept ∙ same in
     let n = c.in_ok-listed.listed in
-    let full_one : IsFilled v Fat filled.bytes x = c.in_ok-fill_sector.ensures.filled told in
+    let full_one : IsAsFilled v Fat filled.bytes x = c.in_ok-fill_sector.ensures.filled told in
     let grow = subst (λ (u : Version). ChangesSectors own u filled.bytes grown.bytes) same (c.grow_difat.ensures.changes told) in
-    let full_two : IsFilled v Fat grown.bytes x = stays_filled v Fat x filled.bytes grown.bytes (grow.sectors x (λ m. apart x mine m)) full_one in
+    let full_two : IsAsFilled v Fat grown.bytes x = stays_filled v Fat x filled.bytes grown.bytes (grow.sectors x (λ m. apart x mine m)) full_one in
     let s = c.num_sectors-fact.ensures in
     let long : 512 ≤ length old.bytes = let h = header_long v old.len s.header in omega (arith, h, measured) in
     let before = take c.args.index list in
@@ -126,8 +125,8 @@ returns-clause-filled g c told apart =
     let same = ap (λ (f : SectorFile). f.version) c.fill_sector.ensures.kept in
     let same' = ap (λ (f : SectorFile). f.version) c.grow_difat.ensures.kept ∙ same in
     let n = c.in_ok-listed.listed in
-    let full_one : IsFilled v Fat filled.bytes x = c.in_ok-fill_sector.ensures.filled told in
+    let full_one : IsAsFilled v Fat filled.bytes x = c.in_ok-fill_sector.ensures.filled told in
     let grow = subst (λ (u : Version). ChangesSectors own u filled.bytes grown.bytes) same (c.grow_difat.ensures.changes told) in
-    let full_two : IsFilled v Fat grown.bytes x = stays_filled v Fat x filled.bytes grown.bytes (grow.sectors x (λ m. apart x mine m)) full_one in
+    let full_two : IsAsFilled v Fat grown.bytes x = stays_filled v Fat x filled.bytes grown.bytes (grow.sectors x (λ m. apart x mine m)) full_one in
     let list_one = subst (λ (u : Version). ChangesSectors (take n own) u grown.bytes new.bytes) same' (c.list_fat_sector.ensures.changes told) in
     stays_filled v Fat x grown.bytes new.bytes (list_one.sectors x (λ m. apart x mine (in_taken own n x m))) full_two

@@ -1,9 +1,10 @@
 use Rattle.std.proofs.Common.{arith, ap}
 use Rattle.cfb_sectors.specs.Sectors.{SectorFile}
 use Rattle.cfb_table_words.proofs.Answering.{on_ok}
-use Rattle.cfb_table_words.proofs.HeldLemmas.{filled_sector, measured_init, sector_past_header}
+use Rattle.cfb_table_words.proofs.HeldLemmas.{filled_sector, measured_init}
 use Rattle.cfb_sectors.proofs.SectorLemmas.{Stays_apart}
 use Rattle.cfb_table_words.proofs.writing.fill_sector.Goals as goal
+use Rattle.cfb_table_words.proofs.DifatLemmas.{past_header}
 
 pub returns-clause-measured : goal.returns-clause-measured
 returns-clause-measured g c told measured = on_ok _ _ c.init_sector.result
@@ -18,5 +19,5 @@ returns-clause-filled g c told = on_ok _ _ c.init_sector.result
 
 pub returns-clause-front : goal.returns-clause-front
 returns-clause-front g c told =
-    let past = sector_past_header c.args.sectors.now.version c.args.number in
+    let past = past_header c.args.sectors.now.version c.args.number in
     Stays_apart _ _ 0 512 c.args.sectors.now.bytes c.init_sector.new.self.bytes (c.init_sector.ensures.others told) (λ low. absurd (omega (arith, past, low)))

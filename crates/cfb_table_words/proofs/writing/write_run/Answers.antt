@@ -7,9 +7,10 @@ use Rattle.cfb_table_words.specs.Agreement.{word_home}
 use Rattle.cfb_table_words.proofs.Answering.{on_both}
 use Rattle.cfb_table_words.proofs.DifatLemmas.{listing_stays}
 use Rattle.cfb_table_words.proofs.HeldLemmas.{header_long}
-use Rattle.cfb_table_words.proofs.RunWords.{counting, held_words, length-word_bytes}
+use Rattle.cfb_table_words.proofs.RunWords.{counting, held_words}
 use Rattle.cfb_table_words.proofs.Stretches.{held_more, late_counted}
 use Rattle.cfb_table_words.proofs.writing.write_run.Goals as goal
+use Rattle.cfb_table_words.proofs.DifatWords.{length-word_bytes}
 
 pub write_words_in-requires-clause-below : goal.write_words_in-requires-clause-below
 write_words_in-requires-clause-below g c i m =

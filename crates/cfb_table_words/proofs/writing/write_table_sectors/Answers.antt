@@ -9,14 +9,15 @@ use Rattle.cfb_format.specs.Bytes.{words_per_sector}
 use Rattle.cfb_format.specs.Full.{rounded_up}
 use Rattle.cfb_format.specs.Header.{header_difat_len}
 use Rattle.cfb_sectors.specs.declared.sector.SectorInit.TheVariants.{Fat}
-use Rattle.cfb_table_words.specs.Holding.{ChangesSectors, IsFilled}
+use Rattle.cfb_table_words.specs.Holding.{ChangesSectors, IsAsFilled}
 use Rattle.cfb_table_words.specs.Difat.{ListsTables, difat_places}
 use Rattle.cfb_sectors.specs.Sectors.{SectorFile}
 use Rattle.cfb_table_words.proofs.FrameLemmas.{changes_refl, changes_more, changes_trans}
 use Rattle.cfb_table_words.proofs.HeldLemmas.{keeps_begun, keeps_next, stays_filled}
-use Rattle.cfb_table_words.proofs.Listed.{in_cons, place_once}
+use Rattle.cfb_table_words.proofs.Listed.{place_once}
 use Rattle.cfb_tables.proofs.TableCounts.{difats-suffice}
 use Rattle.cfb_table_words.proofs.writing.write_table_sectors.Goals as goal
+use Rattle.cfb_format.proofs.Members.{Contains-cases}
 
 pub loop-index-init : goal.loop-index-init
 loop-index-init g c = record {
@@ -55,7 +56,7 @@ change : (list own : List ℕ) (from k : ℕ) (v w : Version) (a b c : List ℕ)
 change list own from k v w a b c le lt same first second =
     changes_trans (drop from list ++ own) v a b c first
     (changes_more (get_or list k 0 ∷ own) (drop from list ++ own) v b c
-    (λ i m. elim (in_cons (get_or list k 0) own i m) [
+    (λ i m. elim (Contains-cases (get_or list k 0) own i m) [
       | inl e ↦ Contains-append_left (drop from list) own i (subst (Contains (drop from list)) e (in_drop list from k le lt))
       | inr r ↦ Contains-append_right (drop from list) own i r
     ])
@@ -105,15 +106,15 @@ loop-index-preserved g c =
           subst (λ (u : Version). ListsTables validation u new.bytes (take (l.index + 1) list) (take n own)) same
           (c.in_ok-listed.ensures.listed told validation here (l.invariant.measured told measured) once apart);
       filled = λ told once apart k from below. elim (cases_eq k l.index) [
-        | inl e ↦ subst (λ i. IsFilled v Fat new.bytes (get_or list i 0)) (sym e)
-            (subst (λ (u : Version). IsFilled u Fat new.bytes (get_or list l.index 0)) same (c.in_ok-listed.ensures.filled told apart))
+        | inl e ↦ subst (λ i. IsAsFilled v Fat new.bytes (get_or list i 0)) (sym e)
+            (subst (λ (u : Version). IsAsFilled u Fat new.bytes (get_or list l.index 0)) same (c.in_ok-listed.ensures.filled told apart))
         | inr ne ↦
             let low : k < l.index = omega (arith, below, ne) in
             let lt : k < length list = let t = c.loop-index-test.true in omega (arith, low, t) in
             let mine : Contains list (get_or list k 0) = Contains-get_or list k 0 lt in
             let step = subst (λ (u : Version). ChangesSectors (get_or list l.index 0 ∷ own) u l.sectors.bytes new.bytes) same (c.add_fat_sector.ensures.changes told) in
             stays_filled v Fat (get_or list k 0) l.sectors.bytes new.bytes
-            (step.sectors (get_or list k 0) (λ m. elim (in_cons (get_or list l.index 0) own (get_or list k 0) m) [
+            (step.sectors (get_or list k 0) (λ m. elim (Contains-cases (get_or list l.index 0) own (get_or list k 0) m) [
               | inl e ↦ ne (place_once list once k l.index lt c.loop-index-test.true (sym e))
               | inr r ↦ apart (get_or list k 0) mine r
             ]))

@@ -7,7 +7,7 @@ use Rattle.cfb_format.specs.Full.{rounded_up}
 use Rattle.cfb_format.specs.Header.{header_difat_len}
 use Rattle.cfb_sectors.specs.declared.sector.SectorInit.TheVariants.{Fat}
 use Rattle.cfb_sectors.specs.Sectors.{IsRaised}
-use Rattle.cfb_table_words.specs.Holding.{IsMeasured, IsFilled, ChangesSectors}
+use Rattle.cfb_table_words.specs.Holding.{IsMeasured, IsAsFilled, ChangesSectors}
 use Rattle.cfb_tables.specs.Changes.{AreDisjoint}
 use Rattle.cfb_table_words.specs.Difat.{ListsTables}
 use Rattle.cfb_table_words.proofs.writing.write_table_sectors.Given as goal
@@ -23,7 +23,7 @@ invariant-loop-index g l = record {
       → IsMeasured l.initial.sectors → IsDistinct nat_eq l.difat_sectors → AreDisjoint l.fat_sectors l.difat_sectors
       → ListsTables validation l.initial.sectors.version l.sectors.bytes (take l.index l.fat_sectors) (take l.listed l.difat_sectors);
   filled : IsTrue g.F.ReadMedium.tells → IsDistinct nat_eq l.fat_sectors → AreDisjoint l.fat_sectors l.difat_sectors
-      → (k : ℕ) → l.fats ≤ k → k < l.index → IsFilled l.initial.sectors.version Fat l.sectors.bytes (slice_index l.fat_sectors k);
+      → (k : ℕ) → l.fats ≤ k → k < l.index → IsAsFilled l.initial.sectors.version Fat l.sectors.bytes (slice_index l.fat_sectors k);
   measured : IsTrue g.F.ReadMedium.tells → IsMeasured l.initial.sectors → IsMeasured l.sectors;
   changes : IsTrue g.F.ReadMedium.tells → ChangesSectors (drop l.fats l.fat_sectors ++ l.difat_sectors) l.initial.sectors.version l.initial.sectors.bytes l.sectors.bytes;
   calm : IsTrue g.F.ReadMedium.tells → l.sectors.failures ≡ l.initial.sectors.failures;

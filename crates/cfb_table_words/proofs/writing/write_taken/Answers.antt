@@ -7,7 +7,7 @@ use Rattle.cfb_format.specs.Bytes.{sector_start}
 use Rattle.std.proofs.Math.Seq.{take-append_seam}
 use Rattle.cfb_sectors.specs.declared.sector.SectorInit.TheVariants.{Fat}
 use Rattle.cfb_table_words.specs.Along.{AreFilledFrom}
-use Rattle.cfb_table_words.specs.Holding.{ChangesSectors, HoldsBut, IsFilled}
+use Rattle.cfb_table_words.specs.Holding.{ChangesSectors, HoldsBut, IsAsFilled}
 use Rattle.cfb_tables.specs.Changes.{AreDisjoint}
 use Rattle.cfb_table_words.specs.Difat.{ListsTables}
 use Rattle.cfb_sectors.specs.Sectors.{SectorFile}
@@ -144,8 +144,8 @@ returns-clause-holds g c told validation old taken clean fats difats h =
     let mid : HoldsBut validation (drop c.args.before.difats t.difat_sectors ++ (drop c.args.before.fats t.fat_sectors ++ (more ++ (touched ++ [])))) s2 t =
     grown_holds validation old t touched more taken s0 s2 _ (late_covers validation old t touched more taken s0 h c.args.before.fats c.args.before.difats fats difats)
     h long change.no_shorter measured end listed' clean
-    (λ k from lt. subst (λ (u : Version). IsFilled u Fat s2.bytes (slice_index t.fat_sectors k)) first
-    (subst (λ (xs : List ℕ). IsFilled s0.version Fat s2.bytes (slice_index xs k)) e1
+    (λ k from lt. subst (λ (u : Version). IsAsFilled u Fat s2.bytes (slice_index t.fat_sectors k)) first
+    (subst (λ (xs : List ℕ). IsAsFilled s0.version Fat s2.bytes (slice_index xs k)) e1
     (full k (omega (arith, from, fats)) (subst (λ (xs : List ℕ). k < length xs) (sym e1) lt))))
     (filled_whole_each v c.args.init c.args.from.now s2.bytes more
     (subst (λ (u : Version). AreFilledFrom u c.args.init c.args.from.now s2.bytes more) first (c.in_ok-add_sectors.ensures.filled told taken.once)))

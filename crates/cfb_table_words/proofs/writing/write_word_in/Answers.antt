@@ -8,8 +8,8 @@ use Rattle.cfb_sectors.specs.Sectors.{SectorFile}
 use Rattle.cfb_table_words.proofs.FrameLemmas.{changes_in_sector, changes_more}
 use Rattle.cfb_table_words.proofs.Answering.{on_ok}
 use Rattle.cfb_table_words.proofs.HeldLemmas.{measured_word}
-use Rattle.cfb_tables.proofs.Members.{Contains-one}
 use Rattle.cfb_table_words.proofs.writing.write_word_in.Goals as goal
+use Rattle.cfb_format.proofs.Members.{Contains-one}
 
 fits : (v : Version) (index : ℕ) → index < words_per_sector v → 4 * index + 4 ≤ sector_len v
 fits V3 index lt = omega (arith, lt)

@@ -3,8 +3,8 @@ use Rattle.std.specs.Prelude.{Contains}
 use Rattle.std.proofs.lemmas.List.Elements.{Contains-get_or}
 use Rattle.cfb_table_words.proofs.FrameLemmas.{changes_in_sector, changes_more}
 use Rattle.cfb_table_words.proofs.RunWords.{inside_sectors}
-use Rattle.cfb_tables.proofs.Members.{Contains-one}
 use Rattle.cfb_table_words.proofs.writing.write_words_in.Goals as goal
+use Rattle.cfb_format.proofs.Members.{Contains-one}
 
 pub returns-clause-kept : goal.returns-clause-kept
 returns-clause-kept g c =

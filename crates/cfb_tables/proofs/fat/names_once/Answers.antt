@@ -1,9 +1,9 @@
 use Rattle.std.proofs.Common.{◌≡◌, ◌<◌, length, get_or, true, false, refl, sym, ◌∙◌, arith}
 use Rattle.std.proofs.lemmas.List.{get_or_default}
-use Rattle.cfb_tables.proofs.ChainLemmas.{le-regular}
 use Rattle.cfb_tables.proofs.FatLemmas.{named-none, named-skip, named-more, named-twice, no-pointer}
 use Rattle.cfb_tables.proofs.fat.names_once.Goals as goal
 use Rattle.cfb_tables.proofs.fat.names_once.Goals.{then-sector-le-MAX_REGULAR_SECTOR+else-index, else-sector-le-MAX_REGULAR_SECTOR}
+use Rattle.cfb_format.proofs.Walks.{le-regular}
 
 pub loop-sector-init : goal.loop-sector-init
 loop-sector-init g c = named-none c.args.fat.now c.in_ok-named.named.items (c.in_ok-named.ensures.items_if_clones_equal (λ y e. e))

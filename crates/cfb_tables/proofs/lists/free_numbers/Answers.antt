@@ -2,10 +2,10 @@ use Rattle.std.proofs.Common.{◌≡◌, ◌≢◌, ℕ, length, sym, ◌∙◌,
 use Rattle.cfb_format.specs.Bytes.{free_sector}
 use Rattle.cfb_format.specs.Chain.{value}
 use Rattle.cfb_tables.specs.Changes.{ListsFree}
-use Rattle.cfb_tables.proofs.Members.{value-at}
 use Rattle.cfb_tables.proofs.FreeLemmas.{lists-none, lists-more, lists-skip}
 use Rattle.cfb_tables.proofs.lists.free_numbers.Goals as goal
 use Rattle.cfb_tables.proofs.lists.free_numbers.Goals.{then-fat-number, else-fat-number}
+use Rattle.cfb_format.proofs.Walks.{value-at}
 
 pub loop-number-init : goal.loop-number-init
 loop-number-init g c = record {

@@ -1,9 +1,10 @@
 use Rattle.std.proofs.Common.{[], ◌∷◌, ◌++◌, inl, inr, arith, length-append}
 use Rattle.cfb_tables.specs.Refused.{NoLast}
-use Rattle.cfb_tables.proofs.WalkLemmas.{walked-step, walked-end, walked-past, walked-long, no_members}
+use Rattle.cfb_tables.proofs.WalkLemmas.{walked-long, no_members}
 use Rattle.cfb_tables.proofs.RefusedLemmas.{refused-invalid}
 use Rattle.cfb_tables.proofs.walk.last_of.Goals as goal
 use Rattle.cfb_tables.proofs.walk.last_of.Goals.{then-last-gt-MAX_REGULAR_SECTOR-via-then-last-gt-MAX_REGULAR_SECTOR, then-last-gt-MAX_REGULAR_SECTOR-via-else-last-gt-MAX_REGULAR_SECTOR+then-last-table}
+use Rattle.cfb_format.proofs.Walks.{walked-step, walked-end, walked-past}
 
 pub returns-then-start-eq-END_OF_CHAIN-clause-err : goal.returns-then-start-eq-END_OF_CHAIN-clause-err
 returns-then-start-eq-END_OF_CHAIN-clause-err c =

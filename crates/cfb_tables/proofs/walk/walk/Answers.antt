@@ -1,9 +1,10 @@
 use Rattle.std.proofs.Common.{inl, inr, arith}
 use Rattle.cfb_tables.specs.Changes.{NoChain}
-use Rattle.cfb_tables.proofs.WalkLemmas.{walked-step, walked-end, walked-past, walked-long}
+use Rattle.cfb_tables.proofs.WalkLemmas.{walked-long}
 use Rattle.cfb_tables.proofs.RefusedLemmas.{refused-invalid}
 use Rattle.cfb_tables.proofs.walk.walk.Goals as goal
 use Rattle.cfb_tables.proofs.walk.walk.Goals.{then-sector-gt-MAX_REGULAR_SECTOR-via-then-sector-gt-MAX_REGULAR_SECTOR, then-sector-gt-MAX_REGULAR_SECTOR-via-else-sector-gt-MAX_REGULAR_SECTOR+then-sector-table, then-sector-gt-MAX_REGULAR_SECTOR-via-else-sector-gt-MAX_REGULAR_SECTOR+else-sector-table+then-len-table}
+use Rattle.cfb_format.proofs.Walks.{walked-step, walked-end, walked-past}
 
 pub returns-then-sector-gt-MAX_REGULAR_SECTOR-clause-err : goal.returns-then-sector-gt-MAX_REGULAR_SECTOR-clause-err
 returns-then-sector-gt-MAX_REGULAR_SECTOR-clause-err g c =

@@ -1,6 +1,6 @@
 use Rattle.std.proofs.Common.{◌-◌, ◌≤◌, length, vec_len}
-use Rattle.cfb_tables.proofs.WalkLemmas.{Walked}
 use Rattle.cfb_tables.proofs.walk.walk.Given as goal
+use Rattle.cfb_format.proofs.Walks.{Walked}
 
 abbrev pub invariant-loop-sector : goal.invariant-loop-sector
 invariant-loop-sector g l = record {

@@ -1,9 +1,9 @@
 use Rattle.std.proofs.Common.{sym, subst, refl, ℕ, List}
 use Rattle.cfb_format.specs.Chain.{IsChain}
 use Rattle.cfb_tables.specs.Tables.{first_or_end}
-use Rattle.cfb_tables.proofs.ChainLemmas.{chain_of}
 use Rattle.cfb_alloc.proofs.ListedLemmas.{can_shorten}
 use Rattle.cfb_tables_bench.proofs.listed.turned.Goals as goal
+use Rattle.cfb_format.proofs.Walks.{chain_of}
 
 pub cut_listed-requires : goal.cut_listed-requires
 cut_listed-requires g c =

@@ -1,17 +1,18 @@
 use Rattle.std.proofs.Common.{◌≡◌, ◌∙◌, List, ℕ, ap, chars, inl, inr, refl, rules, subst, sym}
-use Rattle.std.specs.Prelude.{IsTrue}
+use Rattle.std.specs.Prelude.{IsTrue, Ok}
 use Rattle.std.proofs.lemmas.Result.{err_from_is_err_and}
 use Rattle.cfb_rules.specs.StreamCalls.{got, not_done, read_to_end}
-use Rattle.cfb_agreement.specs.Files.{FileState}
-use Rattle.cfb_compound_file.specs.ReadStreams.{open_of}
-use Rattle.cfb_compound_file.specs.Stored.{kept_of}
-use Rattle.cfb_compound_file.specs.StreamAnswers.{StreamRunsBy, causes_of_reading}
+use Rattle.cfb_format.specs.Refused.{CountsError}
+use Rattle.cfb_tool.specs.cfb_agreement.Files.{FileState, failures_of}
+use Rattle.cfb_tool.specs.cfb_compound_file.ReadStreams.{open_of}
+use Rattle.cfb_tool.specs.cfb_compound_file.Stored.{kept_of}
+use Rattle.cfb_tool.specs.cfb_compound_file.StreamAnswers.{StreamRunsBy, causes_of_reading}
 use Rattle.cfb_commands.specs.Commands.{refusal_of}
 use Rattle.cfb_commands.proofs.Errors.{known}
 use Rattle.cfb_commands.proofs.Openings.{at_error, same_file}
 use Rattle.cfb_commands.proofs.Quiet.{from_none}
-use Rattle.cfb_tool.specs.Content.{HoldsStream, IsNotRead, IsOnlyRead}
-use Rattle.cfb_tool.proofs.WholeReads.{closes_calm, holds_read, not_read}
+use Rattle.cfb_tool.specs.Content.{CountsReading, HoldsStream, IsNotRead, IsOnlyRead}
+use Rattle.cfb_tool.proofs.WholeReads.{closes_calm, holds_read, not_read, opening_counts}
 use Rattle.cfb_tool.proofs.content.content_at.Goals as goal
 
 pub returns-in_err-stream-clause-refused : goal.returns-in_err-stream-clause-refused
@@ -73,3 +74,35 @@ returns-clause-kept g c =
     same_file (λ (file : FileState). IsTrue g.F.ReadMedium.tells → IsOnlyRead c.args.file.now file) _ c.close-closed.new.self.0
     (search (c.in_ok-stream.ensures.lent, c.read_to_end-read.ensures.same_file, rules))
     (λ told. record { kept = ap kept_of c.close-closed.ensures.same ∙ c.read_to_end-read.ensures.kept told ∙ ap kept_of c.in_ok-stream.ensures.opened.file })
+
+pub returns-in_err-stream-clause-counts : goal.returns-in_err-stream-clause-counts
+returns-in_err-stream-clause-counts g c =
+    let p = err_from_is_err_and c.from_residual.result c.from_residual.ensures.1 in
+    let e = c.in_err-stream.field-0.0 in
+    let h = at_error _ c.open_read_stream.result e c.in_err-stream.was c.open_read_stream.follows.holds-at-none in
+    rw (p.1, p.2) (λ told. record { counts = opening_counts g.F.ReadMedium.read_faults c.args.file.now _ h.0 e c.in_err-stream.ensures.kinds })
+
+pub returns-in_err-read-clause-counts : goal.returns-in_err-read-clause-counts
+returns-in_err-read-clause-counts g c =
+    let p = err_from_is_err_and c.from_residual-in_err-read.result c.from_residual-in_err-read.ensures.1 in
+    let old = c.args.file.now in
+    let next = open_of c.read_to_end-read.new.self in
+    let e = c.in_err-read.field-0.0 in
+    same_file (λ (file : FileState). IsTrue g.F.ReadMedium.tells → CountsReading g.F.ReadMedium.read_faults c.from_residual-in_err-read.result old file) _ c.close-closed.new.self.0
+    (search (c.in_ok-stream.ensures.lent, c.read_to_end-read.ensures.same_file, rules))
+    (λ told. rw (p.1, p.2) (record {
+      counts = subst (λ (file : FileState). CountsError g.F.ReadMedium.read_faults (failures_of old) (failures_of file) e) (sym c.close-closed.ensures.same)
+          (subst (λ (file : FileState). CountsError g.F.ReadMedium.read_faults (failures_of file) (failures_of next.file) e) c.in_ok-stream.ensures.opened.file (c.in_err-read.ensures.counts told));
+    }))
+
+pub returns-in_err-closed-clause-counts : goal.returns-in_err-closed-clause-counts
+returns-in_err-closed-clause-counts g c =
+    let s = open_of c.in_ok-stream.stream in
+    let next = open_of c.read_to_end-read.new.self in
+    λ told. absurd (closes_calm s next _ _ _ (c.in_ok-read.ensures.runs told) c.close-closed.result c.in_err-closed.field-0.0 c.in_err-closed.was _ c.close-closed.ensures.closes)
+
+pub returns-clause-counts : goal.returns-clause-counts
+returns-clause-counts g c =
+    same_file (λ (file : FileState). IsTrue g.F.ReadMedium.tells → CountsReading g.F.ReadMedium.read_faults (Ok c.read_to_end-read.new.into) c.args.file.now file) _ c.close-closed.new.self.0
+    (search (c.in_ok-stream.ensures.lent, c.read_to_end-read.ensures.same_file, rules))
+    (λ told. record { counts = ap failures_of c.close-closed.ensures.same ∙ c.in_ok-read.ensures.counts told ∙ ap failures_of c.in_ok-stream.ensures.opened.file })

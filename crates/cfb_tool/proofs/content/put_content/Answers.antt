@@ -1,9 +1,10 @@
 use Rattle.std.proofs.Common.{◌≡◌, ap, chars, refl, rules, sym, true}
 use Rattle.std.specs.Prelude.{◌||◌, IsTrue, Ok, OnOk, Some}
 use Rattle.std.proofs.lemmas.Result.{err_from_is_err_and}
-use Rattle.cfb_agreement.specs.Files.{FileState}
-use Rattle.cfb_compound_file.specs.Streams.{open_of}
+use Rattle.cfb_tool.specs.cfb_agreement.Files.{FileState, failures_of}
+use Rattle.cfb_tool.specs.cfb_compound_file.Streams.{open_of}
 use Rattle.cfb_commands.specs.Commands.{closing_of, refusal_of}
+use Rattle.cfb_commands.proofs.Faults.{all_counted, counted}
 use Rattle.cfb_commands.proofs.Openings.{at_error, creates_not, creates_ok, same_file}
 use Rattle.cfb_commands.proofs.Working.{closed_of}
 use Rattle.cfb_tool.specs.Content.{HoldsStream, IsPut}
@@ -74,3 +75,18 @@ returns-clause-holds g c =
     (creates_ok _ old at (λ z. open_of z) _ true (Ok c.in_ok-stream.stream) told c.in_ok-stream.ensures.created) (c.write_all-written.ensures.works told)
     (closed_of _ s.file now c.close-closed.result new (closed.closes told) (closed.refused told) (closed.tree told s.file) (closed.changes told) (closed.rest told) closed.calm (closed.foreseen told) (closed.counts told))
     (ap (λ r. first_of (closing_of r) (closing_of c.close-closed.result)) (sym c.in_ok-written.was))))
+
+pub returns-in_err-stream-clause-given : goal.returns-in_err-stream-clause-given
+returns-in_err-stream-clause-given g c =
+    let p = err_from_is_err_and c.from_residual.result c.from_residual.ensures.1 in
+    let e = c.in_err-stream.field-0.0 in
+    let h = at_error _ c.create_stream.result e c.in_err-stream.was c.create_stream.follows.holds-at-none in
+    rw (p.1, p.2) (λ told. counted _ (failures_of c.args.file.now) (failures_of c.create_stream.follows.lender-at-none) e (h.1 told).counts)
+
+pub returns-in_err-written-clause-given : goal.returns-in_err-written-clause-given
+returns-in_err-written-clause-given g c =
+    let p = err_from_is_err_and c.from_residual-in_err-written.result c.from_residual-in_err-written.ensures.1 in
+    rw (p.1, p.2) c.in_err-written.ensures.given
+
+pub returns-clause-given : goal.returns-clause-given
+returns-clause-given g c = λ told. all_counted _ _ _ c.close-closed.result (c.close-closed.ensures.counts told)

@@ -3,11 +3,12 @@ use Rattle.std.specs.Prelude.{◌||◌, Result}
 use Rattle.std.proofs.lemmas.Result.{err_from_is_err_and}
 use Rattle.cfb_format.specs.declared.error.Error.{Error}
 use Rattle.cfb_rules.specs.StreamCalls.{count, write}
-use Rattle.cfb_compound_file.specs.StreamAnswers.{StreamRunsOn, stream_in}
-use Rattle.cfb_compound_file.specs.Streams.{open_of}
+use Rattle.cfb_tool.specs.cfb_compound_file.StreamAnswers.{StreamRunsOn, stream_in}
+use Rattle.cfb_tool.specs.cfb_compound_file.Streams.{open_of}
 use Rattle.cfb_commands.specs.Promised.{IsWorkedOn}
 use Rattle.cfb_commands.proofs.Before.{same_before}
 use Rattle.cfb_commands.specs.Commands.{refusal_of, stream_answer}
+use Rattle.cfb_commands.proofs.Faults.{counted}
 use Rattle.cfb_commands.proofs.Operations.{comes_told, goes_told, short_write, worked_on}
 use Rattle.cfb_commands.proofs.Quiet.{writes_none}
 use Rattle.cfb_tool.proofs.WholeWrites.{IsBegun, begun_done, begun_more, begun_none, begun_refused, emptied, takes_some}
@@ -59,3 +60,17 @@ returns-clause-works g c =
     let none : length c.loop-rest.rest.now ≡ 0 = grind (arith, c.is_empty.ensures, c.loop-rest-test.false) in
     λ told. begun_done _ (open_of c.args.stream.now) c.args.bytes.now c.loop-rest.rest.now (open_of c.loop-rest.stream) (c.loop-rest.invariant.begun told)
     (emptied c.loop-rest.rest.now none)
+
+pub returns-in_err-count-clause-given : goal.returns-in_err-count-clause-given
+returns-in_err-count-clause-given g c =
+    let p = err_from_is_err_and c.from_residual.result c.from_residual.ensures.1 in
+    rw (p.1, p.2) (λ told. counted _ _ _ c.in_err-count.field-0.0 (c.in_err-count.ensures.counts told))
+
+pub returns-then-count-eq0-clause-given : goal.returns-then-count-eq0-clause-given
+returns-then-count-eq0-clause-given g c =
+    let now = open_of c.loop-rest.stream in
+    let next = open_of c.write.new.self in
+    let rest = c.loop-rest.rest.now in
+    let none : c.in_ok-count.count ≡ 0 = omega (arith, c.if-count-eq0.true) in
+    let some : 0 < length rest = grind (arith, c.is_empty.ensures, c.loop-rest-test.true) in
+    λ told. absurd (takes_some now next rest some (subst (λ (n : ℕ). StreamRunsOn now (write rest) (count n) next) none (c.in_ok-count.ensures.runs told)))

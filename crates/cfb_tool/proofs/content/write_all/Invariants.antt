@@ -1,6 +1,6 @@
 use Rattle.std.proofs.Common.{◌≡◌, length}
 use Rattle.std.specs.Prelude.{◌||◌, IsTrue}
-use Rattle.cfb_compound_file.specs.Streams.{file_of, open_of}
+use Rattle.cfb_tool.specs.cfb_compound_file.Streams.{file_of, open_of}
 use Rattle.cfb_tool.proofs.WholeWrites.{IsBegun}
 use Rattle.cfb_tool.proofs.content.write_all.Given as goal
 

@@ -1,7 +1,7 @@
 use Rattle.std.proofs.Common.{List, refl, string_bytes, subst, sym}
-use Rattle.cfb_path_changes.specs.Answers.{Answers}
+use Rattle.cfb_tool.specs.cfb_path_changes.Answers.{Answers}
 use Rattle.cfb_rules.specs.Calls.{EntryInfo, entries, walk}
-use Rattle.cfb_compound_file.proofs.Numbers.{memory-refused}
+use Rattle.cfb_tool.proofs.cfb_compound_file.Numbers.{memory-refused}
 use Rattle.cfb_tool.proofs.Listed.{listed}
 use Rattle.cfb_tool.proofs.listing.listing.Goals as goal
 

@@ -2,7 +2,7 @@ use Rattle.std.proofs.Common.{chars, refl}
 use Rattle.std.proofs.lemmas.Result.{err_from_is_err_and}
 use Rattle.cfb_format.specs.declared.error.Error.TheVariants.{Memory}
 use Rattle.cfb_rules.specs.Calls.{walk_storage}
-use Rattle.cfb_compound_file.proofs.Asked.{refused-for-memory}
+use Rattle.cfb_tool.proofs.cfb_compound_file.Asked.{refused-for-memory}
 use Rattle.cfb_tool.proofs.listing.walked_at.Goals as goal
 
 pub returns-in_err-clone-clause-refused : goal.returns-in_err-clone-clause-refused

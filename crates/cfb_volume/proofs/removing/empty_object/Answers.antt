@@ -3,13 +3,13 @@ use Rattle.std.specs.Prelude.{IsTrue}
 use Rattle.std.proofs.lemmas.Result.{err_from_is_err_and}
 use Rattle.cfb_format.specs.declared.validate.Validation.{Validation}
 use Rattle.cfb_format.specs.DirectoryEntry.{Entry}
-use Rattle.cfb_entries.specs.EntryList.{AreInOrder}
-use Rattle.cfb_trees.proofs.Members.{reached-is-within}
-use Rattle.cfb_trees.proofs.Reached.{below-reached}
-use Rattle.cfb_mini_sectors.specs.State.{HoldsMini, cases_of, entries_of}
-use Rattle.cfb_content.specs.Contents.{IsNotChangeable, IsStreamOf, IsTooLongFor}
-use Rattle.cfb_content.proofs.Changed.{moves-same, spares-same}
-use Rattle.cfb_content.proofs.Snug.{sized-is-snug}
+use Rattle.cfb_volume.specs.cfb_entries.EntryList.{AreInOrder}
+use Rattle.cfb_volume.proofs.cfb_trees.Members.{reached-is-within}
+use Rattle.cfb_volume.proofs.cfb_trees.Reached.{below-reached}
+use Rattle.cfb_volume.specs.cfb_mini_sectors.State.{HoldsMini, cases_of, entries_of}
+use Rattle.cfb_volume.specs.cfb_content.Contents.{IsNotChangeable, IsStreamOf, IsTooLongFor}
+use Rattle.cfb_volume.proofs.cfb_content.Changed.{moves-same, spares-same}
+use Rattle.cfb_volume.proofs.cfb_content.Snug.{sized-is-snug}
 use Rattle.cfb_agreement.proofs.ContentChanges.{moved-starts-at-end, stays-tidy}
 use Rattle.cfb_volume.proofs.Emptying.{emptying-fits}
 use Rattle.cfb_volume.proofs.EmptyStreams.{sized-at-end}

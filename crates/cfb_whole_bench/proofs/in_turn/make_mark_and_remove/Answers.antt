@@ -1,8 +1,8 @@
 use Rattle.std.proofs.Common.{Bool, chars}
 use Rattle.std.specs.Prelude.{◌||◌, ◌∷◌, []}
 use Rattle.cfb_format.specs.declared.medium.MediumFault.{MediumFault}
-use Rattle.cfb_rules.specs.Calls.{create_storage, done, remove_storage, set_state_bits}
-use Rattle.cfb_rules.specs.Lists.{by_path, replied}
+use Rattle.cfb_whole_bench.specs.cfb_rules.Calls.{create_storage, done, remove_storage, set_state_bits}
+use Rattle.cfb_whole_bench.specs.cfb_rules.Lists.{by_path, replied}
 use Rattle.cfb_commands.specs.Commands.{call_answer}
 use Rattle.cfb_commands.proofs.Calls.{changed}
 use Rattle.cfb_commands.proofs.Runs.{by_call, runs_none, runs_on}

@@ -4,15 +4,16 @@ use Rattle.cfb_format.specs.declared.version.Version.{Version}
 use Rattle.cfb_format.specs.Created.{empty_tree}
 use Rattle.cfb_format.specs.Memory.{is_refused_growth}
 use Rattle.std.specs.Prelude.{IfErr, OnOk}
-use Rattle.cfb_agreement.specs.Files.{FileState}
-use Rattle.cfb_rules.specs.Calls.{create_new_stream}
-use Rattle.cfb_compound_file.specs.Adding.{IsCreatedBy}
-use Rattle.cfb_path_changes.specs.Answers.{IsRefusedBy, causes_of}
-use Rattle.cfb_compound_file.specs.Streams.{open_of}
+use Rattle.cfb_whole_bench.specs.cfb_agreement.Files.{FileState}
+use Rattle.cfb_whole_bench.specs.cfb_rules.Calls.{create_new_stream}
+use Rattle.cfb_whole_bench.specs.cfb_compound_file.Adding.{IsCreatedBy}
+use Rattle.cfb_whole_bench.specs.cfb_path_changes.Answers.{IsRefusedBy, causes_of}
+use Rattle.cfb_whole_bench.specs.cfb_compound_file.Streams.{open_of}
 use Rattle.cfb_whole_bench.specs.Changes.{after_all, empty_list}
 use Rattle.cfb_whole_bench.specs.OneStream.{IsDataRefused, IsMadeWith, data_tree}
-use Rattle.cfb_whole_bench.proofs.DataFile.{at_error, by_text, changes_refused, changes_short, closing_refused_if, on_ok, same_file, settled_same, stream_closed_if, stream_made, stream_refused, stream_starts}
+use Rattle.cfb_whole_bench.proofs.DataFile.{by_text, changes_refused, changes_short, closing_refused_if, on_ok, same_file, settled_same, stream_closed_if, stream_made, stream_refused, stream_starts}
 use Rattle.cfb_whole_bench.proofs.whole.add_data.Goals as goal
+use Rattle.cfb_commands.proofs.Openings.{at_error}
 
 pub returns-in_err-stream-clause-refused : goal.returns-in_err-stream-clause-refused
 returns-in_err-stream-clause-refused g c version is =

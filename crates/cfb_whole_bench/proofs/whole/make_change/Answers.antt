@@ -1,7 +1,7 @@
 use Rattle.std.proofs.Common.{◌∙◌, refl}
 use Rattle.std.proofs.lemmas.Result.{err_from_is_err_and}
-use Rattle.cfb_compound_file.specs.Streams.{open_of}
-use Rattle.cfb_compound_file.proofs.StreamCalls.{goes_at_once}
+use Rattle.cfb_whole_bench.specs.cfb_compound_file.Streams.{open_of}
+use Rattle.cfb_whole_bench.proofs.cfb_compound_file.StreamCalls.{goes_at_once}
 use Rattle.cfb_whole_bench.proofs.OpenData.{flush_stops, flushed, set_if_done, set_if_refused}
 use Rattle.cfb_whole_bench.proofs.whole.make_change.Goals as goal
 

@@ -4,8 +4,8 @@ use Rattle.std.proofs.lemmas.Iterator.Consumers.{YieldsList-at, YieldsList-end, 
 use Rattle.std.proofs.lemmas.List.{map-id}
 use Rattle.std.proofs.lemmas.Result.{err_from_is_err_and}
 use Rattle.cfb_format.specs.Bytes.{max_stream_len}
-use Rattle.cfb_mini_sectors.specs.State.{version_of}
-use Rattle.cfb_compound_file.specs.Streams.{open_of}
+use Rattle.cfb_whole_bench.specs.cfb_mini_sectors.State.{version_of}
+use Rattle.cfb_whole_bench.specs.cfb_compound_file.Streams.{open_of}
 use Rattle.cfb_whole_bench.specs.Changes.{after_all, some_too_long}
 use Rattle.cfb_whole_bench.specs.OneStream.{AreChangesRefused, IsChangedTo}
 use Rattle.cfb_whole_bench.specs.declared.whole.Change.{Change}

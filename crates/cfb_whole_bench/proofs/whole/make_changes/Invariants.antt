@@ -1,8 +1,8 @@
 use Rattle.std.proofs.Common.{◌≡◌, ℕ, false}
 use Rattle.cfb_format.specs.Bytes.{max_stream_len}
-use Rattle.cfb_mini_sectors.specs.State.{version_of}
-use Rattle.cfb_agreement.specs.Files.{FileState}
-use Rattle.cfb_compound_file.specs.Streams.{file_of, open_of}
+use Rattle.cfb_whole_bench.specs.cfb_mini_sectors.State.{version_of}
+use Rattle.cfb_whole_bench.specs.cfb_agreement.Files.{FileState}
+use Rattle.cfb_whole_bench.specs.cfb_compound_file.Streams.{file_of, open_of}
 use Rattle.cfb_whole_bench.specs.Changes.{ListAt, after_all, some_too_long}
 use Rattle.cfb_whole_bench.specs.OneStream.{IsChangedTo}
 use Rattle.cfb_whole_bench.proofs.whole.make_changes.Given as goal

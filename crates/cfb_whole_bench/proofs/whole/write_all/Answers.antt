@@ -1,7 +1,7 @@
 use Rattle.std.proofs.Common.{◌≡◌, ◌∙◌, ◌<◌, ◌≤◌, ◌+◌, refl, length, arith}
 use Rattle.std.proofs.lemmas.Grind.{common_steps}
 use Rattle.std.proofs.lemmas.Result.{err_from_is_err_and}
-use Rattle.cfb_compound_file.specs.Streams.{open_of}
+use Rattle.cfb_whole_bench.specs.cfb_compound_file.Streams.{open_of}
 use Rattle.cfb_whole_bench.specs.Changes.{after_write}
 use Rattle.cfb_whole_bench.proofs.OpenData.{some_written, write_ends, written_all, written_on}
 use Rattle.cfb_whole_bench.proofs.whole.write_all.Goals as goal

@@ -1,6 +1,6 @@
 use Rattle.std.proofs.Common.{◌≡◌, ℕ, length}
-use Rattle.cfb_agreement.specs.Files.{FileState}
-use Rattle.cfb_compound_file.specs.Streams.{file_of, open_of}
+use Rattle.cfb_whole_bench.specs.cfb_agreement.Files.{FileState}
+use Rattle.cfb_whole_bench.specs.cfb_compound_file.Streams.{file_of, open_of}
 use Rattle.cfb_whole_bench.specs.Changes.{ListAt, after_write}
 use Rattle.cfb_whole_bench.specs.OneStream.{IsChangedTo}
 use Rattle.cfb_whole_bench.proofs.OpenData.{IsBeforeRest}

@@ -4,11 +4,11 @@ use Rattle.std.proofs.lemmas.Result.{err_from_is_err_and}
 use Rattle.cfb_alloc.proofs.AllocLemmas.{taken_reserved, others_refl, others_unchanged, placed_reserved, placed_written, shown_below, shown_taken, others_written, held_counted, fats_apart_shown, clean_taken, fats_known, difats_known, refused_changed}
 use Rattle.cfb_format.specs.Chain.{IsChain}
 use Rattle.cfb_tables.specs.Tables.{HasTaken, first_or_end}
-use Rattle.cfb_tables.proofs.ChainLemmas.{chain_of}
 use Rattle.cfb_tables.proofs.TakenLemmas.{taken-nothing}
 use Rattle.cfb_alloc.proofs.Spared.{spares_refl, spares_unchanged, taken_written}
 use Rattle.cfb_table_words.proofs.FilledSectors.{filled_each}
 use Rattle.cfb_alloc.proofs.alloc.Allocator.begin_chain_by.Goals as goal
+use Rattle.cfb_format.proofs.Walks.{chain_of}
 
 pub returns-in_err-before-clause-others : goal.returns-in_err-before-clause-others
 returns-in_err-before-clause-others g c told = others_refl c.args.self.now

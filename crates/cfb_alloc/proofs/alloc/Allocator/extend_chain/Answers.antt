@@ -6,10 +6,10 @@ use Rattle.cfb_tables.specs.Tables.{IsTooFew, Extended, ExtendsFrom}
 use Rattle.cfb_alloc.proofs.AllocLemmas.{others_refl, others_unchanged, placed_reserved, placed_written, others_written, held_counted, fats_apart_shown, clean_taken, fats_known, difats_known, refused_changed}
 use Rattle.cfb_alloc.proofs.FreeingLemmas.{breaks_by_medium}
 use Rattle.cfb_tables.proofs.AttachLemmas.{last-known, extended}
-use Rattle.cfb_tables.proofs.Members.{Contains-here}
 use Rattle.cfb_alloc.proofs.Spared.{last_among, spares_refl, spares_unchanged, taken_for_chain}
 use Rattle.cfb_table_words.proofs.FilledSectors.{filled_each}
 use Rattle.cfb_alloc.proofs.alloc.Allocator.extend_chain.Goals as goal
+use Rattle.cfb_format.proofs.Members.{Contains-here}
 
 pub returns-in_err-before-clause-others : goal.returns-in_err-before-clause-others
 returns-in_err-before-clause-others g c told = others_refl c.args.self.now

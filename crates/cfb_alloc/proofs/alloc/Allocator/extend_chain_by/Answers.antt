@@ -1,8 +1,8 @@
 use Rattle.std.proofs.Common.{sym, subst, ℕ, List, IfErr}
 use Rattle.cfb_alloc.specs.Broken.{BreaksOff}
 use Rattle.cfb_tables.specs.Tables.{TakesFor}
-use Rattle.cfb_alloc.proofs.AllocLemmas.{ending_other}
 use Rattle.cfb_alloc.proofs.alloc.Allocator.extend_chain_by.Goals as goal
+use Rattle.cfb_tables.proofs.ListedLemmas.{ending_other}
 
 pub returns-clause-refused : goal.returns-clause-refused
 returns-clause-refused g c =

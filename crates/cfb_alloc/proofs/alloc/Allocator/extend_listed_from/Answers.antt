@@ -4,8 +4,8 @@ use Rattle.cfb_format.specs.declared.error.Error.{Error}
 use Rattle.cfb_format.specs.Bytes.{max_regular_sector, sector_len}
 use Rattle.cfb_format.specs.Chain.{IsChain}
 use Rattle.cfb_format.specs.Refused.{CountsFailure}
-use Rattle.cfb_sectors.specs.Sectors.{SectorFile}
-use Rattle.cfb_sectors.proofs.SectorLemmas.{SectorStays_refl}
+use Rattle.cfb_alloc.specs.cfb_sectors.Sectors.{SectorFile}
+use Rattle.cfb_alloc.proofs.cfb_sectors.SectorLemmas.{SectorStays_refl}
 use Rattle.cfb_table_words.specs.Along.{AreFilledFrom}
 use Rattle.cfb_alloc.specs.Alloc.{AllocatorState}
 use Rattle.cfb_tables.specs.Tables.{HasTaken, first_or_end}

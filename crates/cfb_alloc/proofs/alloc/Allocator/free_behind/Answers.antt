@@ -4,7 +4,7 @@ use Rattle.cfb_alloc.specs.Alloc.{AllocatorState, HoldsTables}
 use Rattle.cfb_table_words.specs.Holding.{HoldsBut}
 use Rattle.cfb_tables.specs.Clean.{IsClean, IsUnnamed}
 use Rattle.cfb_tables.specs.Tables.{first_or_end}
-use Rattle.cfb_sectors.specs.Sectors.{SectorFile}
+use Rattle.cfb_alloc.specs.cfb_sectors.Sectors.{SectorFile}
 use Rattle.cfb_table_words.proofs.Answering.{on_ok}
 use Rattle.cfb_alloc.proofs.FreeingLemmas.{changes_said, placed_changed}
 use Rattle.cfb_alloc.proofs.ListedLemmas.{shown_cut, cut_below, listed_cut_clean, listed_cut_holds, listed_cut_spares}

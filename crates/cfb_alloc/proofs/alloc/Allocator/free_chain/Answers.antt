@@ -4,9 +4,9 @@ use Rattle.cfb_format.specs.Chain.{IsChain}
 use Rattle.cfb_alloc.specs.Alloc.{AllocatorState, HoldsTables}
 use Rattle.cfb_table_words.specs.Holding.{HoldsBut}
 use Rattle.cfb_tables.specs.Clean.{IsClean, IsUnnamed}
-use Rattle.cfb_sectors.specs.Sectors.{SectorFile}
+use Rattle.cfb_alloc.specs.cfb_sectors.Sectors.{SectorFile}
 use Rattle.cfb_table_words.proofs.Answering.{on_ok}
-use Rattle.cfb_tables.proofs.ChainLemmas.{chain_of, members-busy}
+use Rattle.cfb_tables.proofs.ChainLemmas.{members-busy}
 use Rattle.cfb_alloc.proofs.EmptyChain.{none_freed}
 use Rattle.cfb_alloc.proofs.ChainView.{chain_found}
 use Rattle.cfb_tables.proofs.CleanLemmas.{freed-clean}
@@ -14,6 +14,7 @@ use Rattle.cfb_table_words.proofs.FrameLemmas.{changes_refl}
 use Rattle.cfb_alloc.proofs.FreeingLemmas.{nothing_said, placed_changed, changes_said, freed_holds}
 use Rattle.cfb_alloc.proofs.Spared.{spares_refl, spares_unchanged, freed_written}
 use Rattle.cfb_alloc.proofs.alloc.Allocator.free_chain.Goals as goal
+use Rattle.cfb_format.proofs.Walks.{chain_of}
 
 pub returns-in_err-usable_sizes-clause-changes : goal.returns-in_err-usable_sizes-clause-changes
 returns-in_err-usable_sizes-clause-changes g c told = let a = c.args.self.now in changes_refl a.tables.fat_sectors a.tables.version a.file.bytes

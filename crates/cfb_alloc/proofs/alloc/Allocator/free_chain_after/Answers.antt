@@ -7,7 +7,7 @@ use Rattle.cfb_alloc.specs.Alloc.{AllocatorState, HoldsTables}
 use Rattle.cfb_table_words.specs.Holding.{ChangesSectors, HoldsBut}
 use Rattle.cfb_tables.specs.Changes.{GivesBack}
 use Rattle.cfb_tables.specs.Clean.{IsClean}
-use Rattle.cfb_sectors.specs.Sectors.{SectorFile}
+use Rattle.cfb_alloc.specs.cfb_sectors.Sectors.{SectorFile}
 use Rattle.cfb_tables.specs.Tables.{TableState, GivesBackChain}
 use Rattle.cfb_table_words.proofs.Answering.{all_ok, on_ok}
 use Rattle.cfb_tables.proofs.ChainLemmas.{members-busy}

@@ -1,7 +1,7 @@
 use Rattle.std.proofs.Common.{refl, [], sym, ◌∙◌, ap, subst}
 use Rattle.cfb_format.specs.Medium.{ChangesOnlyBytes}
-use Rattle.cfb_sectors.specs.Sectors.{SectorFile}
-use Rattle.cfb_sectors.specs.Words.{with_word}
+use Rattle.cfb_alloc.specs.cfb_sectors.Sectors.{SectorFile}
+use Rattle.cfb_alloc.specs.cfb_sectors.Words.{with_word}
 use Rattle.cfb_alloc.specs.Alloc.{AllocatorState, HoldsTables}
 use Rattle.cfb_alloc.specs.Frame.{Spares}
 use Rattle.cfb_table_words.proofs.Answering.{on_ok}

@@ -1,6 +1,6 @@
 use Rattle.std.proofs.Common.{◌<◌, ◌≤◌, ◌+◌, [], ◌∷◌, take, length, arith, length-take}
-use Rattle.cfb_sectors.specs.Sectors.{sectors_end}
-use Rattle.cfb_sectors.proofs.SectorLemmas.{sector_apart, SectorStays_refl}
+use Rattle.cfb_alloc.specs.cfb_sectors.Sectors.{sectors_end}
+use Rattle.cfb_alloc.proofs.cfb_sectors.SectorLemmas.{sector_apart, SectorStays_refl}
 use Rattle.cfb_alloc.proofs.SeekLemmas.{held_after, lies_within, some_left}
 use Rattle.cfb_alloc.proofs.Spared.{spares_refl, in_sector_spares}
 use Rattle.cfb_alloc.proofs.seeking.AllocatedSector.write.Goals as goal

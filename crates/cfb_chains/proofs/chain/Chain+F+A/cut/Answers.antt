@@ -1,9 +1,9 @@
 use Rattle.std.proofs.Common.{arith}
 use Rattle.cfb_chains.specs.LentChain.{allocator_of, start_sector_of, ids_of, version_of}
-use Rattle.cfb_alloc.proofs.Answering.{on_ok}
-use Rattle.cfb_alloc.proofs.FrameLemmas.{changes_refl}
+use Rattle.cfb_chains.proofs.cfb_alloc.Answering.{on_ok}
+use Rattle.cfb_chains.proofs.cfb_alloc.FrameLemmas.{changes_refl}
 use Rattle.cfb_chains.proofs.LentContent.{content_cut, content_uncut}
-use Rattle.cfb_alloc.proofs.Spared.{spares_refl}
+use Rattle.cfb_chains.proofs.cfb_alloc.Spared.{spares_refl}
 use Rattle.cfb_chains.proofs.chain.Chain+F+A.cut.Goals as goal
 
 pub returns-then-count-len-clause-changes : goal.returns-then-count-len-clause-changes

@@ -1,6 +1,6 @@
 use Rattle.std.proofs.Common.{ap}
 use Rattle.cfb_format.specs.Bytes.{sector_len}
-use Rattle.cfb_alloc.specs.Alloc.{AllocatorState}
+use Rattle.cfb_chains.specs.cfb_alloc.Alloc.{AllocatorState}
 use Rattle.cfb_chains.specs.LentChain.{allocator_of, start_sector_of, ids_of, position_of, version_of}
 use Rattle.cfb_chains.proofs.ChainLists.{on_err, after_map, shortened_frees, freed_of, placed_nowhere, placed_same}
 use Rattle.cfb_chains.proofs.chain.Chain+F+A.free.Goals as goal

@@ -1,6 +1,6 @@
-use Rattle.cfb_tables.specs.Listed.{gained}
+use Rattle.cfb_chains.specs.cfb_tables.Listed.{gained}
 use Rattle.cfb_chains.specs.LentChain.{allocator_of, start_sector_of, ids_of, init_of}
-use Rattle.cfb_alloc.proofs.Answering.{on_three}
+use Rattle.cfb_chains.proofs.cfb_alloc.Answering.{on_three}
 use Rattle.cfb_chains.proofs.LentContent.{content_grown}
 use Rattle.cfb_chains.proofs.chain.Chain+F+A.grow.Goals as goal
 

@@ -1,4 +1,4 @@
-use Rattle.cfb_alloc.proofs.ChainView.{chain_found}
+use Rattle.cfb_chains.proofs.cfb_alloc.ChainView.{chain_found}
 use Rattle.cfb_chains.proofs.chain.Chain+F+A.new.Goals as goal
 
 pub invariant_of-result-clause-chained : goal.invariant_of-result-clause-chained

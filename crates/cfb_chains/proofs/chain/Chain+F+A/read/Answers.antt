@@ -2,14 +2,15 @@ use Rattle.std.proofs.Common.{◌≡◌, ◌≤◌, ◌<◌, ◌+◌, ◌*◌, �
 use Rattle.std.proofs.lemmas.Result.{err_from_is_err_and}
 use Rattle.cfb_format.specs.Bytes.{sector_len}
 use Rattle.cfb_format.specs.Medium.{part}
-use Rattle.cfb_tables.specs.Tables.{TableState}
+use Rattle.cfb_chains.specs.cfb_tables.Tables.{TableState}
 use Rattle.cfb_runs.specs.Along.{IsReadAtOnce}
 use Rattle.cfb_runs.specs.Runs.{place_along}
 use Rattle.cfb_runs.proofs.Runs.{shorter_run}
 use Rattle.cfb_chains.specs.LentChain.{allocator_of, ids_of, position_of, version_of}
 use Rattle.cfb_chains.proofs.ChainBytes.{none_placed}
-use Rattle.cfb_chains.proofs.ChainRuns.{listed_inside, run_content, run_fits, run_is_placed}
+use Rattle.cfb_chains.proofs.ChainRuns.{run_content, run_fits, run_is_placed}
 use Rattle.cfb_chains.proofs.chain.Chain+F+A.read.Goals as goal
+use Rattle.cfb_chains.proofs.cfb_alloc.ChainView.{index_inside}
 
 pub returns-then-room-eq0-clause-ok : goal.returns-then-room-eq0-clause-ok
 returns-then-room-eq0-clause-ok g c told = none_placed _ _ _
@@ -19,7 +20,7 @@ read_run-requires-clause-listed g c =
     let now = c.args.self.now in
     let inside = c.left.ensures.within (omega (arith, c.min-room.ensures, c.if-room-eq0.false)) in
     subst (λ (xs : List ℕ). position_of now / sector_len (version_of now) < length xs) (sym c.numbers.ensures)
-    (listed_inside (version_of now) (position_of now) (length (ids_of now)) inside)
+    (index_inside (version_of now) (position_of now) (length (ids_of now)) inside)
 
 pub invariant_of-self-2-clause-within : goal.invariant_of-self-2-clause-within
 invariant_of-self-2-clause-within g c =

@@ -1,4 +1,4 @@
-use Rattle.cfb_alloc.proofs.ChainView.{found_chain}
+use Rattle.cfb_chains.proofs.cfb_alloc.ChainView.{found_chain}
 use Rattle.cfb_chains.proofs.chain.Chain+F+A.sector_ids.Goals as goal
 
 pub returns-clause-chained : goal.returns-clause-chained

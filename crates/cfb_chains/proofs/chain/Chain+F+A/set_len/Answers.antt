@@ -8,12 +8,11 @@ use Rattle.cfb_chains.proofs.LentContent.{content_long, keeps_cut, keeps_own, sh
 use Rattle.std.proofs.lemmas.List.Elements.{Contains-append_left}
 use Rattle.cfb_format.specs.Bytes.{sector_len, sector_start}
 use Rattle.cfb_format.specs.declared.version.Version.{Version}
-use Rattle.cfb_alloc.specs.Alloc.{AllocatorState}
-use Rattle.cfb_tables.specs.Tables.{TableState, TablesGiveBack}
-use Rattle.cfb_alloc.proofs.Answering.{all_ok, on_three}
-use Rattle.cfb_tables.proofs.Members.{Contains-nil}
-use Rattle.cfb_alloc.proofs.ChainView.{found_chain}
-use Rattle.cfb_tables.specs.Listed.{ends_of, gained}
+use Rattle.cfb_chains.specs.cfb_alloc.Alloc.{AllocatorState}
+use Rattle.cfb_chains.specs.cfb_tables.Tables.{TableState, TablesGiveBack}
+use Rattle.cfb_chains.proofs.cfb_alloc.Answering.{all_ok, on_three}
+use Rattle.cfb_chains.proofs.cfb_alloc.ChainView.{found_chain}
+use Rattle.cfb_chains.specs.cfb_tables.Listed.{ends_of, gained}
 use Rattle.cfb_chains.proofs.PlacedChains.{cut_resized, grown_resized}
 use Rattle.cfb_chains.specs.LentChain.{allocator_of, start_sector_of, ids_of, init_of, version_of, tail_of, place_at, content_of, HasBytes}
 use Rattle.cfb_chains.proofs.ChainWrites.{none_wanted, on_if, same_rest, same_wanted, zeroed_of}
@@ -21,6 +20,7 @@ use Rattle.cfb_chains.proofs.OwnWrites.{enough_kept, own_freed, own_kept, own_ta
 use Rattle.cfb_sectors.proofs.SectorLemmas.{SectorStays_next}
 use Rattle.cfb_chains.proofs.Sparing.{kept_spared}
 use Rattle.cfb_chains.proofs.chain.Chain+F+A.set_len.Goals as goal
+use Rattle.cfb_format.proofs.Members.{Contains-nil}
 
 pub returns-then-sectors-have-clause-filled : goal.returns-then-sectors-have-clause-filled
 returns-then-sectors-have-clause-filled g c told validation h fewer = c.grow.ensures.filled told validation h

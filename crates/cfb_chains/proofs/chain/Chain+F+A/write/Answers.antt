@@ -5,19 +5,19 @@ use Rattle.cfb_format.specs.Medium.{written}
 use Rattle.cfb_format.specs.Refused.{CountsFailure}
 use Rattle.cfb_sectors.specs.Sectors.{copies, init_bytes}
 use Rattle.cfb_format.specs.Bytes.{sector_len, sector_start}
-use Rattle.cfb_tables.specs.Listed.{gained, last_or_end}
-use Rattle.cfb_tables.specs.Tables.{TableState, ending}
+use Rattle.cfb_chains.specs.cfb_tables.Listed.{gained, last_or_end}
+use Rattle.cfb_chains.specs.cfb_tables.Tables.{TableState, ending}
 use Rattle.cfb_chains.specs.LentChain.{allocator_of, start_sector_of, ids_of, init_of, left_of, len_of, missing_of, place_of, position_of, version_of, content_of, HasBytes}
-use Rattle.cfb_alloc.proofs.Answering.{all_ok}
+use Rattle.cfb_chains.proofs.cfb_alloc.Answering.{all_ok}
 use Rattle.cfb_chains.proofs.ChainWrites.{goes_nowhere, if_both, if_ok, left_after, none_missing, none_needed, there_of}
 use Rattle.cfb_chains.proofs.LentContent.{keeps_own}
 use Rattle.cfb_chains.proofs.OwnWrites.{own_gained, own_none, own_taken, own_wanted}
 use Rattle.cfb_chains.proofs.PlacedChains.{grown_written, was_wanted}
-use Rattle.cfb_tables.proofs.Members.{first_of_three}
+use Rattle.cfb_chains.proofs.cfb_tables.Members.{first_of_three}
 use Rattle.cfb_sectors.proofs.SectorLemmas.{SectorStays_next}
-use Rattle.cfb_tables.proofs.Members.{Contains-nil}
 use Rattle.cfb_chains.proofs.Sparing.{gained_spared}
 use Rattle.cfb_chains.proofs.chain.Chain+F+A.write.Goals as goal
+use Rattle.cfb_format.proofs.Members.{Contains-nil}
 
 pub returns-clause-some : goal.returns-clause-some
 returns-clause-some g c =

@@ -4,17 +4,17 @@ use Rattle.std.proofs.lemmas.List.Elements.{Contains-get_or}
 use Rattle.cfb_format.specs.Bytes.{sector_len}
 use Rattle.cfb_format.specs.Medium.{written}
 use Rattle.cfb_sectors.specs.Sectors.{SectorFile}
-use Rattle.cfb_tables.specs.Changes.{AreDisjoint}
-use Rattle.cfb_tables.specs.Tables.{TableState}
-use Rattle.cfb_tables.proofs.ChainLemmas.{members-busy}
-use Rattle.cfb_alloc.specs.Frame.{Spares, table_sectors}
-use Rattle.cfb_alloc.proofs.ChainView.{found_chain}
-use Rattle.cfb_alloc.proofs.Spared.{spares_refl}
+use Rattle.cfb_chains.specs.cfb_tables.Changes.{AreDisjoint}
+use Rattle.cfb_chains.specs.cfb_tables.Tables.{TableState}
+use Rattle.cfb_chains.proofs.cfb_tables.ChainLemmas.{members-busy}
+use Rattle.cfb_chains.specs.cfb_alloc.Frame.{Spares, table_sectors}
+use Rattle.cfb_chains.proofs.cfb_alloc.ChainView.{found_chain, index_inside}
+use Rattle.cfb_chains.proofs.cfb_alloc.Spared.{spares_refl}
 use Rattle.cfb_sectors.proofs.SectorLemmas.{SectorStays_refl}
 use Rattle.cfb_runs.specs.Along.{ChangesOnlyRun}
 use Rattle.cfb_runs.specs.Runs.{IsLongestRun, IsRun, place_along}
 use Rattle.cfb_chains.specs.LentChain.{allocator_of, ids_of, position_of, start_sector_of, version_of}
-use Rattle.cfb_chains.proofs.ChainRuns.{content_put, listed_inside, run_fits, run_sectors, run_wanted, wrote_run}
+use Rattle.cfb_chains.proofs.ChainRuns.{content_put, run_fits, run_sectors, run_wanted, wrote_run}
 use Rattle.cfb_chains.proofs.LentContent.{no_table_sector}
 use Rattle.cfb_chains.proofs.chain.Chain+F+A.write_within.Goals as goal
 
@@ -29,7 +29,7 @@ write_run-requires-clause-listed g c =
     let now = c.args.self.now in
     let inside = c.left.ensures.within (omega (arith, c.min-room.ensures, c.if-room-eq0.false)) in
     subst (λ (xs : List ℕ). position_of now / sector_len (version_of now) < length xs) (sym c.numbers.ensures)
-    (listed_inside (version_of now) (position_of now) (length (ids_of now)) inside)
+    (index_inside (version_of now) (position_of now) (length (ids_of now)) inside)
 
 pub write_run-requires-clause-known : goal.write_run-requires-clause-known
 write_run-requires-clause-known g c =

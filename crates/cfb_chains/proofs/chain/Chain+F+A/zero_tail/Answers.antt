@@ -7,18 +7,18 @@ use Rattle.cfb_format.specs.Bytes.{sector_len}
 use Rattle.cfb_format.specs.Medium.{ChangesOnlyBytes, written}
 use Rattle.cfb_sectors.specs.Sectors.{SectorFile}
 use Rattle.cfb_sectors.proofs.SectorLemmas.{SectorStays_refl, other_sector}
-use Rattle.cfb_tables.specs.Changes.{AreDisjoint}
-use Rattle.cfb_tables.specs.Tables.{TableState}
-use Rattle.cfb_tables.proofs.ChainLemmas.{members-busy}
-use Rattle.cfb_alloc.specs.Agreement.{HasSectors}
-use Rattle.cfb_alloc.specs.Frame.{Spares, table_sectors}
-use Rattle.cfb_alloc.proofs.ChainView.{found_chain}
-use Rattle.cfb_alloc.proofs.Spared.{spares_refl}
+use Rattle.cfb_chains.specs.cfb_tables.Changes.{AreDisjoint}
+use Rattle.cfb_chains.specs.cfb_tables.Tables.{TableState}
+use Rattle.cfb_chains.proofs.cfb_tables.ChainLemmas.{members-busy}
+use Rattle.cfb_chains.specs.cfb_alloc.Agreement.{HasSectors}
+use Rattle.cfb_chains.specs.cfb_alloc.Frame.{Spares, table_sectors}
+use Rattle.cfb_chains.proofs.cfb_alloc.ChainView.{found_chain, index_inside}
+use Rattle.cfb_chains.proofs.cfb_alloc.Spared.{spares_refl}
 use Rattle.cfb_runs.specs.Along.{ChangesOnlyRun}
 use Rattle.cfb_runs.specs.Runs.{IsLongestRun, IsRun, place_along}
 use Rattle.cfb_runs.proofs.Runs.{rest_short}
 use Rattle.cfb_chains.specs.LentChain.{allocator_of, start_sector_of, ids_of, version_of}
-use Rattle.cfb_chains.proofs.ChainRuns.{all_of_run, content_put, listed_inside, sector_run, tail_few}
+use Rattle.cfb_chains.proofs.ChainRuns.{all_of_run, content_put, sector_run, tail_few}
 use Rattle.cfb_chains.proofs.ChainContent.{sectors_stay}
 use Rattle.cfb_chains.proofs.ChainWrites.{not_end, rest_fits}
 use Rattle.cfb_chains.proofs.LentContent.{no_table_sector}
@@ -63,7 +63,7 @@ zero_run-requires-clause-listed g c =
     let now = c.args.self.now in
     let v = version_of now in
     let inside = not_end v c.args.offset (length (ids_of now)) c.requires (λ zero. c.if-rest-eq0.false (ap (λ (k : ℕ). c.args.offset % k) c.sector_len-sector_len.ensures ∙ zero)) in
-    subst (λ (xs : List ℕ). c.args.offset / sector_len v < length xs) (sym c.numbers.ensures) (listed_inside v c.args.offset (length (ids_of now)) inside)
+    subst (λ (xs : List ℕ). c.args.offset / sector_len v < length xs) (sym c.numbers.ensures) (index_inside v c.args.offset (length (ids_of now)) inside)
 
 pub zero_run-requires-clause-known : goal.zero_run-requires-clause-known
 zero_run-requires-clause-known g c =

@@ -1,7 +1,7 @@
 use Rattle.std.proofs.lemmas.Result.{err_from_is_err_and}
 use Rattle.std.proofs.Common.{refl}
 use Rattle.std.specs.Prelude.{chars}
-use Rattle.cfb_rules.specs.Calls.{entry}
+use Rattle.cfb_compound_file.specs.cfb_rules.Calls.{entry}
 use Rattle.cfb_compound_file.proofs.Asked.{entry-looks, refused-at-path}
 use Rattle.cfb_compound_file.proofs.RefusedKinds.{finding_asks, memory_asks}
 use Rattle.cfb_compound_file.proofs.Numbers.{memory-refused, ok-then}

@@ -1,8 +1,8 @@
 use Rattle.std.proofs.Common.{sym, ◌∙◌}
-use Rattle.cfb_path_changes.proofs.Refusing.{unchanged_setting}
 use Rattle.cfb_compound_file.proofs.StoredStreams.{agrees_with_flags}
 use Rattle.cfb_compound_file.proofs.WritesOut.{flush-on-failed, flush-refused, flush-served}
 use Rattle.cfb_compound_file.proofs.compound_file.CompoundFile.flush.Goals as goal
+use Rattle.cfb_compound_file.proofs.cfb_volume.Settings.{setting-same}
 
 pub invariant_of-self : goal.invariant_of-self
 invariant_of-self g c = λ told. agrees_with_flags _ _ _ _ (c.flush.ensures.rest told) (λ _. sym c.is_failed.ensures ∙ c.if-is_failed.false) (c.self.invariant told)
@@ -20,7 +20,7 @@ returns-clause-refused g c = rw (← c.self.view_is)
     c.flush.ensures.setting (c.flush.ensures.rest told) c.flush.ensures.failed c.flush.ensures.err (c.flush.ensures.counts told))
 
 pub returns-then-is_failed-clause-setting : goal.returns-then-is_failed-clause-setting
-returns-then-is_failed-clause-setting g c = unchanged_setting c.args.self.now
+returns-then-is_failed-clause-setting g c = setting-same c.args.self.now
 
 pub returns-clause-setting : goal.returns-clause-setting
 returns-clause-setting g c = rw (← c.self.view_is) c.flush.ensures.setting

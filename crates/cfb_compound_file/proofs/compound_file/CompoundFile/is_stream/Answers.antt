@@ -2,7 +2,7 @@ use Rattle.std.proofs.Common.{◌∙◌, ap, false}
 use Rattle.std.specs.Prelude.{Option, chars}
 use Rattle.std.specs.Option.{option_map_or}
 use Rattle.cfb_format.specs.declared.objtype.ObjType.{ObjType}
-use Rattle.cfb_outline.specs.Families.{is_stream_kind}
+use Rattle.cfb_compound_file.specs.cfb_outline.Families.{is_stream_kind}
 use Rattle.cfb_compound_file.proofs.Told.{stream-answered}
 use Rattle.cfb_compound_file.proofs.compound_file.CompoundFile.is_stream.Goals as goal
 

@@ -1,6 +1,6 @@
 use Rattle.std.specs.Prelude.{chars}
-use Rattle.cfb_mini_sectors.specs.State.{cases_of, entries_of}
-use Rattle.cfb_siblings.specs.Paths.{number_at_path}
+use Rattle.cfb_compound_file.specs.cfb_mini_sectors.State.{cases_of, entries_of}
+use Rattle.cfb_compound_file.specs.cfb_siblings.Paths.{number_at_path}
 use Rattle.cfb_path_changes.proofs.Numbers.{object-within}
 use Rattle.cfb_compound_file.proofs.Numbers.{kind-is}
 use Rattle.cfb_compound_file.proofs.compound_file.CompoundFile.kind_at.Goals as goal

@@ -1,7 +1,7 @@
 use Rattle.std.proofs.Common.{refl, chars, rules, true}
 use Rattle.std.specs.Prelude.{IsTrue}
 use Rattle.std.proofs.lemmas.Result.{err_from_is_err_and}
-use Rattle.cfb_rules.specs.Calls.{open_read_stream}
+use Rattle.cfb_compound_file.specs.cfb_rules.Calls.{open_read_stream}
 use Rattle.cfb_compound_file.proofs.RefusedKinds.{memory_not_opened, memory_opens, not_found_not_opened, not_found_opens}
 use Rattle.cfb_compound_file.proofs.OpenStreams.{rest_at_once}
 use Rattle.cfb_compound_file.proofs.Beginning.{begins_at}

@@ -1,5 +1,5 @@
 use Rattle.std.proofs.Common.{refl}
-use Rattle.cfb_rules.specs.Calls.{read_root_storage}
+use Rattle.cfb_compound_file.specs.cfb_rules.Calls.{read_root_storage}
 use Rattle.cfb_listing.specs.Left.{entries_left}
 use Rattle.cfb_compound_file.proofs.Numbers.{memory-refused, ok-then, root-is-storage}
 use Rattle.cfb_compound_file.proofs.Told.{read-root-answered}

@@ -2,7 +2,7 @@ use Rattle.std.proofs.lemmas.Result.{err_from_is_err_and}
 use Rattle.cfb_format.specs.declared.error.Error.TheVariants.{InvalidInput}
 use Rattle.std.proofs.Common.{refl}
 use Rattle.std.specs.Prelude.{chars}
-use Rattle.cfb_rules.specs.Calls.{read_storage}
+use Rattle.cfb_compound_file.specs.cfb_rules.Calls.{read_storage}
 use Rattle.cfb_listing.specs.Left.{entries_left}
 use Rattle.cfb_compound_file.proofs.Asked.{read-looks, refused-at-path}
 use Rattle.cfb_path_changes.proofs.Numbers.{object-within}

@@ -1,5 +1,5 @@
 use Rattle.std.proofs.Common.{refl}
-use Rattle.cfb_rules.specs.Calls.{root_entry}
+use Rattle.cfb_compound_file.specs.cfb_rules.Calls.{root_entry}
 use Rattle.cfb_compound_file.proofs.Numbers.{memory-refused, ok-then, root-is-object}
 use Rattle.cfb_compound_file.proofs.Told.{root-answered}
 use Rattle.cfb_compound_file.proofs.compound_file.CompoundFile.root_entry.Goals as goal

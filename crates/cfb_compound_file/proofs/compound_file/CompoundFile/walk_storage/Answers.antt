@@ -1,7 +1,7 @@
 use Rattle.std.proofs.lemmas.Result.{err_from_is_err_and}
 use Rattle.std.proofs.Common.{refl}
 use Rattle.std.specs.Prelude.{chars}
-use Rattle.cfb_rules.specs.Calls.{walk_storage}
+use Rattle.cfb_compound_file.specs.cfb_rules.Calls.{walk_storage}
 use Rattle.cfb_listing.specs.Left.{entries_left}
 use Rattle.cfb_compound_file.proofs.Asked.{refused-at-path, walk-looks}
 use Rattle.cfb_path_changes.proofs.Numbers.{map-split, says-none}

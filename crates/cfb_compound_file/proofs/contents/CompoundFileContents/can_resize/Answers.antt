@@ -1,6 +1,6 @@
 use Rattle.std.proofs.Common.{◌≡◌, ◌∙◌, ap, arith, false, sym, true}
 use Rattle.cfb_format.specs.Bytes.{max_stream_len}
-use Rattle.cfb_content.specs.Contents.{IsTooLongFor}
+use Rattle.cfb_compound_file.specs.cfb_content.Contents.{IsTooLongFor}
 use Rattle.cfb_compound_file.specs.Stored.{stored_of}
 use Rattle.cfb_compound_file.proofs.StoredStreams.{can_have, stream_there}
 use Rattle.cfb_compound_file.proofs.contents.CompoundFileContents.can_resize.Goals as goal

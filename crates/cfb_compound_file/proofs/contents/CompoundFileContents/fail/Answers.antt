@@ -1,6 +1,6 @@
 use Rattle.std.proofs.Common.{ap, subst, sym}
-use Rattle.cfb_mini_sectors.specs.State.{cases_of, entries_of}
-use Rattle.cfb_content.specs.Contents.{IsTooLongFor}
+use Rattle.cfb_compound_file.specs.cfb_mini_sectors.State.{cases_of, entries_of}
+use Rattle.cfb_compound_file.specs.cfb_content.Contents.{IsTooLongFor}
 use Rattle.cfb_agreement.specs.Files.{FileState}
 use Rattle.cfb_compound_file.specs.Stored.{setting_of}
 use Rattle.cfb_compound_file.proofs.StoredStreams.{fails_then, fails_tight, stream_stays}

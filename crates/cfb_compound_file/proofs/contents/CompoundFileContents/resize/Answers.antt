@@ -1,5 +1,5 @@
 use Rattle.std.proofs.Common.{◌≡◌, ◌∙◌, sym, subst}
-use Rattle.cfb_content.specs.Contents.{IsTooLongFor}
+use Rattle.cfb_compound_file.specs.cfb_content.Contents.{IsTooLongFor}
 use Rattle.cfb_agreement.specs.Files.{FileState}
 use Rattle.cfb_compound_file.specs.Flags.{still_is_tight}
 use Rattle.cfb_compound_file.proofs.StoredStreams.{broken_kept, change_refused, changes_in_turn, full_then, resized_done, stream_there}

@@ -1,8 +1,8 @@
 use Rattle.std.proofs.Common.{◌≡◌, ◌≤◌, ◌∙◌, ap, arith, false, length, sym, true}
 use Rattle.cfb_format.specs.Bytes.{max_stream_len}
-use Rattle.cfb_mini_sectors.specs.State.{MiniState, tables_in}
+use Rattle.cfb_compound_file.specs.cfb_mini_sectors.State.{MiniState, tables_in}
 use Rattle.cfb_agreement.specs.Files.{IsFullFile}
-use Rattle.cfb_content.specs.Contents.{len_of}
+use Rattle.cfb_compound_file.specs.cfb_content.Contents.{len_of}
 use Rattle.cfb_compound_file.specs.Flags.{still_is_tight}
 use Rattle.cfb_compound_file.proofs.StoredStreams.{broken_kept, change_refused, changes_in_turn, stream_inside, stream_there, tables_tight, write_done, write_inside, write_same_len}
 use Rattle.cfb_compound_file.proofs.Heeding.{change_keeps_flags}

@@ -7,7 +7,7 @@ use Rattle.cfb_compound_file.specs.StreamAnswers.{open_stream_of}
 use Rattle.cfb_compound_file.proofs.StdStreams.{same_failed}
 use Rattle.cfb_compound_file.proofs.StoredStreams.{changed_once}
 use Rattle.cfb_compound_file.proofs.StreamCalls.{goes_on_by, stays_or_fails}
-use Rattle.cfb_rules.specs.StreamCalls.{fill_buf}
+use Rattle.cfb_compound_file.specs.cfb_rules.StreamCalls.{fill_buf}
 use Rattle.cfb_path_changes.specs.Answers.{causes_of}
 use Rattle.cfb_compound_file.proofs.Heeding.{heeds_by, std_done, std_refused}
 use Rattle.cfb_compound_file.proofs.std_stream.StreamBufRead.fill_buf.Goals as goal

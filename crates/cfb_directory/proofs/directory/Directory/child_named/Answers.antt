@@ -1,7 +1,7 @@
 use Rattle.std.proofs.Common.{ℕ, List, subst, MatchOption}
 use Rattle.std.specs.Prelude.{chars, Contains, IfSome}
 use Rattle.cfb_format.specs.Reading.{IsOutline, Outline, numbers}
-use Rattle.cfb_siblings.specs.Children.{HasChildren, IsAbsent, IsChildNamed}
+use Rattle.cfb_directory.specs.cfb_siblings.Children.{HasChildren, IsAbsent, IsChildNamed}
 use Rattle.cfb_directory.specs.State.{DirectoryState}
 use Rattle.cfb_directory.proofs.directory.Directory.child_named.Goals as goal
 

@@ -1,7 +1,7 @@
 use Rattle.std.proofs.Common.{◌≡◌, ℕ, List, ◌∷◌, sym, subst}
 use Rattle.std.specs.Prelude.{OnOk}
 use Rattle.cfb_format.specs.Reading.{Outline, numbers}
-use Rattle.cfb_outline.specs.Outlines.{HasInside}
+use Rattle.cfb_directory.specs.cfb_outline.Outlines.{HasInside}
 use Rattle.cfb_entries.specs.Clearing.{HasCleared}
 use Rattle.cfb_directory.specs.Clearing.{KeepsSlotsOutside}
 use Rattle.cfb_directory.specs.State.{DirectoryState, HoldsDirectory, directory_of}

@@ -1,6 +1,6 @@
 use Rattle.std.proofs.Common.{subst}
 use Rattle.std.specs.Prelude.{OnOk}
-use Rattle.cfb_siblings.specs.Children.{KeepsBalance}
+use Rattle.cfb_directory.specs.cfb_siblings.Children.{KeepsBalance}
 use Rattle.cfb_directory.specs.State.{DirectoryState, HoldsDirectory, IsFullForEntry}
 use Rattle.cfb_directory.specs.Steps.{KeepsOtherSlots}
 use Rattle.cfb_directory.proofs.directory.Directory.insert_dir_entry.Goals as goal

@@ -4,7 +4,7 @@ use Rattle.std.proofs.lemmas.List.{nil_from_length}
 use Rattle.std.proofs.lemmas.Result.{err_from_is_err_and}
 use Rattle.cfb_format.specs.Bytes.{entries_per_sector}
 use Rattle.cfb_format.specs.DirectoryEntry.{Entry}
-use Rattle.cfb_siblings.proofs.Held.{entries-length}
+use Rattle.cfb_directory.proofs.cfb_siblings.Held.{entries-length}
 use Rattle.cfb_format.proofs.Unique.{IsChain-unique}
 use Rattle.cfb_codecs.proofs.Refusals.{refusal_follows}
 use Rattle.cfb_directory.proofs.DirectoryRefusals.{walk_invalid}

@@ -2,7 +2,7 @@ use Rattle.std.proofs.Common.{◌≡◌, ℕ, List, sym, subst}
 use Rattle.std.specs.Prelude.{OnOk, chars}
 use Rattle.cfb_format.specs.Bytes.{no_stream}
 use Rattle.cfb_format.specs.Siblings.{entry_at}
-use Rattle.cfb_siblings.specs.Children.{HasChildren, IsChildNamed, KeepsBalance}
+use Rattle.cfb_directory.specs.cfb_siblings.Children.{HasChildren, IsChildNamed, KeepsBalance}
 use Rattle.cfb_entries.specs.EntryList.{RemovesEntry}
 use Rattle.cfb_directory.specs.State.{DirectoryState, HoldsDirectory, directory_of}
 use Rattle.cfb_directory.specs.Steps.{KeepsOtherSlots}

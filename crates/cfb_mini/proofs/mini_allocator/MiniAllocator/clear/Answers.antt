@@ -1,9 +1,9 @@
 use Rattle.std.proofs.Common.{◌≡◌, ◌∷◌, sym, subst}
 use Rattle.cfb_format.specs.Reading.{Outline, numbers}
-use Rattle.cfb_outline.specs.Outlines.{HasInside, IsReachedStorage}
-use Rattle.cfb_directory.specs.Clearing.{KeepsSlotsOutside}
-use Rattle.cfb_directory.specs.State.{HoldsDirectory}
-use Rattle.cfb_mini_sectors.specs.State.{HoldsMini, MiniState, cases_of, entries_of}
+use Rattle.cfb_mini.specs.cfb_outline.Outlines.{HasInside, IsReachedStorage}
+use Rattle.cfb_mini.specs.cfb_directory.Clearing.{KeepsSlotsOutside}
+use Rattle.cfb_mini.specs.cfb_directory.State.{HoldsDirectory}
+use Rattle.cfb_mini.specs.cfb_mini_sectors.State.{HoldsMini, MiniState, cases_of, entries_of}
 use Rattle.cfb_mini.proofs.MiniDirectory.{cleared-holds}
 use Rattle.cfb_mini.proofs.mini_allocator.MiniAllocator.clear.Goals as goal
 

@@ -1,12 +1,12 @@
 use Rattle.std.proofs.Common.{◌≡◌, Some, refl, sym, ◌∙◌, subst, drop, arith}
 use Rattle.std.specs.Prelude.{OnOk}
-use Rattle.cfb_alloc.specs.Frame.{Spares}
-use Rattle.cfb_alloc.proofs.Spared.{spares_refl}
-use Rattle.cfb_tables.specs.Clean.{IsUnnamed}
-use Rattle.cfb_tables.specs.Tables.{first_or_end}
-use Rattle.cfb_mini_sectors.specs.State.{HoldsMini, MiniState, table_of}
-use Rattle.cfb_mini_sectors.specs.Steps.{AreStartsUnnamed, BeginsSystem, CanGiveRoomBack, GivesRoomBack, SparesMini, system_sectors}
-use Rattle.cfb_mini_sectors.proofs.MiniFrames.{nothing-touched}
+use Rattle.cfb_mini.specs.cfb_alloc.Frame.{Spares}
+use Rattle.cfb_mini.proofs.cfb_alloc.Spared.{spares_refl}
+use Rattle.cfb_mini.specs.cfb_tables.Clean.{IsUnnamed}
+use Rattle.cfb_mini.specs.cfb_tables.Tables.{first_or_end}
+use Rattle.cfb_mini.specs.cfb_mini_sectors.State.{HoldsMini, MiniState, table_of}
+use Rattle.cfb_mini.specs.cfb_mini_sectors.Steps.{AreStartsUnnamed, BeginsSystem, CanGiveRoomBack, GivesRoomBack, SparesMini, system_sectors}
+use Rattle.cfb_mini.proofs.cfb_mini_sectors.MiniFrames.{nothing-touched}
 use Rattle.cfb_mini_changes.specs.Changing.{mini_of}
 use Rattle.cfb_mini_changes.specs.MiniSectors.{KeepsMiniBytesBut}
 use Rattle.cfb_mini_changes.proofs.LeastAbove.{of-some}

@@ -6,15 +6,15 @@ use Rattle.cfb_format.specs.declared.error.Error.{Error}
 use Rattle.cfb_format.specs.Bytes.{end_of_chain}
 use Rattle.cfb_format.specs.Chain.{IsChain, value}
 use Rattle.cfb_format.specs.Refused.{CountsError}
-use Rattle.cfb_tables.specs.Listed.{ends_of, gained}
-use Rattle.cfb_tables.specs.Refused.{ChangeRefused}
-use Rattle.cfb_tables.specs.Tables.{ending, first_or_end}
-use Rattle.cfb_alloc.proofs.AllocLemmas.{refused-less}
-use Rattle.cfb_alloc.proofs.Spared.{spares_refl}
-use Rattle.cfb_mini_table.specs.MiniTable.{TakesMini}
-use Rattle.cfb_mini_sectors.specs.State.{mini_stream_of, table_of}
-use Rattle.cfb_mini_sectors.specs.Steps.{IsNotHeld, IsTooFewFor, IsZeroMini, SparesMini, StopsShortOrFull}
-use Rattle.cfb_mini_sectors.proofs.MinifatGrown.{same_listed}
+use Rattle.cfb_mini.specs.cfb_tables.Listed.{ends_of, gained}
+use Rattle.cfb_mini.specs.cfb_tables.Refused.{ChangeRefused}
+use Rattle.cfb_mini.specs.cfb_tables.Tables.{ending, first_or_end}
+use Rattle.cfb_mini.proofs.cfb_alloc.AllocLemmas.{refused-less}
+use Rattle.cfb_mini.proofs.cfb_alloc.Spared.{spares_refl}
+use Rattle.cfb_mini.specs.cfb_mini_table.MiniTable.{TakesMini}
+use Rattle.cfb_mini.specs.cfb_mini_sectors.State.{mini_stream_of, table_of}
+use Rattle.cfb_mini.specs.cfb_mini_sectors.Steps.{IsNotHeld, IsTooFewFor, IsZeroMini, SparesMini, StopsShortOrFull}
+use Rattle.cfb_mini.proofs.cfb_mini_sectors.MinifatGrown.{same_listed}
 use Rattle.cfb_mini.proofs.MiniBegun.{ends-at, ends-here}
 use Rattle.cfb_mini.proofs.MiniWritten.{spares-mini-refl}
 use Rattle.cfb_mini.proofs.mini_allocator.MiniAllocator.extend_mini_chain_by.Goals as goal

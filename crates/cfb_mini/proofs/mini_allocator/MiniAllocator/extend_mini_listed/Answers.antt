@@ -1,13 +1,13 @@
 use Rattle.std.proofs.Common.{◌≡◌, [], ◌++◌, Some, refl, sym, ◌∙◌, subst}
-use Rattle.cfb_alloc.specs.Frame.{Spares}
-use Rattle.cfb_alloc.proofs.Spared.{spares_refl}
-use Rattle.cfb_tables.specs.Listed.{ends_of, gained}
-use Rattle.cfb_mini_sectors.specs.State.{HoldsMini, MiniState, mini_stream_of, table_of}
-use Rattle.cfb_mini_sectors.specs.Steps.{SparesMini, system_sectors}
-use Rattle.cfb_mini_sectors.proofs.MinifatGrown.{same_listed}
-use Rattle.cfb_mini_sectors.proofs.MiniFrames.{nothing-touched}
+use Rattle.cfb_mini.specs.cfb_alloc.Frame.{Spares}
+use Rattle.cfb_mini.proofs.cfb_alloc.Spared.{spares_refl}
+use Rattle.cfb_mini.specs.cfb_tables.Listed.{ends_of, gained}
+use Rattle.cfb_mini.specs.cfb_mini_sectors.State.{HoldsMini, MiniState, mini_stream_of, table_of}
+use Rattle.cfb_mini.specs.cfb_mini_sectors.Steps.{SparesMini, system_sectors}
+use Rattle.cfb_mini.proofs.cfb_mini_sectors.MinifatGrown.{same_listed}
+use Rattle.cfb_mini.proofs.cfb_mini_sectors.MiniFrames.{nothing-touched}
 use Rattle.cfb_mini_changes.specs.Changing.{mini_of}
-use Rattle.cfb_mini_changes.specs.MiniSectors.{IsWhole, KeepsMiniBytesBut}
+use Rattle.cfb_mini_changes.specs.MiniSectors.{IsOfWholeSectors, KeepsMiniBytesBut}
 use Rattle.cfb_mini_changes.proofs.MiniExtended.{some-items}
 use Rattle.cfb_mini_changes.proofs.LeastAbove.{of-some}
 use Rattle.cfb_mini.proofs.mini_allocator.MiniAllocator.extend_mini_listed.Goals as goal
@@ -45,7 +45,7 @@ returns-clause-whole g c told validation h was =
     let s = mini_of inside.directory inside.table inside.minifat_sectors.items (Some c.in-Some.stream.items) in
     let kept = sym (some-items inside.mini_stream c.in-Some.stream c.in-Some.is (λ v. v.items)) in
     let old : s ≡ c.args.self.now = (λ j. mini_of inside.directory inside.table inside.minifat_sectors.items (kept j)) ∙ c.self.view_is in
-    c.extend_listed.ensures.whole told validation (subst (HoldsMini validation) (sym old) h) (subst (λ (x : MiniState). IsWhole (table_of x)) (sym old) was)
+    c.extend_listed.ensures.whole told validation (subst (HoldsMini validation) (sym old) h) (subst (λ (x : MiniState). IsOfWholeSectors (table_of x)) (sym old) was)
 
 pub returns-clause-mini_spares : goal.returns-clause-mini_spares
 returns-clause-mini_spares g c told validation h =

@@ -1,19 +1,19 @@
 use Rattle.std.proofs.Common.{ℕ, List, [], refl, subst, arith}
 use Rattle.std.specs.Prelude.{Contains, OnOk}
 use Rattle.cfb_format.proofs.Unique.{IsChain-unique}
-use Rattle.cfb_tables.specs.Clean.{IsUnnamed}
-use Rattle.cfb_tables.proofs.ChainLemmas.{chain_of}
-use Rattle.cfb_alloc.proofs.Listed.{not_in_nil}
-use Rattle.cfb_alloc.proofs.Spared.{spares_refl}
-use Rattle.cfb_mini_table.proofs.StateLemmas.{chain-start}
-use Rattle.cfb_mini_sectors.specs.Steps.{IsInMiniStream, IsZeroMini, SparesMini}
-use Rattle.cfb_mini_sectors.proofs.MiniStreams.{empty_chain}
+use Rattle.cfb_mini.specs.cfb_tables.Clean.{IsUnnamed}
+use Rattle.cfb_mini.proofs.cfb_alloc.Spared.{spares_refl}
+use Rattle.cfb_mini.proofs.cfb_mini_table.StateLemmas.{chain-start}
+use Rattle.cfb_mini.specs.cfb_mini_sectors.Steps.{IsInMiniStream, IsZeroMini, SparesMini}
+use Rattle.cfb_mini.proofs.cfb_mini_sectors.MiniStreams.{empty_chain}
 use Rattle.cfb_mini_changes.specs.MiniSectors.{KeepsMiniBytesBut}
 use Rattle.cfb_mini.proofs.MiniBehind.{chain-some}
 use Rattle.cfb_mini_changes.proofs.MiniCut.{cut-nothing}
 use Rattle.cfb_mini_changes.proofs.MiniGiven.{begins-refl}
 use Rattle.cfb_mini.proofs.MiniWritten.{spares-mini-refl}
 use Rattle.cfb_mini.proofs.mini_allocator.MiniAllocator.free_mini_chain.Goals as goal
+use Rattle.cfb_format.proofs.Walks.{chain_of}
+use Rattle.cfb_format.proofs.Members.{Contains-nil}
 
 pub returns-then-start-eq-END_OF_CHAIN-clause-freed : goal.returns-then-start-eq-END_OF_CHAIN-clause-freed
 returns-then-start-eq-END_OF_CHAIN-clause-freed g c =
@@ -28,7 +28,7 @@ returns-then-start-eq-END_OF_CHAIN-clause-wiped g c told validation h list chain
     let minifat = c.args.self.now.minifat in
     let start = c.args.start in
     let none = IsChain-unique minifat start list [] chain (chain_of minifat start [] c.if-start-eq-END_OF_CHAIN.true) in
-    absurd (not_in_nil m (subst (λ (l : List ℕ). Contains l m) none among))
+    absurd (Contains-nil m (subst (λ (l : List ℕ). Contains l m) none among))
 
 pub returns-then-start-eq-END_OF_CHAIN-clause-spares : goal.returns-then-start-eq-END_OF_CHAIN-clause-spares
 returns-then-start-eq-END_OF_CHAIN-clause-spares g c told = spares_refl _ _

@@ -3,15 +3,15 @@ use Rattle.std.specs.Prelude.{Contains, OnOk}
 use Rattle.std.proofs.lemmas.Result.{on_ok_weaker}
 use Rattle.cfb_format.specs.Chain.{IsChain}
 use Rattle.cfb_format.proofs.Unique.{IsChain-unique}
-use Rattle.cfb_tables.proofs.ChainLemmas.{chain_of}
-use Rattle.cfb_alloc.proofs.Spared.{spares_refl}
-use Rattle.cfb_mini_sectors.specs.Steps.{IsInMiniStream, IsZeroMini, SparesMini}
+use Rattle.cfb_mini.proofs.cfb_alloc.Spared.{spares_refl}
+use Rattle.cfb_mini.specs.cfb_mini_sectors.Steps.{IsInMiniStream, IsZeroMini, SparesMini}
 use Rattle.cfb_mini_changes.specs.MiniSectors.{KeepsMiniBytesBut}
 use Rattle.cfb_mini.proofs.MiniBehind.{begun-at, cut-behind, ends-at-start, goes-behind, on_ok_then, still-some}
 use Rattle.cfb_mini_changes.proofs.MiniExtended.{invalid-refused}
 use Rattle.cfb_mini_changes.proofs.MiniGiven.{begins-refl}
 use Rattle.cfb_mini.proofs.MiniWritten.{spares-mini-refl}
 use Rattle.cfb_mini.proofs.mini_allocator.MiniAllocator.free_mini_chain_after.Goals as goal
+use Rattle.cfb_format.proofs.Walks.{chain_of}
 
 pub returns-then-mini-eq-END_OF_CHAIN-clause-stays : goal.returns-then-mini-eq-END_OF_CHAIN-clause-stays
 returns-then-mini-eq-END_OF_CHAIN-clause-stays g c = begins-refl c.args.self.now c.args.self.now refl refl

@@ -1,11 +1,11 @@
 use Rattle.std.proofs.Common.{sym, subst}
 use Rattle.std.specs.Prelude.{OnOk, chars}
 use Rattle.cfb_codecs.specs.EntryModel.{new_entry}
-use Rattle.cfb_outline.specs.Outlines.{IsReachedStorage}
-use Rattle.cfb_siblings.specs.Children.{KeepsBalance}
-use Rattle.cfb_directory.specs.State.{HoldsDirectory, IsFullForEntry}
-use Rattle.cfb_directory.specs.Steps.{KeepsOtherSlots, StaysRedApart}
-use Rattle.cfb_mini_sectors.specs.State.{HoldsMini, MiniState}
+use Rattle.cfb_mini.specs.cfb_outline.Outlines.{IsReachedStorage}
+use Rattle.cfb_mini.specs.cfb_siblings.Children.{KeepsBalance}
+use Rattle.cfb_mini.specs.cfb_directory.State.{HoldsDirectory, IsFullForEntry}
+use Rattle.cfb_mini.specs.cfb_directory.Steps.{KeepsOtherSlots, StaysRedApart}
+use Rattle.cfb_mini.specs.cfb_mini_sectors.State.{HoldsMini, MiniState}
 use Rattle.cfb_mini.proofs.MiniDirectory.{inserted-holds}
 use Rattle.cfb_mini.proofs.mini_allocator.MiniAllocator.insert_dir_entry.Goals as goal
 

@@ -2,12 +2,12 @@ use Rattle.std.proofs.Common.{◌≡◌, ℕ, List, sym, subst}
 use Rattle.std.specs.Prelude.{OnOk, chars}
 use Rattle.cfb_format.specs.Bytes.{no_stream}
 use Rattle.cfb_format.specs.Siblings.{entry_at}
-use Rattle.cfb_outline.specs.Outlines.{IsReachedStorage}
-use Rattle.cfb_siblings.specs.Children.{HasChildren, IsChildNamed, KeepsBalance}
-use Rattle.cfb_entries.specs.EntryList.{RemovesEntry}
-use Rattle.cfb_directory.specs.State.{HoldsDirectory}
-use Rattle.cfb_directory.specs.Steps.{KeepsOtherSlots}
-use Rattle.cfb_mini_sectors.specs.State.{HoldsMini, MiniState}
+use Rattle.cfb_mini.specs.cfb_outline.Outlines.{IsReachedStorage}
+use Rattle.cfb_mini.specs.cfb_siblings.Children.{HasChildren, IsChildNamed, KeepsBalance}
+use Rattle.cfb_mini.specs.cfb_entries.EntryList.{RemovesEntry}
+use Rattle.cfb_mini.specs.cfb_directory.State.{HoldsDirectory}
+use Rattle.cfb_mini.specs.cfb_directory.Steps.{KeepsOtherSlots}
+use Rattle.cfb_mini.specs.cfb_mini_sectors.State.{HoldsMini, MiniState}
 use Rattle.cfb_mini.proofs.MiniDirectory.{removed-holds}
 use Rattle.cfb_mini.proofs.mini_allocator.MiniAllocator.remove_dir_entry.Goals as goal
 

@@ -1,11 +1,11 @@
 use Rattle.std.proofs.Common.{◌≡◌, ◌<◌, sym, subst, length}
 use Rattle.cfb_format.specs.DirectoryEntry.{IsValidEntry}
 use Rattle.cfb_format.specs.Siblings.{entry_at}
-use Rattle.cfb_entries.specs.declared.fields.Fields.{Fields}
-use Rattle.cfb_entries.specs.Fields.{fields_in, entry_with_fields}
-use Rattle.cfb_directory.specs.State.{HoldsDirectory}
-use Rattle.cfb_directory.specs.Steps.{KeepsSlotsBut}
-use Rattle.cfb_mini_sectors.specs.State.{HoldsMini, MiniState, root_len_of, version_of}
+use Rattle.cfb_mini.specs.cfb_entries.declared.fields.Fields.{Fields}
+use Rattle.cfb_mini.specs.cfb_entries.Fields.{fields_in, entry_with_fields}
+use Rattle.cfb_mini.specs.cfb_directory.State.{HoldsDirectory}
+use Rattle.cfb_mini.specs.cfb_directory.Steps.{KeepsSlotsBut}
+use Rattle.cfb_mini.specs.cfb_mini_sectors.State.{HoldsMini, MiniState, root_len_of, version_of}
 use Rattle.cfb_mini.proofs.MiniDirectory.{fields-holds}
 use Rattle.cfb_mini.proofs.mini_allocator.MiniAllocator.with_dir_entry_mut.Goals as goal
 

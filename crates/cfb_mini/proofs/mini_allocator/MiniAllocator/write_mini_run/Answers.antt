@@ -2,11 +2,11 @@ use Rattle.std.proofs.Common.{◌≡◌, ◌<◌, ◌+◌, ◌*◌, ◌/◌, ◌
 use Rattle.std.specs.Prelude.{OnOk}
 use Rattle.std.proofs.lemmas.List.Elements.{Contains-append_cases}
 use Rattle.cfb_format.specs.Bytes.{sector_len}
-use Rattle.cfb_alloc.specs.Alloc.{AllocatorState}
-use Rattle.cfb_alloc.proofs.Spared.{spares_refl}
-use Rattle.cfb_mini_sectors.specs.State.{HoldsMini, MiniState, mini_stream_of, table_of}
-use Rattle.cfb_mini_sectors.specs.Steps.{SparesMini}
-use Rattle.cfb_mini_sectors.specs.Held.{with_table}
+use Rattle.cfb_mini.specs.cfb_alloc.Alloc.{AllocatorState}
+use Rattle.cfb_mini.proofs.cfb_alloc.Spared.{spares_refl}
+use Rattle.cfb_mini.specs.cfb_mini_sectors.State.{HoldsMini, MiniState, mini_stream_of, table_of}
+use Rattle.cfb_mini.specs.cfb_mini_sectors.Steps.{SparesMini}
+use Rattle.cfb_mini.specs.cfb_mini_sectors.Held.{with_table}
 use Rattle.cfb_mini.specs.MiniRuns.{ChangesMiniStretch}
 use Rattle.cfb_mini.proofs.MiniPieces.{stream-is, write-holds}
 use Rattle.cfb_mini.proofs.MiniStretches.{answered_stretch, change_of_run, header_stays, stretch_first, stretch_of_run, stretch_spares}

@@ -1,6 +1,6 @@
 use Rattle.std.proofs.Common.{arith, rules}
-use Rattle.cfb_alloc.proofs.Spared.{spares_refl}
-use Rattle.cfb_sectors.proofs.SectorLemmas.{Stays_refl}
+use Rattle.cfb_mini_chains.proofs.cfb_alloc.Spared.{spares_refl}
+use Rattle.cfb_mini_chains.proofs.cfb_sectors.SectorLemmas.{Stays_refl}
 use Rattle.cfb_mini_sectors.specs.State.{table_of}
 use Rattle.cfb_mini_sectors.specs.Steps.{system_sectors}
 use Rattle.cfb_mini.proofs.MiniWritten.{spares-mini-refl}

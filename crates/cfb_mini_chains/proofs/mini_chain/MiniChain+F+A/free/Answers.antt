@@ -1,4 +1,4 @@
-use Rattle.cfb_alloc.proofs.Answering.{on_ok}
+use Rattle.cfb_mini_chains.proofs.cfb_alloc.Answering.{on_ok}
 use Rattle.cfb_mini_chains.proofs.mini_chain.MiniChain+F+A.free.Goals as goal
 
 pub returns-clause-ids : goal.returns-clause-ids

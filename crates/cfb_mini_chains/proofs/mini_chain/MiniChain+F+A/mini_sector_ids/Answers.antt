@@ -1,4 +1,4 @@
-use Rattle.cfb_alloc.proofs.ChainView.{found_chain}
+use Rattle.cfb_mini_chains.proofs.cfb_alloc.ChainView.{found_chain}
 use Rattle.cfb_mini_chains.proofs.mini_chain.MiniChain+F+A.mini_sector_ids.Goals as goal
 
 pub returns-clause-chained : goal.returns-clause-chained

@@ -1,4 +1,4 @@
-use Rattle.cfb_alloc.proofs.ChainView.{chain_few, chain_found}
+use Rattle.cfb_mini_chains.proofs.cfb_alloc.ChainView.{chain_few, chain_found}
 use Rattle.cfb_mini_chains.proofs.mini_chain.MiniChain+F+A.new.Goals as goal
 
 pub invariant_of-result-clause-few : goal.invariant_of-result-clause-few

@@ -1,15 +1,14 @@
-use Rattle.std.proofs.Common.{inl, inr, ◌≡◌, ◌<◌, ◌≤◌, ◌-◌, ◌*◌, ◌/◌, ◌%◌, ◌∙◌, ◌⊎◌, ℕ, List, [], ◌∷◌, length, drop, ap, sym, subst, arith, length-take}
-use Rattle.std.specs.Prelude.{IfErr, Contains, Option, unwrap_or}
+use Rattle.std.proofs.Common.{inl, inr, ◌≡◌, ◌-◌, ◌/◌, ◌%◌, ◌∙◌, ℕ, List, [], ◌∷◌, length, drop, ap, sym, subst, arith, length-take}
+use Rattle.std.specs.Prelude.{IfErr, Contains}
 use Rattle.std.proofs.lemmas.Bool.{cases_lt}
 use Rattle.std.proofs.lemmas.Result.{err_from_is_err_and}
 use Rattle.cfb_format.specs.Full.{rounded_up}
-use Rattle.cfb_sectors.specs.Sectors.{SectorFile}
-use Rattle.cfb_sectors.proofs.SectorLemmas.{Stays_refl}
+use Rattle.cfb_mini_chains.specs.cfb_sectors.Sectors.{SectorFile}
+use Rattle.cfb_mini_chains.proofs.cfb_sectors.SectorLemmas.{Stays_refl}
 use Rattle.cfb_tables.specs.Listed.{gained}
 use Rattle.cfb_tables.specs.Refused.{ChangeRefused}
-use Rattle.cfb_tables.proofs.Members.{Contains-nil, Contains-one}
-use Rattle.cfb_alloc.proofs.Answering.{all_ok, on_both, on_ok}
-use Rattle.cfb_alloc.proofs.Spared.{spares_refl}
+use Rattle.cfb_mini_chains.proofs.cfb_alloc.Answering.{all_ok, on_both, on_ok}
+use Rattle.cfb_mini_chains.proofs.cfb_alloc.Spared.{spares_refl}
 use Rattle.cfb_chains.proofs.ChainWrites.{on_if}
 use Rattle.cfb_mini_sectors.specs.State.{MiniState, bytes_of, mini_stream_of, table_of, version_of}
 use Rattle.cfb_mini.specs.MiniSectors.{ShortensMini}
@@ -26,6 +25,7 @@ use Rattle.cfb_mini_chains.proofs.MiniChainPlaces.{behind_header, kept_own, mini
 use Rattle.cfb_mini_chains.proofs.MiniChainLists.{dropped_more, none_dropped}
 use Rattle.cfb_mini_chains.proofs.MiniChainSteps.{cut_bytes, cut_start, no_err, not_held, only_medium, only_when, shortened_then_file, some_left, tail_placed}
 use Rattle.cfb_mini_chains.proofs.mini_chain.MiniChain+F+A.set_len.Goals as goal
+use Rattle.cfb_format.proofs.Members.{Contains-nil, Contains-one}
 
 pub returns-then-mini_sectors-have-clause-places : goal.returns-then-mini_sectors-have-clause-places
 returns-then-mini_sectors-have-clause-places g c told validation h =

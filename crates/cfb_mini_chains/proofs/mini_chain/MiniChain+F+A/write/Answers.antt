@@ -3,8 +3,7 @@ use Rattle.std.specs.Prelude.{MatchResult}
 use Rattle.std.proofs.lemmas.Result.{err_from_is_err_and}
 use Rattle.cfb_format.specs.Refused.{CountsFailure}
 use Rattle.cfb_tables.specs.Listed.{gained}
-use Rattle.cfb_tables.proofs.Members.{Contains-nil}
-use Rattle.cfb_alloc.proofs.Answering.{all_ok}
+use Rattle.cfb_mini_chains.proofs.cfb_alloc.Answering.{all_ok}
 use Rattle.cfb_chains.proofs.ChainWrites.{if_ok}
 use Rattle.cfb_mini_sectors.specs.State.{mini_stream_of, table_of}
 use Rattle.cfb_mini_sectors.specs.Steps.{StopsShortOrFull}
@@ -16,6 +15,7 @@ use Rattle.cfb_mini_chains.proofs.MiniChainBytes.{grown_written, zero_or_more}
 use Rattle.cfb_mini_chains.proofs.MiniChainFrames.{directory_then_file, grown_spared, still_busy, stream_spared}
 use Rattle.cfb_mini_chains.proofs.MiniChainSteps.{begun_of, gained_own, grown_placed, header_wanted, left_after, lengthened_then_file, no_err, not_held, only_medium, others_then, refused_for}
 use Rattle.cfb_mini_chains.proofs.mini_chain.MiniChain+F+A.write.Goals as goal
+use Rattle.cfb_format.proofs.Members.{Contains-nil}
 
 pub returns-then-missing-eq0-clause-spares : goal.returns-then-missing-eq0-clause-spares
 returns-then-missing-eq0-clause-spares g c told = stream_spared (state_of c.args.self.now) (state_of c.write_within.new.self) (c.write_within.ensures.spares told)

@@ -1,6 +1,6 @@
 use Rattle.std.proofs.Common.{◌≡◌, [], ◌∷◌, subst}
 use Rattle.std.specs.Prelude.{IfErr}
-use Rattle.cfb_alloc.proofs.Spared.{spares_refl}
+use Rattle.cfb_mini_chains.proofs.cfb_alloc.Spared.{spares_refl}
 use Rattle.cfb_tables.specs.Refused.{ChangeRefused}
 use Rattle.cfb_mini.specs.MiniSectors.{HasMiniSector}
 use Rattle.cfb_mini_sectors.specs.State.{mini_stream_of, table_of}

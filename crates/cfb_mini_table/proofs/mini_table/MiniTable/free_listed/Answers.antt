@@ -3,8 +3,8 @@ use Rattle.std.proofs.lemmas.Bool.{eqb-true, eqb-false}
 use Rattle.std.proofs.lemmas.List.{nil_from_length}
 use Rattle.cfb_mini_table.specs.MiniTable.{MiniGivesBack}
 use Rattle.cfb_mini_table.proofs.FreedLemmas.{gives-none, mini-freed, freed-is}
-use Rattle.cfb_tables.proofs.Members.{Contains-nil}
 use Rattle.cfb_mini_table.proofs.mini_table.MiniTable.free_listed.Goals as goal
+use Rattle.cfb_format.proofs.Members.{Contains-nil}
 
 pub returns-then-is_empty-clause-freed : goal.returns-then-is_empty-clause-freed
 returns-then-is_empty-clause-freed g c =

@@ -1,7 +1,7 @@
 use Rattle.std.proofs.Common.{◌≡◌, ◌+◌, ◌-◌, ◌∙◌, length, drop, arith, sym, ap, refl}
 use Rattle.std.proofs.lemmas.List.{drop_all}
 use Rattle.std.proofs.lemmas.Result.{err_from_is_err_and}
-use Rattle.cfb_rules.specs.StreamCalls.{fill_buf}
+use Rattle.cfb_stream_window.specs.cfb_rules.StreamCalls.{fill_buf}
 use Rattle.cfb_stream_window.specs.Answers.{IsOpen, IsReady}
 use Rattle.cfb_stream_window.specs.Windows.{Window}
 use Rattle.cfb_stream_window.proofs.Reading.{nothing_lent, lent_runs, refused_fill}

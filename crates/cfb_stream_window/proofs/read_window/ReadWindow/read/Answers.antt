@@ -1,6 +1,6 @@
 use Rattle.std.proofs.Common.{◌+◌, ◌-◌, ◌∙◌, length, take, drop, arith, sym, ap, refl}
 use Rattle.std.proofs.lemmas.Result.{err_from_is_err_and}
-use Rattle.cfb_rules.specs.StreamCalls.{read}
+use Rattle.cfb_stream_window.specs.cfb_rules.StreamCalls.{read}
 use Rattle.cfb_stream_window.specs.Answers.{IsOpen, IsReady}
 use Rattle.cfb_stream_window.specs.Windows.{Window}
 use Rattle.cfb_stream_window.proofs.Reading.{empty_read, end_read, read_runs, past_runs, refused_read, not_empty, is_empty_from}

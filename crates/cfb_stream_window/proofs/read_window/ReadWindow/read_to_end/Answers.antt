@@ -1,7 +1,7 @@
 use Rattle.std.proofs.Common.{◌∙◌, true, length, drop, ap, sym, subst, refl, inl, inr}
 use Rattle.std.proofs.lemmas.Result.{err_from_is_err_and}
 use Rattle.cfb_format.specs.Refused.{IsMemory}
-use Rattle.cfb_rules.specs.StreamCalls.{read_to_end, got}
+use Rattle.cfb_stream_window.specs.cfb_rules.StreamCalls.{read_to_end, got}
 use Rattle.cfb_stream_window.specs.Answers.{IsOpen, IsReady, RunsReading, IsRefusedReading}
 use Rattle.cfb_stream_window.specs.Windows.{Window, LiesOver}
 use Rattle.cfb_stream_window.proofs.Breaking.{calm_reads, read_broken}

@@ -1,5 +1,5 @@
 use Rattle.std.proofs.Common.{◌+◌, ◌∙◌, ap, sym, refl, inl}
-use Rattle.cfb_rules.specs.StreamCalls.{seek}
+use Rattle.cfb_stream_window.specs.cfb_rules.StreamCalls.{seek}
 use Rattle.cfb_stream_window.specs.Answers.{IsOpen}
 use Rattle.cfb_stream_window.specs.Windows.{Window, target_of, whence_of}
 use Rattle.cfb_stream_window.proofs.Reading.{nowhere_runs, went_runs}

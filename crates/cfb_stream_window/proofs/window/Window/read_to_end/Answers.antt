@@ -1,7 +1,7 @@
 use Rattle.std.proofs.Common.{◌∙◌, true, ap, sym, refl, inl, inr}
 use Rattle.std.proofs.lemmas.Result.{err_from_is_err_and}
 use Rattle.cfb_format.specs.Refused.{IsMemory}
-use Rattle.cfb_rules.specs.StreamCalls.{read_to_end}
+use Rattle.cfb_stream_window.specs.cfb_rules.StreamCalls.{read_to_end}
 use Rattle.cfb_stream_window.specs.Answers.{IsOpen, IsReady}
 use Rattle.cfb_stream_window.specs.Windows.{Window}
 use Rattle.cfb_stream_window.proofs.Breaking.{read_broken}

@@ -1,6 +1,6 @@
 use Rattle.std.proofs.Common.{◌≢◌, ◌≤◌, ◌∙◌, sym, ap, arith, refl, inl}
 use Rattle.std.proofs.lemmas.Result.{err_from_is_err_and}
-use Rattle.cfb_rules.specs.StreamCalls.{set_len}
+use Rattle.cfb_stream_window.specs.cfb_rules.StreamCalls.{set_len}
 use Rattle.cfb_stream_window.specs.Answers.{IsOpen, IsReady}
 use Rattle.cfb_stream_window.specs.Windows.{Window, IsMemoryOrFull}
 use Rattle.cfb_stream_window.proofs.Breaking.{length_broken}

@@ -2,8 +2,8 @@ use Rattle.std.proofs.Common.{◌≡◌, ◌<◌, ◌≤◌, ◌+◌, ◌∙◌,
 use Rattle.std.proofs.lemmas.List.{take-take}
 use Rattle.std.proofs.lemmas.Result.{err_from_is_err_and}
 use Rattle.cfb_format.specs.Refused.{IsMemory}
-use Rattle.cfb_rules.specs.Runs.{any_cause}
-use Rattle.cfb_rules.specs.StreamCalls.{write}
+use Rattle.cfb_stream_window.specs.cfb_rules.Runs.{any_cause}
+use Rattle.cfb_stream_window.specs.cfb_rules.StreamCalls.{write}
 use Rattle.cfb_stream_window.specs.Answers.{IsOpen, IsReady}
 use Rattle.cfb_stream_window.proofs.InTurn.{once_between}
 use Rattle.cfb_stream_window.proofs.Reading.{not_empty, is_empty_from}

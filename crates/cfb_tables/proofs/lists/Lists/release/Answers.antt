@@ -2,10 +2,10 @@ use Rattle.std.proofs.Common.{◌≢◌, arith, length-set}
 use Rattle.cfb_format.specs.Bytes.{free_sector}
 use Rattle.cfb_format.specs.Chain.{value}
 use Rattle.cfb_tables.specs.Tables.{tables_of}
-use Rattle.cfb_tables.proofs.Members.{value-below}
 use Rattle.cfb_tables.proofs.KeptLemmas.{kept-push}
 use Rattle.cfb_tables.proofs.ListedLemmas.{fewer-free}
 use Rattle.cfb_tables.proofs.lists.Lists.release.Goals as goal
+use Rattle.cfb_format.proofs.Walks.{value-below}
 
 pub push_reserved-requires : goal.push_reserved-requires
 push_reserved-requires g c =

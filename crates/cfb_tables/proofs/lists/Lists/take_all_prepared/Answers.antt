@@ -1,11 +1,11 @@
 use Rattle.std.proofs.Common.{◌≡◌, ℕ, suc, ◌-◌, List, [], ◌∷◌, ◌++◌, refl, sym, ◌∙◌, ap, subst, arith}
 use Rattle.cfb_tables.specs.Tables.{IsPrepared, HasTaken, first_or_end}
 use Rattle.cfb_format.specs.Chain.{IsChain}
-use Rattle.cfb_tables.proofs.ChainLemmas.{chain_of}
 use Rattle.cfb_tables.proofs.TakenLemmas.{taken-nothing}
 use Rattle.cfb_tables.proofs.PreparedLemmas.{prepared-held, prepared-short, prepared-next, sizes-next, is-next}
 use Rattle.cfb_tables.proofs.AttachLemmas.{begun-taken, begun-chain}
 use Rattle.cfb_tables.proofs.lists.Lists.take_all_prepared.Goals as goal
+use Rattle.cfb_format.proofs.Walks.{chain_of}
 
 pub take_prepared-first-requires-clause-held : goal.take_prepared-first-requires-clause-held
 take_prepared-first-requires-clause-held g c none =

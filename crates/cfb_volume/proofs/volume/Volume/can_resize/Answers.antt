@@ -2,8 +2,8 @@ use Rattle.std.proofs.Common.{◌≡◌, ◌≢◌, ◌≤◌, Bool, sym, subst}
 use Rattle.std.specs.Prelude.{IfOk, IsTrue, ◌↔◌}
 use Rattle.cfb_format.specs.declared.validate.Validation.TheVariants.{Permissive}
 use Rattle.cfb_format.specs.Bytes.{max_stream_len}
-use Rattle.cfb_mini_sectors.specs.State.{IsChangeable, version_of}
-use Rattle.cfb_content.specs.Contents.{IsStreamOf, IsTooLongFor, len_of}
+use Rattle.cfb_volume.specs.cfb_mini_sectors.State.{IsChangeable, version_of}
+use Rattle.cfb_volume.specs.cfb_content.Contents.{IsStreamOf, IsTooLongFor, len_of}
 use Rattle.cfb_agreement.specs.Files.{FileState}
 use Rattle.cfb_volume.proofs.Refusals.{refused-for-memory}
 use Rattle.cfb_volume.proofs.volume.Volume.can_resize.Goals as goal

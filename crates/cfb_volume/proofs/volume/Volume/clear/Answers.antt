@@ -5,15 +5,15 @@ use Rattle.cfb_format.specs.declared.validate.Validation.TheVariants.{Permissive
 use Rattle.cfb_format.specs.Reading.{IsOutline, Outline, numbers, stream_numbers}
 use Rattle.cfb_format.specs.Refused.{AfterMedium}
 use Rattle.cfb_outline.specs.Outlines.{HasInside, IsReachedStorage}
-use Rattle.cfb_siblings.specs.Paths.{number_from}
-use Rattle.cfb_tables.specs.Refused.{ChangeRefused}
-use Rattle.cfb_alloc.specs.Frame.{Spares}
-use Rattle.cfb_directory.specs.Steps.{IsDirectoryNotHeld, KeepsWholeHeader}
-use Rattle.cfb_objects.specs.Laws.{BecomesTree}
-use Rattle.cfb_mini_sectors.specs.State.{HoldsMini, MiniState, bytes_of, cases_of, entries_of, table_of}
-use Rattle.cfb_mini_sectors.specs.Steps.{KeepsMini, StopsShort}
-use Rattle.cfb_content.specs.Contents.{KeepsFixedHeader, len_of}
-use Rattle.cfb_content.proofs.FixedHeader.{spared-keeps-header}
+use Rattle.cfb_volume.specs.cfb_siblings.Paths.{number_from}
+use Rattle.cfb_volume.specs.cfb_tables.Refused.{ChangeRefused}
+use Rattle.cfb_volume.specs.cfb_alloc.Frame.{Spares}
+use Rattle.cfb_volume.specs.cfb_directory.Steps.{IsDirectoryNotHeld, KeepsWholeHeader}
+use Rattle.cfb_volume.specs.cfb_objects.Laws.{BecomesTree}
+use Rattle.cfb_volume.specs.cfb_mini_sectors.State.{HoldsMini, MiniState, bytes_of, cases_of, entries_of, table_of}
+use Rattle.cfb_volume.specs.cfb_mini_sectors.Steps.{KeepsMini, StopsShort}
+use Rattle.cfb_volume.specs.cfb_content.Contents.{KeepsFixedHeader, len_of}
+use Rattle.cfb_volume.proofs.cfb_content.FixedHeader.{spared-keeps-header}
 use Rattle.cfb_agreement.specs.Changes.{KeepsStreams}
 use Rattle.cfb_agreement.specs.Files.{Agrees, FileState, Holds, IsAsMade, is_failed}
 use Rattle.cfb_entry_changes.specs.Clearing.{ClearsStorage}

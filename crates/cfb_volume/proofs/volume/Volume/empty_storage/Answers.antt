@@ -6,9 +6,9 @@ use Rattle.cfb_format.specs.DirectoryEntry.{Entry}
 use Rattle.cfb_format.specs.Reading.{numbers}
 use Rattle.cfb_outline.specs.Outlines.{HasInside, IsReachedStorage}
 use Rattle.cfb_outline.proofs.Insides.{storage-is-inside}
-use Rattle.cfb_mini_sectors.specs.State.{cases_of, entries_of}
+use Rattle.cfb_volume.specs.cfb_mini_sectors.State.{cases_of, entries_of}
 use Rattle.cfb_agreement.specs.Files.{FileState, failures_of}
-use Rattle.cfb_volume.specs.Clearing.{BreaksOff, EmptiesStorage, EmptiesStreams, KeepsStreamsBeside, KeepsStreamsBut}
+use Rattle.cfb_volume.specs.Clearing.{ClearingBreaksOff, EmptiesStorage, EmptiesStreams, KeepsStreamsBeside, KeepsStreamsBut}
 use Rattle.cfb_volume.proofs.EmptiedStorages.{all-still, beside-but, empties-storage, empty-now, others-then, storage-still}
 use Rattle.cfb_volume.proofs.EmptiedStreams.{kept-stream}
 use Rattle.cfb_volume.proofs.Insides.{inside-among}
@@ -122,7 +122,7 @@ returns-in_err-hand_on-clause-refused g c =
     let handed = hand-err step c.hand_on.new.self c.in_ok-some.some c.clear-cleared.result c.hand_on.ensures.fails e is in
     let p = err_from_is_err_and c.from_residual-in_err-hand_on.result c.from_residual-in_err-hand_on.ensures.1 in
     let faults : MediumFault → Bool = λ f. g.F.ReadMedium.read_faults f || g.F.Medium.write_faults f in
-    let broke : BreaksOff g.F.ReadMedium.tells faults mid step e = record {
+    let broke : ClearingBreaksOff g.F.ReadMedium.tells faults mid step e = record {
       setting = w.setting;
       header = λ told held. w.header told;
       agrees = λ told held. w.agrees told held;
@@ -131,7 +131,7 @@ returns-in_err-hand_on-clause-refused g c =
       counts = λ told. counts-of-write g.F.ReadMedium.read_faults g.F.Medium.write_faults (failures_of mid) (failures_of step) e
           (step-err-counts g.F.Medium.write_faults (failures_of mid) (failures_of step) c.clear-cleared.result e is (w.counts told));
     } in
-    rw (p.1, p.2) (subst (λ (f : FileState). BreaksOff g.F.ReadMedium.tells faults start f e) (sym handed)
+    rw (p.1, p.2) (subst (λ (f : FileState). ClearingBreaksOff g.F.ReadMedium.tells faults start f e) (sym handed)
     (broke-off g.F.ReadMedium.tells faults start mid step e c.in_ok-some.some c.in_ok-some.ensures.none i.setting i.header i.holds i.counted broke))
 
 -- ---- it was cleared

@@ -3,12 +3,12 @@ use Rattle.std.specs.Prelude.{Contains}
 use Rattle.std.proofs.lemmas.Result.{err_from_is_err_and}
 use Rattle.cfb_format.specs.declared.objtype.ObjType.TheVariants.{Stream}
 use Rattle.cfb_format.specs.Siblings.{entry_at}
-use Rattle.cfb_mini_sectors.specs.State.{entries_of}
-use Rattle.cfb_content.specs.Contents.{IsTooLongFor, len_of}
-use Rattle.cfb_tables.proofs.Members.{Contains-here, Contains-one}
+use Rattle.cfb_volume.specs.cfb_mini_sectors.State.{entries_of}
+use Rattle.cfb_volume.specs.cfb_content.Contents.{IsTooLongFor, len_of}
 use Rattle.cfb_volume.proofs.EmptiedStreams.{emptied-none, emptied-one, kept-stream}
 use Rattle.cfb_volume.proofs.Steps.{break-as}
 use Rattle.cfb_volume.proofs.volume.Volume.empty_stream.Goals as goal
+use Rattle.cfb_format.proofs.Members.{Contains-here, Contains-one}
 
 pub returns-then-not-has_bytes-clause-emptied : goal.returns-then-not-has_bytes-clause-emptied
 returns-then-not-has_bytes-clause-emptied g c =

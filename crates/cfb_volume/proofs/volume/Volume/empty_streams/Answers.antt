@@ -5,7 +5,7 @@ use Rattle.std.proofs.lemmas.List.Elements.{Contains-get_or}
 use Rattle.std.proofs.lemmas.Result.{err_from_is_err_and}
 use Rattle.cfb_format.specs.declared.medium.MediumFault.{MediumFault}
 use Rattle.cfb_agreement.specs.Files.{FileState}
-use Rattle.cfb_volume.specs.Clearing.{BreaksOff, EmptiesStreams, KeepsStreamsBut}
+use Rattle.cfb_volume.specs.Clearing.{ClearingBreaksOff, EmptiesStreams, KeepsStreamsBut}
 use Rattle.cfb_volume.proofs.EmptiedStreams.{below-now, emptied-next, emptied-none, others-next}
 use Rattle.cfb_volume.proofs.Steps.{broke-off, flags-keep, hand-err, hand-ok, or-false, step-err, step-if-ok, step-ok}
 use Rattle.cfb_volume.proofs.volume.Volume.empty_streams.Goals as goal
@@ -44,8 +44,8 @@ returns-in_err-had-clause-refused g c =
     let handed = hand-err step c.hand_on.new.self c.loop-entry.some c.empty_stream-emptied.result c.hand_on.ensures.fails e c.in_err-had.ensures.step in
     let p = err_from_is_err_and c.from_residual.result c.from_residual.ensures.1 in
     let faults : MediumFault → Bool = λ f. g.F.ReadMedium.read_faults f || g.F.Medium.write_faults f in
-    let broke : BreaksOff g.F.ReadMedium.tells faults c.loop-entry.self step e = step-err _ c.empty_stream-emptied.result e c.in_err-had.ensures.step c.empty_stream-emptied.ensures.refused in
-    rw (p.1, p.2) (subst (λ (f : FileState). BreaksOff g.F.ReadMedium.tells faults c.args.self.now f e) (sym handed)
+    let broke : ClearingBreaksOff g.F.ReadMedium.tells faults c.loop-entry.self step e = step-err _ c.empty_stream-emptied.result e c.in_err-had.ensures.step c.empty_stream-emptied.ensures.refused in
+    rw (p.1, p.2) (subst (λ (f : FileState). ClearingBreaksOff g.F.ReadMedium.tells faults c.args.self.now f e) (sym handed)
     (broke-off g.F.ReadMedium.tells faults c.args.self.now c.loop-entry.self step e c.loop-entry.some c.loop-entry.invariant.first i.setting i.header i.holds i.counted broke))
 
 -- ---- one more

@@ -2,11 +2,11 @@ use Rattle.std.proofs.Common.{◌≡◌, ◌<◌, length, ap, sym, ◌∙◌, su
 use Rattle.cfb_format.specs.declared.objtype.ObjType.TheVariants.{Stream}
 use Rattle.cfb_format.specs.DirectoryEntry.{Entry}
 use Rattle.cfb_format.specs.Siblings.{entry_at}
-use Rattle.cfb_entries.specs.EntryList.{AreInOrder}
-use Rattle.cfb_trees.proofs.Members.{reached-is-within}
-use Rattle.cfb_trees.proofs.Reached.{below-reached}
-use Rattle.cfb_mini_sectors.specs.State.{cases_of, entries_of}
-use Rattle.cfb_content.specs.Contents.{len_of}
+use Rattle.cfb_volume.specs.cfb_entries.EntryList.{AreInOrder}
+use Rattle.cfb_volume.proofs.cfb_trees.Members.{reached-is-within}
+use Rattle.cfb_volume.proofs.cfb_trees.Reached.{below-reached}
+use Rattle.cfb_volume.specs.cfb_mini_sectors.State.{cases_of, entries_of}
+use Rattle.cfb_volume.specs.cfb_content.Contents.{len_of}
 use Rattle.cfb_agreement.specs.Files.{FileState}
 use Rattle.cfb_volume.proofs.RemovedObjects.{below-stream}
 use Rattle.cfb_volume.proofs.Steps.{none-less}

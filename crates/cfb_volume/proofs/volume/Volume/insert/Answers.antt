@@ -5,19 +5,19 @@ use Rattle.cfb_format.specs.declared.validate.Validation.TheVariants.{Permissive
 use Rattle.cfb_format.specs.Bytes.{no_stream}
 use Rattle.cfb_format.specs.Reading.{IsOutline, Outline}
 use Rattle.cfb_format.specs.Siblings.{entry_at}
-use Rattle.cfb_rules.specs.Finding.{last_name, parent_names}
-use Rattle.cfb_siblings.specs.Paths.{number_from}
-use Rattle.cfb_trees.specs.Reached.{IsReached}
-use Rattle.cfb_tables.specs.Changes.{NoneFree}
-use Rattle.cfb_tables.specs.Refused.{ChangeRefused}
-use Rattle.cfb_alloc.specs.Frame.{Spares}
-use Rattle.cfb_directory.specs.State.{IsFullForEntry}
-use Rattle.cfb_directory.specs.Steps.{IsDirectoryNotHeld}
-use Rattle.cfb_objects.specs.Laws.{BecomesTree}
-use Rattle.cfb_mini_sectors.specs.State.{HoldsMini, MiniState, bytes_of, cases_of, entries_of, table_of, tables_in}
-use Rattle.cfb_mini_sectors.specs.Steps.{KeepsMini, StopsShort}
-use Rattle.cfb_content.specs.Contents.{KeepsFixedHeader, len_of}
-use Rattle.cfb_content.proofs.FixedHeader.{spared-keeps-header}
+use Rattle.cfb_volume.specs.cfb_rules.Finding.{last_name, parent_names}
+use Rattle.cfb_volume.specs.cfb_siblings.Paths.{number_from}
+use Rattle.cfb_volume.specs.cfb_trees.Reached.{IsReached}
+use Rattle.cfb_volume.specs.cfb_tables.Changes.{NoneFree}
+use Rattle.cfb_volume.specs.cfb_tables.Refused.{ChangeRefused}
+use Rattle.cfb_volume.specs.cfb_alloc.Frame.{Spares}
+use Rattle.cfb_volume.specs.cfb_directory.State.{IsFullForEntry}
+use Rattle.cfb_volume.specs.cfb_directory.Steps.{IsDirectoryNotHeld}
+use Rattle.cfb_volume.specs.cfb_objects.Laws.{BecomesTree}
+use Rattle.cfb_volume.specs.cfb_mini_sectors.State.{HoldsMini, MiniState, bytes_of, cases_of, entries_of, table_of, tables_in}
+use Rattle.cfb_volume.specs.cfb_mini_sectors.Steps.{KeepsMini, StopsShort}
+use Rattle.cfb_volume.specs.cfb_content.Contents.{KeepsFixedHeader, len_of}
+use Rattle.cfb_volume.proofs.cfb_content.FixedHeader.{spared-keeps-header}
 use Rattle.cfb_entry_changes.proofs.Entries.{put-is-balanced, put-is-found, put-is-new, put-keeps-root, put-grows-tightly}
 use Rattle.cfb_agreement.specs.Changes.{KeepsStreams, object_added_at}
 use Rattle.cfb_agreement.specs.Files.{Agrees, FileState, Holds, IsAsMade, IsCounted, IsFullFile, GrowsTightly}

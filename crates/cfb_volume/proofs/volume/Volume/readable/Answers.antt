@@ -1,7 +1,7 @@
 use Rattle.std.proofs.Common.{◌≡◌, ◌<◌, sym, subst, length}
 use Rattle.std.specs.Prelude.{IfOk}
-use Rattle.cfb_mini_sectors.specs.State.{entries_of}
-use Rattle.cfb_content.specs.Contents.{TellsPlaces}
+use Rattle.cfb_volume.specs.cfb_mini_sectors.State.{entries_of}
+use Rattle.cfb_volume.specs.cfb_content.Contents.{TellsPlaces}
 use Rattle.cfb_agreement.specs.Files.{FileState}
 use Rattle.cfb_volume.specs.Answers.{content_at}
 use Rattle.cfb_volume.proofs.volume.Volume.readable.Goals as goal

@@ -7,14 +7,14 @@ use Rattle.cfb_format.specs.declared.validate.Validation.TheVariants.{Permissive
 use Rattle.cfb_format.specs.Bytes.{no_stream}
 use Rattle.cfb_format.specs.Siblings.{entry_at}
 use Rattle.cfb_outline.specs.Outlines.{IsReachedStorage}
-use Rattle.cfb_rules.specs.CallChanges.{removed_at}
-use Rattle.cfb_siblings.specs.Children.{HasChildren, IsChildNamed}
-use Rattle.cfb_directory.specs.Steps.{IsDirectoryNotHeld}
-use Rattle.cfb_objects.specs.Laws.{BecomesTree}
-use Rattle.cfb_mini_sectors.specs.State.{IsChangeable, MiniState, bytes_of, cases_of, entries_of, table_of}
-use Rattle.cfb_mini.specs.MiniSectors.{IsStill}
-use Rattle.cfb_content.specs.Contents.{KeepsFixedHeader, KeepsOthers, len_of}
-use Rattle.cfb_content.proofs.FixedHeader.{header-then, spared-keeps-header}
+use Rattle.cfb_volume.specs.cfb_rules.CallChanges.{removed_at}
+use Rattle.cfb_volume.specs.cfb_siblings.Children.{HasChildren, IsChildNamed}
+use Rattle.cfb_volume.specs.cfb_directory.Steps.{IsDirectoryNotHeld}
+use Rattle.cfb_volume.specs.cfb_objects.Laws.{BecomesTree}
+use Rattle.cfb_volume.specs.cfb_mini_sectors.State.{IsChangeable, MiniState, bytes_of, cases_of, entries_of, table_of}
+use Rattle.cfb_volume.specs.cfb_mini.MiniSectors.{IsStill}
+use Rattle.cfb_volume.specs.cfb_content.Contents.{KeepsFixedHeader, KeepsOthers, len_of}
+use Rattle.cfb_volume.proofs.cfb_content.FixedHeader.{header-then, spared-keeps-header}
 use Rattle.cfb_entry_changes.specs.Kept.{AllStayBalancedBut, FindsAllBut}
 use Rattle.cfb_agreement.specs.Changes.{StaysOrFails}
 use Rattle.cfb_agreement.specs.Files.{Agrees, FileState, Holds, IsAsMade}

@@ -1,9 +1,9 @@
 use Rattle.std.proofs.Common.{ℕ, [], sym, ap}
 use Rattle.std.specs.Prelude.{Some, ◌||◌}
 use Rattle.cfb_format.specs.Refused.{IsBreak}
-use Rattle.cfb_directory.proofs.DirectoryRefusals.{err_map}
-use Rattle.cfb_entries.proofs.Changed.{on-ok}
-use Rattle.cfb_volume.specs.Clearing.{BreaksOff}
+use Rattle.cfb_volume.proofs.cfb_directory.DirectoryRefusals.{err_map}
+use Rattle.cfb_volume.proofs.cfb_entries.Changed.{on-ok}
+use Rattle.cfb_volume.specs.Clearing.{ClearingBreaksOff}
 use Rattle.cfb_volume.proofs.Balances.{balanced-but}
 use Rattle.cfb_volume.proofs.RemovedStorages.{same-grows}
 use Rattle.cfb_volume.proofs.Steps.{after-both, at-none, at-some, counts-both, none-at-some, none-of, on-refused, some-at-none, some-of}
@@ -28,7 +28,7 @@ pub returns-in-Some-clause-ended : goal.returns-in-Some-clause-ended
 returns-in-Some-clause-ended g c = on-ok c.remove_with_all.result (λ w. w.unfailed) c.remove_with_all.ensures.removed
 
 pub returns-in-Some-clause-counts : goal.returns-in-Some-clause-counts
-returns-in-Some-clause-counts g c told = counts-both (BreaksOff g.F.ReadMedium.tells (λ f. g.F.ReadMedium.read_faults f || g.F.Medium.write_faults f) c.args.self.now c.remove_with_all.new.self) (λ f. g.F.ReadMedium.read_faults f || g.F.Medium.write_faults f) (failures_of c.args.self.now) (failures_of c.remove_with_all.new.self) c.remove_with_all.result c.remove_with_all.ensures.removed c.remove_with_all.ensures.refused (λ w. w.counted told) (λ e b. b.counts told)
+returns-in-Some-clause-counts g c told = counts-both (ClearingBreaksOff g.F.ReadMedium.tells (λ f. g.F.ReadMedium.read_faults f || g.F.Medium.write_faults f) c.args.self.now c.remove_with_all.new.self) (λ f. g.F.ReadMedium.read_faults f || g.F.Medium.write_faults f) (failures_of c.args.self.now) (failures_of c.remove_with_all.new.self) c.remove_with_all.result c.remove_with_all.ensures.removed c.remove_with_all.ensures.refused (λ w. w.counted told) (λ e b. b.counts told)
 
 pub returns-in-Some-clause-balanced : goal.returns-in-Some-clause-balanced
 returns-in-Some-clause-balanced g c told = on-ok c.remove_with_all.result (λ w. w.balanced told) c.remove_with_all.ensures.removed
@@ -40,19 +40,19 @@ pub returns-in-Some-clause-grows : goal.returns-in-Some-clause-grows
 returns-in-Some-clause-grows g c = on-ok c.remove_with_all.result (λ w. same-grows c.args.self.now.base c.remove_with_all.new.self.base w.same_length) c.remove_with_all.ensures.removed
 
 pub returns-in-Some-clause-setting : goal.returns-in-Some-clause-setting
-returns-in-Some-clause-setting g c = after-both (BreaksOff g.F.ReadMedium.tells (λ f. g.F.ReadMedium.read_faults f || g.F.Medium.write_faults f) c.args.self.now c.remove_with_all.new.self) c.remove_with_all.result c.remove_with_all.ensures.removed c.remove_with_all.ensures.refused (λ w. w.setting) (λ e b. b.setting)
+returns-in-Some-clause-setting g c = after-both (ClearingBreaksOff g.F.ReadMedium.tells (λ f. g.F.ReadMedium.read_faults f || g.F.Medium.write_faults f) c.args.self.now c.remove_with_all.new.self) c.remove_with_all.result c.remove_with_all.ensures.removed c.remove_with_all.ensures.refused (λ w. w.setting) (λ e b. b.setting)
 
 pub returns-in-Some-clause-header : goal.returns-in-Some-clause-header
-returns-in-Some-clause-header g c told holds = after-both (BreaksOff g.F.ReadMedium.tells (λ f. g.F.ReadMedium.read_faults f || g.F.Medium.write_faults f) c.args.self.now c.remove_with_all.new.self) c.remove_with_all.result c.remove_with_all.ensures.removed c.remove_with_all.ensures.refused (λ w. w.header told holds) (λ e b. b.header told holds)
+returns-in-Some-clause-header g c told holds = after-both (ClearingBreaksOff g.F.ReadMedium.tells (λ f. g.F.ReadMedium.read_faults f || g.F.Medium.write_faults f) c.args.self.now c.remove_with_all.new.self) c.remove_with_all.result c.remove_with_all.ensures.removed c.remove_with_all.ensures.refused (λ w. w.header told holds) (λ e b. b.header told holds)
 
 pub returns-in-Some-clause-agrees : goal.returns-in-Some-clause-agrees
-returns-in-Some-clause-agrees g c told holds down = after-both (BreaksOff g.F.ReadMedium.tells (λ f. g.F.ReadMedium.read_faults f || g.F.Medium.write_faults f) c.args.self.now c.remove_with_all.new.self) c.remove_with_all.result c.remove_with_all.ensures.removed c.remove_with_all.ensures.refused (λ w. w.holds told holds) (λ e b. b.agrees told holds down)
+returns-in-Some-clause-agrees g c told holds down = after-both (ClearingBreaksOff g.F.ReadMedium.tells (λ f. g.F.ReadMedium.read_faults f || g.F.Medium.write_faults f) c.args.self.now c.remove_with_all.new.self) c.remove_with_all.result c.remove_with_all.ensures.removed c.remove_with_all.ensures.refused (λ w. w.holds told holds) (λ e b. b.agrees told holds down)
 
 pub returns-in-Some-clause-refused : goal.returns-in-Some-clause-refused
-returns-in-Some-clause-refused g c told holds = on-refused (BreaksOff g.F.ReadMedium.tells (λ f. g.F.ReadMedium.read_faults f || g.F.Medium.write_faults f) c.args.self.now c.remove_with_all.new.self) c.remove_with_all.result c.remove_with_all.ensures.refused (λ e b. b.refused told holds)
+returns-in-Some-clause-refused g c told holds = on-refused (ClearingBreaksOff g.F.ReadMedium.tells (λ f. g.F.ReadMedium.read_faults f || g.F.Medium.write_faults f) c.args.self.now c.remove_with_all.new.self) c.remove_with_all.result c.remove_with_all.ensures.refused (λ e b. b.refused told holds)
 
 pub returns-in-Some-clause-err : goal.returns-in-Some-clause-err
-returns-in-Some-clause-err g c told holds = err_map (BreaksOff g.F.ReadMedium.tells (λ f. g.F.ReadMedium.read_faults f || g.F.Medium.write_faults f) c.args.self.now c.remove_with_all.new.self) (IsBreak ⊥) (λ e b. b.err told holds) c.remove_with_all.result c.remove_with_all.ensures.refused
+returns-in-Some-clause-err g c told holds = err_map (ClearingBreaksOff g.F.ReadMedium.tells (λ f. g.F.ReadMedium.read_faults f || g.F.Medium.write_faults f) c.args.self.now c.remove_with_all.new.self) (IsBreak ⊥) (λ e b. b.err told holds) c.remove_with_all.result c.remove_with_all.ensures.refused
 
 -- ---- the root
 
@@ -75,16 +75,16 @@ pub returns-in-None-clause-grows : goal.returns-in-None-clause-grows
 returns-in-None-clause-grows g c = on-ok c.empty_storage.result (λ w. same-grows c.args.self.now.base c.empty_storage.new.self.base w.same_length) c.empty_storage.ensures.emptied
 
 pub returns-in-None-clause-setting : goal.returns-in-None-clause-setting
-returns-in-None-clause-setting g c = after-both (BreaksOff g.F.ReadMedium.tells (λ f. g.F.ReadMedium.read_faults f || g.F.Medium.write_faults f) c.args.self.now c.empty_storage.new.self) c.empty_storage.result c.empty_storage.ensures.emptied c.empty_storage.ensures.refused (λ w. w.setting) (λ e b. b.setting)
+returns-in-None-clause-setting g c = after-both (ClearingBreaksOff g.F.ReadMedium.tells (λ f. g.F.ReadMedium.read_faults f || g.F.Medium.write_faults f) c.args.self.now c.empty_storage.new.self) c.empty_storage.result c.empty_storage.ensures.emptied c.empty_storage.ensures.refused (λ w. w.setting) (λ e b. b.setting)
 
 pub returns-in-None-clause-header : goal.returns-in-None-clause-header
-returns-in-None-clause-header g c told holds = after-both (BreaksOff g.F.ReadMedium.tells (λ f. g.F.ReadMedium.read_faults f || g.F.Medium.write_faults f) c.args.self.now c.empty_storage.new.self) c.empty_storage.result c.empty_storage.ensures.emptied c.empty_storage.ensures.refused (λ w. w.header told holds) (λ e b. b.header told holds)
+returns-in-None-clause-header g c told holds = after-both (ClearingBreaksOff g.F.ReadMedium.tells (λ f. g.F.ReadMedium.read_faults f || g.F.Medium.write_faults f) c.args.self.now c.empty_storage.new.self) c.empty_storage.result c.empty_storage.ensures.emptied c.empty_storage.ensures.refused (λ w. w.header told holds) (λ e b. b.header told holds)
 
 pub returns-in-None-clause-agrees : goal.returns-in-None-clause-agrees
-returns-in-None-clause-agrees g c told holds down = after-both (BreaksOff g.F.ReadMedium.tells (λ f. g.F.ReadMedium.read_faults f || g.F.Medium.write_faults f) c.args.self.now c.empty_storage.new.self) c.empty_storage.result c.empty_storage.ensures.emptied c.empty_storage.ensures.refused (λ w. w.holds told holds) (λ e b. b.agrees told holds down)
+returns-in-None-clause-agrees g c told holds down = after-both (ClearingBreaksOff g.F.ReadMedium.tells (λ f. g.F.ReadMedium.read_faults f || g.F.Medium.write_faults f) c.args.self.now c.empty_storage.new.self) c.empty_storage.result c.empty_storage.ensures.emptied c.empty_storage.ensures.refused (λ w. w.holds told holds) (λ e b. b.agrees told holds down)
 
 pub returns-in-None-clause-refused : goal.returns-in-None-clause-refused
-returns-in-None-clause-refused g c told holds = on-refused (BreaksOff g.F.ReadMedium.tells (λ f. g.F.ReadMedium.read_faults f || g.F.Medium.write_faults f) c.args.self.now c.empty_storage.new.self) c.empty_storage.result c.empty_storage.ensures.refused (λ e b. b.refused told holds)
+returns-in-None-clause-refused g c told holds = on-refused (ClearingBreaksOff g.F.ReadMedium.tells (λ f. g.F.ReadMedium.read_faults f || g.F.Medium.write_faults f) c.args.self.now c.empty_storage.new.self) c.empty_storage.result c.empty_storage.ensures.refused (λ e b. b.refused told holds)
 
 pub returns-in-None-clause-err : goal.returns-in-None-clause-err
-returns-in-None-clause-err g c told holds = err_map (BreaksOff g.F.ReadMedium.tells (λ f. g.F.ReadMedium.read_faults f || g.F.Medium.write_faults f) c.args.self.now c.empty_storage.new.self) (IsBreak ⊥) (λ e b. b.err told holds) c.empty_storage.result c.empty_storage.ensures.refused
+returns-in-None-clause-err g c told holds = err_map (ClearingBreaksOff g.F.ReadMedium.tells (λ f. g.F.ReadMedium.read_faults f || g.F.Medium.write_faults f) c.args.self.now c.empty_storage.new.self) (IsBreak ⊥) (λ e b. b.err told holds) c.empty_storage.result c.empty_storage.ensures.refused

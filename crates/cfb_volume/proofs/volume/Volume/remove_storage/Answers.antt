@@ -3,17 +3,17 @@ use Rattle.std.specs.Prelude.{Bool, ◌||◌, chars}
 use Rattle.std.proofs.lemmas.Result.{err_from_is_err_and}
 use Rattle.cfb_format.specs.declared.medium.MediumFault.{MediumFault}
 use Rattle.cfb_outline.specs.Outlines.{IsReachedStorage}
-use Rattle.cfb_entries.specs.EntryList.{AreInOrder}
-use Rattle.cfb_trees.proofs.Reached.{below-reached}
-use Rattle.cfb_mini_sectors.specs.State.{cases_of, entries_of}
+use Rattle.cfb_volume.specs.cfb_entries.EntryList.{AreInOrder}
+use Rattle.cfb_volume.proofs.cfb_trees.Reached.{below-reached}
+use Rattle.cfb_volume.specs.cfb_mini_sectors.State.{cases_of, entries_of}
 use Rattle.cfb_agreement.specs.Files.{FileState, failures_of}
-use Rattle.cfb_content.proofs.FixedHeader.{header-then}
-use Rattle.cfb_volume.specs.Clearing.{BreaksOff, KeepsStreamsBeside, RemovesWithAll}
-use Rattle.cfb_volume.proofs.Settings.{setting-then}
+use Rattle.cfb_volume.proofs.cfb_content.FixedHeader.{header-then}
+use Rattle.cfb_volume.specs.Clearing.{ClearingBreaksOff, KeepsStreamsBeside, RemovesWithAll}
 use Rattle.cfb_volume.proofs.Balances.{balanced-then-but}
 use Rattle.cfb_volume.proofs.RemovedStorages.{all-removed, below-still, named-still, others-now, parent-still}
 use Rattle.cfb_volume.proofs.Steps.{broke-off, flags-keep, hand-err, hand-ok, step-err, step-err-counts, step-ok, step-ok-counts, step-on-err}
 use Rattle.cfb_volume.proofs.volume.Volume.remove_storage.Goals as goal
+use Rattle.cfb_agreement.proofs.InTurn.{setting-then}
 
 pub empty_storage-requires-clause-top : goal.empty_storage-requires-clause-top
 empty_storage-requires-clause-top g c =
@@ -81,7 +81,7 @@ returns-in_err-hand_on-clause-refused g c =
     let handed = hand-err step c.hand_on.new.self true c.remove-removed.result c.hand_on.ensures.fails e is in
     let p = err_from_is_err_and c.from_residual-in_err-hand_on.result c.from_residual-in_err-hand_on.ensures.1 in
     let faults : MediumFault → Bool = λ f. g.F.ReadMedium.read_faults f || g.F.Medium.write_faults f in
-    let broke : BreaksOff g.F.ReadMedium.tells faults mid step e = record {
+    let broke : ClearingBreaksOff g.F.ReadMedium.tells faults mid step e = record {
       setting = w.setting;
       header = λ told held. w.header told;
       agrees = λ told held. w.agrees told held;
@@ -89,7 +89,7 @@ returns-in_err-hand_on-clause-refused g c =
       err = λ told held. step-err _ c.remove-removed.result e is (w.err told held);
       counts = λ told. step-err-counts faults (failures_of mid) (failures_of step) c.remove-removed.result e is (w.counts told);
     } in
-    rw (p.1, p.2) (subst (λ (f : FileState). BreaksOff g.F.ReadMedium.tells faults start f e) (sym handed)
+    rw (p.1, p.2) (subst (λ (f : FileState). ClearingBreaksOff g.F.ReadMedium.tells faults start f e) (sym handed)
     (broke-off g.F.ReadMedium.tells faults start mid step e true (λ none. absurd (let clash : true ≡ false = none in cc)) i.setting i.header i.holds i.counted broke))
 
 -- ---- it was taken

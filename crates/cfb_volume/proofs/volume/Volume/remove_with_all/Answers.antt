@@ -5,10 +5,10 @@ use Rattle.cfb_format.specs.declared.objtype.ObjType.TheVariants.{Stream}
 use Rattle.cfb_format.specs.Bytes.{no_stream}
 use Rattle.cfb_format.specs.DirectoryEntry.{Entry}
 use Rattle.cfb_format.specs.Siblings.{entry_at}
-use Rattle.cfb_entries.specs.EntryList.{AreInOrder}
-use Rattle.cfb_trees.proofs.Members.{reached-is-within}
-use Rattle.cfb_trees.proofs.Reached.{below-reached}
-use Rattle.cfb_mini_sectors.specs.State.{cases_of, entries_of}
+use Rattle.cfb_volume.specs.cfb_entries.EntryList.{AreInOrder}
+use Rattle.cfb_volume.proofs.cfb_trees.Members.{reached-is-within}
+use Rattle.cfb_volume.proofs.cfb_trees.Reached.{below-reached}
+use Rattle.cfb_volume.specs.cfb_mini_sectors.State.{cases_of, entries_of}
 use Rattle.cfb_agreement.specs.Files.{FileState}
 use Rattle.cfb_volume.proofs.Settings.{setting-same}
 use Rattle.cfb_volume.proofs.EmptiedStreams.{kept-stream}

@@ -5,17 +5,18 @@ use Rattle.cfb_format.specs.declared.validate.Validation.{Validation}
 use Rattle.cfb_format.specs.declared.validate.Validation.TheVariants.{Permissive}
 use Rattle.cfb_format.specs.Bytes.{max_stream_len}
 use Rattle.cfb_format.specs.Siblings.{entry_at}
-use Rattle.cfb_rules.specs.StreamCalls.{resized}
-use Rattle.cfb_mini_sectors.specs.State.{HoldsMini, IsChangeable, MiniState, content_of, entries_of, table_of, tables_in, version_of}
-use Rattle.cfb_mini_sectors.specs.Steps.{KeepsLimits}
-use Rattle.cfb_content.specs.Contents.{IsNotChangeable, IsStreamOf, IsTooLongFor, MovesContent, len_of}
+use Rattle.cfb_volume.specs.cfb_rules.StreamCalls.{resized}
+use Rattle.cfb_volume.specs.cfb_mini_sectors.State.{HoldsMini, IsChangeable, MiniState, content_of, entries_of, table_of, tables_in, version_of}
+use Rattle.cfb_volume.specs.cfb_mini_sectors.Steps.{KeepsLimits}
+use Rattle.cfb_volume.specs.cfb_content.Contents.{IsNotChangeable, IsStreamOf, IsTooLongFor, MovesContent, len_of}
 use Rattle.cfb_agreement.specs.Changes.{ChangesOneContent}
 use Rattle.cfb_agreement.specs.Files.{EmptyStartAtEnd, FileState, Holds, SameSetting}
-use Rattle.cfb_volume.proofs.ContentSteps.{WasRefused, WentWell, ended, ended-changes, ended-entries, ended-holds, ended-same, ended-setting, ended-stream, file_on, refused-agrees, refused-changes, refused-setting, refused-stays, refused-stream}
+use Rattle.cfb_volume.proofs.ContentSteps.{WasRefused, WentWell, ended-changes, ended-entries, ended-holds, ended-same, ended-setting, ended-stream, file_on, refused-agrees, refused-changes, refused-setting, refused-stays, refused-stream}
 use Rattle.cfb_volume.proofs.Emptying.{emptying-fits}
 use Rattle.cfb_volume.proofs.EmptyStreams.{sized-at-end}
 use Rattle.cfb_volume.proofs.Refusals.{file-after, resize-break}
 use Rattle.cfb_volume.proofs.volume.Volume.resize.Goals as goal
+use Rattle.cfb_volume.proofs.InsertedObjects.{ended}
 
 pub resize_content-requires-clause-stream : goal.resize_content-requires-clause-stream
 resize_content-requires-clause-stream g c = subst (λ (f : FileState). IsStreamOf f.base c.args.entry) (sym c.self.view_is) c.requires.stream

@@ -4,19 +4,19 @@ use Rattle.cfb_format.specs.declared.validate.Validation.TheVariants.{Permissive
 use Rattle.cfb_format.specs.DirectoryEntry.{IsValidEntry}
 use Rattle.cfb_format.specs.Reading.{IsOutline, Outline}
 use Rattle.cfb_format.specs.Siblings.{entry_at}
-use Rattle.cfb_entries.specs.declared.fields.Fields.{Fields}
-use Rattle.cfb_entries.specs.EntryList.{AreInOrder}
-use Rattle.cfb_entries.specs.Fields.{entries_with_fields, entry_with_fields, fields_in}
-use Rattle.cfb_trees.specs.Reached.{IsReached}
-use Rattle.cfb_trees.proofs.Members.{reached-is-within}
-use Rattle.cfb_alloc.specs.Frame.{Spares}
-use Rattle.cfb_directory.specs.Steps.{IsDirectoryNotHeld, KeepsWholeHeader}
-use Rattle.cfb_objects.specs.Laws.{BecomesTree}
-use Rattle.cfb_rules.specs.CallChanges.{fields_changed_at}
-use Rattle.cfb_mini_sectors.specs.State.{HoldsMini, MiniState, bytes_of, cases_of, entries_of, table_of, tables_in, version_of}
-use Rattle.cfb_mini_sectors.specs.Steps.{KeepsLimits, KeepsMini, StopsShort}
-use Rattle.cfb_content.specs.Contents.{KeepsFixedHeader, len_of}
-use Rattle.cfb_content.proofs.FixedHeader.{spared-keeps-header}
+use Rattle.cfb_volume.specs.cfb_entries.declared.fields.Fields.{Fields}
+use Rattle.cfb_volume.specs.cfb_entries.EntryList.{AreInOrder}
+use Rattle.cfb_volume.specs.cfb_entries.Fields.{entries_with_fields, entry_with_fields, fields_in}
+use Rattle.cfb_volume.specs.cfb_trees.Reached.{IsReached}
+use Rattle.cfb_volume.proofs.cfb_trees.Members.{reached-is-within}
+use Rattle.cfb_volume.specs.cfb_alloc.Frame.{Spares}
+use Rattle.cfb_volume.specs.cfb_directory.Steps.{IsDirectoryNotHeld, KeepsWholeHeader}
+use Rattle.cfb_volume.specs.cfb_objects.Laws.{BecomesTree}
+use Rattle.cfb_volume.specs.cfb_rules.CallChanges.{fields_changed_at}
+use Rattle.cfb_volume.specs.cfb_mini_sectors.State.{HoldsMini, MiniState, bytes_of, cases_of, entries_of, table_of, tables_in, version_of}
+use Rattle.cfb_volume.specs.cfb_mini_sectors.Steps.{KeepsLimits, KeepsMini, StopsShort}
+use Rattle.cfb_volume.specs.cfb_content.Contents.{KeepsFixedHeader, len_of}
+use Rattle.cfb_volume.proofs.cfb_content.FixedHeader.{spared-keeps-header}
 use Rattle.cfb_agreement.specs.Changes.{KeepsStreams, StaysOrFails}
 use Rattle.cfb_agreement.specs.Files.{Agrees, FileState, Holds, IsAsMade}
 use Rattle.cfb_entry_changes.specs.Kept.{AllStayBalanced, FindsTheSame}

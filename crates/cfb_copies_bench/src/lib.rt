@@ -1,0 +1,9 @@
+//! Tests of copies of files in memory: what a copy tells, which files are not copied, and copies of which a call or a request goes wrong.
+#![tactic(auto)]
+
+#[cfg(test)]
+mod copying;
+#[cfg(test)]
+mod faults;
+#[cfg(test)]
+mod objects;

@@ -1,0 +1,3 @@
+pub mod SlotPlaces
+pub mod SlotLists
+pub mod SlotWrites

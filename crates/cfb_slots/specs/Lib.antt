@@ -1,0 +1,4 @@
+pub use Rattle.cfb_alloc.specs.cfb_tables
+pub use Rattle.cfb_alloc.specs.cfb_sectors
+pub mod Slots
+pub mod SlotLaws
