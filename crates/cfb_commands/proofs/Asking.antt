@@ -9,11 +9,11 @@ use Rattle.cfb_commands.specs.cfb_rules.Steps.{asking, kind_of}
 use Rattle.cfb_commands.specs.cfb_agreement.Files.{FileState}
 use Rattle.cfb_commands.specs.cfb_path_changes.Answers.{Answers, AnswersNot}
 use Rattle.cfb_compound_file.proofs.Asked.{refused-for-memory}
-use Rattle.cfb_commands.specs.Commands.{call_answer, refusal_of}
+use Rattle.cfb_commands.specs.Commands.{call_answer, refusal_of_error}
 use Rattle.cfb_commands.proofs.Errors.{known}
 
 -- a question that was refused is answered so
-pub not_answered : (file : FileState) (call : Call) (e : Error) → AnswersNot file call e → Answers file call (refused (refusal_of e))
+pub not_answered : (file : FileState) (call : Call) (e : Error) → AnswersNot file call e → Answers file call (refused (refusal_of_error e))
 not_answered file call e why = subst (λ (r : Refusal). Answers file call (refused r)) (known why.0 e why.1) why.2
 
 pub memory_answers : (file : FileState) (call : Call) → kind_of call ≡ asking → Answers file call (refused out_of_memory)

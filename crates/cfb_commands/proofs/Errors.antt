@@ -7,9 +7,9 @@ use Rattle.cfb_format.specs.declared.error.Error.TheVariants.{NotFound, AlreadyE
 use Rattle.cfb_commands.specs.cfb_rules.Refusal.{IsRefusal, Refusal, failed_earlier, file_full, out_of_memory, refusal_number}
 use Rattle.cfb_commands.specs.cfb_rules.StreamCalls.{StreamReply, not_done, offset}
 use Rattle.cfb_commands.proofs.CallSteps.{same_refusal}
-use Rattle.cfb_commands.specs.Commands.{refusal_of}
+use Rattle.cfb_commands.specs.Commands.{refusal_of_error}
 
-pub refusal_is : (e : Error) → IsRefusal (refusal_of e) e
+pub refusal_is : (e : Error) → IsRefusal (refusal_of_error e) e
 refusal_is (NotFound d) = refl
 refusal_is (AlreadyExists d) = refl
 refusal_is (InvalidInput d) = refl
@@ -20,12 +20,12 @@ refusal_is Full = refl
 refusal_is Unsound = refl
 refusal_is Failed = refl
 
-pub known : (r : Refusal) (e : Error) → IsRefusal r e → r ≡ refusal_of e
-known r e is = same_refusal r (refusal_of e) (sym is ∙ refusal_is e)
+pub known : (r : Refusal) (e : Error) → IsRefusal r e → r ≡ refusal_of_error e
+known r e is = same_refusal r (refusal_of_error e) (sym is ∙ refusal_is e)
 
 -- ---- where numbers are blamed
 
-full_error : (e : Error) → refusal_of e ≡ file_full → e ≡ Full
+full_error : (e : Error) → refusal_of_error e ≡ file_full → e ≡ Full
 full_error (NotFound d) is = absurd (let w : 1 ≡ 7 = ap refusal_number is in omega (arith, w))
 full_error (AlreadyExists d) is = absurd (let w : 2 ≡ 7 = ap refusal_number is in omega (arith, w))
 full_error (InvalidInput d) is = absurd (let w : 3 ≡ 7 = ap refusal_number is in omega (arith, w))
@@ -40,11 +40,11 @@ abbrev refusal_in : StreamReply → Refusal
 refusal_in (not_done refusal) = refusal
 refusal_in reply = failed_earlier
 
-pub reply_full : (e : Error) → not_done (refusal_of e) ≡ not_done file_full → e ≡ Full
+pub reply_full : (e : Error) → not_done (refusal_of_error e) ≡ not_done file_full → e ≡ Full
 reply_full e is = full_error e (ap refusal_in is)
 
-pub closing_full : (e : Error) → Some (refusal_of e) ≡ Some file_full → e ≡ Full
-closing_full e is = full_error e (same_Some (refusal_of e) file_full is)
+pub closing_full : (e : Error) → Some (refusal_of_error e) ≡ Some file_full → e ≡ Full
+closing_full e is = full_error e (same_Some (refusal_of_error e) file_full is)
 
 -- a place does not blame them, nor does a file that failed earlier, nor want of memory
 pub place_never_full : (n : ℕ) → offset n ≡ not_done file_full → ⊥

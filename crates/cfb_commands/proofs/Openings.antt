@@ -29,7 +29,7 @@ use Rattle.cfb_commands.specs.Promised.{CallKeeps, IsClosedOf, promised}
 use Rattle.cfb_commands.specs.Seen.{seen_as, standing_at}
 use Rattle.cfb_commands.proofs.CallSteps.{call_step, keeps_setting}
 use Rattle.cfb_commands.proofs.Steps.{closing_step}
-use Rattle.cfb_commands.specs.Commands.{refusal_of}
+use Rattle.cfb_commands.specs.Commands.{refusal_of_error}
 use Rattle.cfb_commands.specs.Working.{AnswersCommand, IsOpenedBy, Works}
 use Rattle.cfb_commands.proofs.Errors.{known, refusal_is}
 use Rattle.cfb_commands.proofs.cfb_agreement.InTurn.{setting-then}
@@ -43,11 +43,11 @@ made_by false at = create_new_stream at
 
 module _ (can_give : MediumFault → Bool) (old last : FileState) (at : List ℕ) (e : Error) where
   -- opening a stream that is there changes nothing
-  pub opens_not : last ≡ old → AnswersNot old (open_stream at) e → CallKeeps can_give old (open_stream at) (refused (refusal_of e)) last
+  pub opens_not : last ≡ old → AnswersNot old (open_stream at) e → CallKeeps can_give old (open_stream at) (refused (refusal_of_error e)) last
   opens_not same why =
       record { same = same; answers = subst (λ (r : Refusal). path.Answers old (open_stream at) (refused r)) (known why.0 e why.1) why.2 }
 
-  pub creates_not : (empties : Bool) → IsRefusedBy can_give old (made_by empties at) last e → CallKeeps can_give old (made_by empties at) (refused (refusal_of e)) last
+  pub creates_not : (empties : Bool) → IsRefusedBy can_give old (made_by empties at) last e → CallKeeps can_give old (made_by empties at) (refused (refusal_of_error e)) last
   creates_not true why = (e, refusal_is e, why)
   creates_not false why = (e, refusal_is e, why)
 

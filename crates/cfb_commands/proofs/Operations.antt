@@ -19,7 +19,7 @@ use Rattle.cfb_compound_file.specs.Stored.{ChangesStream}
 use Rattle.cfb_commands.specs.Promised.{IsWorkedOn, LacksRoomFor, causes_on, may_come_second}
 use Rattle.cfb_commands.proofs.Before.{same_before, stayed}
 use Rattle.cfb_commands.proofs.CallSteps.{uncounted}
-use Rattle.cfb_commands.specs.Commands.{refusal_of, stream_answer}
+use Rattle.cfb_commands.specs.Commands.{refusal_of_error, stream_answer}
 use Rattle.cfb_commands.specs.Working.{LendsNothing}
 use Rattle.cfb_commands.proofs.Errors.{failed_never_full, known, memory_never_full, refusal_is, reply_full}
 use Rattle.cfb_commands.proofs.Lending.{failed_runs, lends, memory_runs, runs_lend, short_runs}
@@ -63,11 +63,11 @@ module _ (old : OpenStream) (call : StreamCall) (new : OpenStream) (goes : GoesB
   }
 
   pub refused_on : (can_give : MediumFault → Bool) (e : Error) → IsStreamRefused (causes_on old.entry call old.file new.file) can_give old call new e
-      → (e ≡ Full → LacksRoomFor call old new) → IsWorkedOn old call (not_done (refusal_of e)) new
+      → (e ≡ Full → LacksRoomFor call old new) → IsWorkedOn old call (not_done (refusal_of_error e)) new
   refused_on can_give e why lacks = record {
     runs = subst (λ (r : Refusal). StreamRunsBy (causes_on old.entry call old.file new.file) old call (not_done r) new) (known why.rules.0 e why.rules.1) why.rules.2;
     stays = λ leaves calm. stayed old.file new.file why.stays calm;
-    counted = λ none. uncounted can_give (failures_of old.file) (failures_of new.file) (refusal_of e) e (refusal_is e) why.counts none;
+    counted = λ none. uncounted can_give (failures_of old.file) (failures_of new.file) (refusal_of_error e) e (refusal_is e) why.counts none;
     goes_on = goes.0;
     once = goes.1;
     foreseen = λ full. lacks (reply_full e full);

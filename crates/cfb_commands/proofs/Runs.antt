@@ -18,7 +18,7 @@ use Rattle.cfb_commands.proofs.CallSteps.{call_step}
 use Rattle.cfb_commands.proofs.Made.{run_stays}
 use Rattle.cfb_commands.specs.declared.command.Command.{Command as TheCommand}
 use Rattle.cfb_commands.specs.declared.command.Reply.{Reply}
-use Rattle.cfb_commands.specs.Commands.{command_of, reply_of}
+use Rattle.cfb_commands.specs.Commands.{command_of, command_reply_of}
 use Rattle.cfb_commands.specs.Working.{AnswersCommand, RunsLegally}
 use Rattle.cfb_commands.proofs.Growing.{put_behind, taken_more}
 
@@ -61,9 +61,9 @@ module _ (can_give : MediumFault → Bool) where
   -- one more of a list of them, with its reply behind those that were there
   pub runs_more : {A : Type 0} (old now next : FileState) (commands : List (TheCommand A)) (i : ℕ) (command : TheCommand A) (n : ℕ) (olds news : List (Reply A)) (reply : Reply A)
       → i < length commands → command ≡ get_or commands i command → news ≡ olds ++ reply ∷ [] → n ≤ length olds
-      → RunsLegally can_give old (map command_of (take i commands)) (map reply_of (drop n olds)) now → AnswersCommand can_give now (command_of command) (reply_of reply) next
-      → RunsLegally can_give old (map command_of (take (i + 1) commands)) (map reply_of (drop n news)) next
+      → RunsLegally can_give old (map command_of (take i commands)) (map command_reply_of (drop n olds)) now → AnswersCommand can_give now (command_of command) (command_reply_of reply) next
+      → RunsLegally can_give old (map command_of (take (i + 1) commands)) (map command_reply_of (drop n news)) next
   runs_more old now next commands i command n olds news reply less is put longer runs answers =
-      subst (λ (cs : List Command). RunsLegally can_give old cs (map reply_of (drop n news)) next) (sym (taken_more command_of commands i command less is))
-      (subst (λ (rs : List CommandReply). RunsLegally can_give old (map command_of (take i commands) ++ command_of command ∷ []) rs next) (sym (put_behind reply_of n olds news reply put longer))
-      (runs_on old now next (map command_of (take i commands)) (map reply_of (drop n olds)) (command_of command) (reply_of reply) runs answers))
+      subst (λ (cs : List Command). RunsLegally can_give old cs (map command_reply_of (drop n news)) next) (sym (taken_more command_of commands i command less is))
+      (subst (λ (rs : List CommandReply). RunsLegally can_give old (map command_of (take i commands) ++ command_of command ∷ []) rs next) (sym (put_behind command_reply_of n olds news reply put longer))
+      (runs_on old now next (map command_of (take i commands)) (map command_reply_of (drop n olds)) (command_of command) (command_reply_of reply) runs answers))

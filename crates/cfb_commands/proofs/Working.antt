@@ -23,7 +23,7 @@ use Rattle.cfb_commands.proofs.Steps.{stream_call_step}
 use Rattle.cfb_commands.specs.declared.command.StreamOp.{StreamOp}
 use Rattle.cfb_commands.specs.declared.command.StreamOp.TheVariants.{Read, ReadToEnd, Write, Seek, SetLen, Flush, Position, Len}
 use Rattle.cfb_commands.specs.declared.command.StreamReply.{StreamReply}
-use Rattle.cfb_commands.specs.Commands.{closing_of, refusal_of, stream_call_of, stream_reply_of}
+use Rattle.cfb_commands.specs.Commands.{refusal_of_result, refusal_of_error, stream_call_of, stream_reply_of}
 use Rattle.cfb_commands.specs.Working.{LendsNothing, Works}
 use Rattle.cfb_commands.proofs.Errors.{closing_full, known, refusal_is}
 use Rattle.cfb_commands.proofs.Growing.{put_more, taken_more}
@@ -75,7 +75,7 @@ pub closed_of : {T : Type 0} (can_give : MediumFault → Bool) (opened : FileSta
     → ClosesTree opened old.entry (stream_in old).content new → ChangesStream old.entry old.file new
     → ((first : FileState) → KeepsRest old.entry first old.file → KeepsRest old.entry first new) → (old.window.pending ≡ false → new ≡ old.file)
     → IfErr result (λ e. e ≡ Full → LacksRoomToWriteOut old)
-    → CountsFailure can_give result (failures_of old.file) (failures_of new) → IsClosedOf opened old (closing_of result) new
+    → CountsFailure can_give result (failures_of old.file) (failures_of new) → IsClosedOf opened old (refusal_of_result result) new
 closed_of can_give opened old (Ok x) new closes refused tree changes rest calm lacks counts = record {
   closes = closes;
   tree = tree;
@@ -92,5 +92,5 @@ closed_of can_give opened old (Err e) new closes refused tree changes rest calm 
   rest = rest;
   calm = calm;
   foreseen = λ full. lacks (closing_full e full);
-  counted = λ none. uncounted can_give (failures_of old.file) (failures_of new) (refusal_of e) e (refusal_is e) counts none;
+  counted = λ none. uncounted can_give (failures_of old.file) (failures_of new) (refusal_of_error e) e (refusal_is e) counts none;
 }

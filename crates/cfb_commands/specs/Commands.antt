@@ -62,31 +62,31 @@ module _ {A : Type 0} where
 -- ---- replies
 
 -- the kind of an error
-abbrev pub refusal_of : Error → Refusal
-refusal_of (error.NotFound d) = not_found
-refusal_of (error.AlreadyExists d) = already_exists
-refusal_of (error.InvalidInput d) = invalid_input
-refusal_of (error.InvalidData d) = invalid_data
-refusal_of (error.Medium f) = medium_failed
-refusal_of error.Memory = out_of_memory
-refusal_of error.Full = file_full
-refusal_of error.Unsound = not_sound
-refusal_of error.Failed = failed_earlier
+abbrev pub refusal_of_error : Error → Refusal
+refusal_of_error (error.NotFound d) = not_found
+refusal_of_error (error.AlreadyExists d) = already_exists
+refusal_of_error (error.InvalidInput d) = invalid_input
+refusal_of_error (error.InvalidData d) = invalid_data
+refusal_of_error (error.Medium f) = medium_failed
+refusal_of_error error.Memory = out_of_memory
+refusal_of_error error.Full = file_full
+refusal_of_error error.Unsound = not_sound
+refusal_of_error error.Failed = failed_earlier
 
 -- a call on a stream answers so, or it is refused
 abbrev pub stream_answer : {T : Type 0} → (T → streams.StreamReply) → Result T Error → streams.StreamReply
 stream_answer answer (Ok x) = answer x
-stream_answer answer (Err e) = not_done (refusal_of e)
+stream_answer answer (Err e) = not_done (refusal_of_error e)
 
 -- and so does a call by path
 abbrev pub call_answer : {T : Type 0} → (T → Reply) → Result T Error → Reply
 call_answer answer (Ok x) = answer x
-call_answer answer (Err e) = refused (refusal_of e)
+call_answer answer (Err e) = refused (refusal_of_error e)
 
 -- why closing was refused, if it was
-abbrev pub closing_of : {T : Type 0} → Result T Error → Option Refusal
-closing_of (Ok x) = None
-closing_of (Err e) = Some (refusal_of e)
+abbrev pub refusal_of_result : {T : Type 0} → Result T Error → Option Refusal
+refusal_of_result (Ok x) = None
+refusal_of_result (Err e) = Some (refusal_of_error e)
 
 module _ {A : Type 0} where
   abbrev pub stream_reply_of : StreamReply A → streams.StreamReply
@@ -97,12 +97,12 @@ module _ {A : Type 0} where
 
   -- what was done with a stream, or why none was opened
   abbrev pub streamed_reply : {H T : Type 0} → Result (Vec (StreamReply A) H × Result T Error) Error → CommandReply
-  streamed_reply (Ok works) = streamed (map stream_reply_of works.0.items) (closing_of works.1)
-  streamed_reply (Err e) = replied (refused (refusal_of e))
+  streamed_reply (Ok works) = streamed (map stream_reply_of works.0.items) (refusal_of_result works.1)
+  streamed_reply (Err e) = replied (refused (refusal_of_error e))
 
-  abbrev pub reply_of : TheReply A → CommandReply
-  reply_of (reply.Done result) = replied (call_answer (λ _. done) result)
-  reply_of (reply.Flag b) = replied (flag b)
-  reply_of (reply.Entry result) = replied (call_answer one_entry result)
-  reply_of (reply.Entries result) = replied (call_answer (λ list. entries list.items) result)
-  reply_of (reply.Stream result) = streamed_reply result
+  abbrev pub command_reply_of : TheReply A → CommandReply
+  command_reply_of (reply.Done result) = replied (call_answer (λ _. done) result)
+  command_reply_of (reply.Flag b) = replied (flag b)
+  command_reply_of (reply.Entry result) = replied (call_answer one_entry result)
+  command_reply_of (reply.Entries result) = replied (call_answer (λ list. entries list.items) result)
+  command_reply_of (reply.Stream result) = streamed_reply result

@@ -1,7 +1,7 @@
 //! Commands are done one after the other.
 ghost use Rattle.std.specs.Prelude.{◌≡◌, ◌≤◌, ◌+◌, ◌||◌, true, All, IsTrue, drop, length, map, take, vec_capacity};
 ghost use Rattle.cfb_commands.specs.cfb_agreement.Files.{is_failed};
-ghost use Rattle.cfb_commands.specs.Commands.{command_of, reply_of};
+ghost use Rattle.cfb_commands.specs.Commands.{command_of, command_reply_of};
 ghost use Rattle.cfb_commands.specs.Failing.{IsAsked, OnceFailed};
 ghost use Rattle.cfb_commands.specs.Faults.{IsGiven};
 ghost use Rattle.cfb_commands.specs.Kinds.{AreOfKinds, IsOfKind, kind_of_command};
@@ -25,7 +25,7 @@ fn run_one<F: Medium, A: Heap + Clone>(
     ensures asked { IsAsked result }
     ensures given { IsTrue F.tells → IsGiven (λ f. F.read_faults f || F.write_faults f) result }
     ensures answers { IsTrue F.tells → AnswersCommand (λ f. F.read_faults f || F.write_faults f) file.old
-        (command_of command.now) (reply_of result) file.new }
+        (command_of command.now) (command_reply_of result) file.new }
 {
     match command {
         Command::CreateStorage(path, moment) => Reply::Done(file.create_storage(path, *moment)),
@@ -84,11 +84,11 @@ pub fn run<F: Medium, A: Heap + Clone>(
     ensures given { IsTrue F.tells → All (IsGiven (λ f. F.read_faults f || F.write_faults f))
         (drop (length replies.old.items) replies.new.items) }
     ensures runs { IsTrue F.tells → RunsLegally (λ f. F.read_faults f || F.write_faults f) file.old
-        (map command_of commands.now) (map reply_of (drop (length replies.old.items)
+        (map command_of commands.now) (map command_reply_of (drop (length replies.old.items)
         replies.new.items)) file.new }
     ensures order { IsTrue F.tells → StaysMade file.old file.new }
     ensures failed { IsTrue F.tells
-        → OnceFailed (is_failed file.old) (map command_of commands.now) (map reply_of
+        → OnceFailed (is_failed file.old) (map command_of commands.now) (map command_reply_of
         (drop (length replies.old.items) replies.new.items)) file.new }
     ensures untouched { IsTrue F.tells → is_failed file.old ≡ true → file.new ≡ file.old }
 {

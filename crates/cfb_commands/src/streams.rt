@@ -8,7 +8,7 @@ ghost use Rattle.cfb_format.specs.Tree.{Tree};
 ghost use Rattle.cfb_commands.specs.cfb_rules.Calls.{refused};
 ghost use Rattle.cfb_commands.specs.cfb_rules.Lists.{on_stream, opening_call};
 ghost use Rattle.cfb_commands.specs.cfb_rules.StreamCalls.{got, read, read_to_end};
-ghost use Rattle.cfb_commands.specs.Commands.{opening_of, refusal_of, stream_answer, stream_call_of, stream_reply_of, streamed_reply};
+ghost use Rattle.cfb_commands.specs.Commands.{opening_of, refusal_of_error, stream_answer, stream_call_of, stream_reply_of, streamed_reply};
 ghost use Rattle.cfb_commands.specs.Faults.{CanBeGiven, IsAnswerGiven, IsWorkGiven};
 ghost use Rattle.cfb_commands.specs.Kinds.{kind_of_answer, kind_of_op};
 ghost use Rattle.cfb_commands.specs.Working.{AnswersCommand, IsOpenedBy, LendsNothing, Works};
@@ -130,7 +130,7 @@ fn opened<'f, F: Medium, A: Heap + Clone>(
         → IfErr result (CanBeGiven (λ f. F.read_faults f || F.write_faults f)) }
     ensures* refused { sem 𝓛 (file_rests F.row A.row F.ReadMedium F.Medium.own A.Allocator
         (λ old last e. IsTrue F.tells → CallKeeps (λ f. F.read_faults f || F.write_faults f) old
-        (opening_call (opening_of how) (chars path.now)) (refused (refusal_of e)) last) file.entry
+        (opening_call (opening_of how) (chars path.now)) (refused (refusal_of_error e)) last) file.entry
         result) }
 {
     // What the file keeps in memory is what its bytes say.

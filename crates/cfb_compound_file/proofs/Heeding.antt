@@ -12,7 +12,7 @@ use Rattle.cfb_agreement.specs.Files.{FileState, SameSetting, is_failed}
 use Rattle.cfb_stream_buffer.specs.Contents.{KeepsFlags}
 use Rattle.cfb_stream_window.specs.Windows.{Window}
 use Rattle.cfb_std_streams.specs.Kinds.{StandsFor, std_kind}
-use Rattle.cfb_compound_file.specs.Stored.{FileSetting, setting_of, stored_of}
+use Rattle.cfb_compound_file.specs.Stored.{FileSetting, file_setting_of, stored_of}
 use Rattle.cfb_compound_file.specs.StreamAnswers.{IsFailed, OpenStream, StreamHeedsFlags, open_stream_of}
 
 -- ---- the setting as one value
@@ -27,7 +27,7 @@ of_parts version cases max_sectors max_mini_sectors is_sound buffer_limit = reco
   buffer_limit = buffer_limit;
 }
 
-pub setting_is : (old new : FileState) → SameSetting old new → setting_of new ≡ setting_of old
+pub setting_is : (old new : FileState) → SameSetting old new → file_setting_of new ≡ file_setting_of old
 setting_is old new s =
     ap (λ (x : Version). of_parts x (cases_of new.base) (tables_in new.base).max_sectors new.base.max_mini_sectors new.is_sound new.buffer_limit) s.limits.version
     ∙ ap (λ (x : Cases). of_parts (version_of old.base) x (tables_in new.base).max_sectors new.base.max_mini_sectors new.is_sound new.buffer_limit) s.limits.cases
@@ -36,7 +36,7 @@ setting_is old new s =
     ∙ ap (λ (x : Bool). of_parts (version_of old.base) (cases_of old.base) (tables_in old.base).max_sectors old.base.max_mini_sectors x new.buffer_limit) s.is_sound
     ∙ ap (λ (x : ℕ). of_parts (version_of old.base) (cases_of old.base) (tables_in old.base).max_sectors old.base.max_mini_sectors old.is_sound x) s.buffer_limit
 
-pub setting_stays : (old new : FileState) → setting_of new ≡ setting_of old → SameSetting old new
+pub setting_stays : (old new : FileState) → file_setting_of new ≡ file_setting_of old → SameSetting old new
 setting_stays old new same = record {
   limits = record {
     version = ap (λ (z : FileSetting). z.version) same;
@@ -50,7 +50,7 @@ setting_stays old new same = record {
 
 -- one change of a file that has not failed
 pub change_keeps_flags : {T : Type 0} (old new : FileState) (i : ℕ) (r : Result T Error) → SameSetting old new → is_failed old ≡ false → OnOk r (is_failed new ≡ false)
-    → KeepsFlags (setting_of old) (setting_of new) (stored_of old i) (stored_of new i) r
+    → KeepsFlags (file_setting_of old) (file_setting_of new) (stored_of old i) (stored_of new i) r
 change_keeps_flags old new i r setting calm ended = record {
   setting = setting_is old new setting;
   stays = λ failed. absurd (let w : false ≡ true = sym calm ∙ failed in cc);
@@ -59,7 +59,7 @@ change_keeps_flags old new i r setting calm ended = record {
 
 -- ---- what the window keeps, said of an open stream
 
-pub heeds_by : {T : Type 0} (old new : FileState) (i : ℕ) (w w' : Window) (r : Result T Error) → setting_of new ≡ setting_of old
+pub heeds_by : {T : Type 0} (old new : FileState) (i : ℕ) (w w' : Window) (r : Result T Error) → file_setting_of new ≡ file_setting_of old
     → (is_failed old ≡ true → IsErrAnd r IsFailed × (new ≡ old) × (w' ≡ w)) → OnOk r (is_failed new ≡ false)
     → StreamHeedsFlags IsFailed (open_stream_of old i w) r (open_stream_of new i w')
 heeds_by old new i w w' r setting failed unfailed = record {

@@ -27,7 +27,7 @@ use Rattle.cfb_compound_file.specs.contracts.read_stream.ReadStream as read_stre
 use Rattle.cfb_compound_file.specs.contracts.stream.Stream as stream
 use Rattle.cfb_compound_file.specs.ReadStreams as reads
 use Rattle.cfb_compound_file.specs.Streams as writes
-use Rattle.cfb_compound_file.specs.StdStreams.{rest_in, rest_to_read}
+use Rattle.cfb_compound_file.specs.StdStreams.{known_rest_in, rest_to_read}
 use Rattle.cfb_compound_file.specs.StreamAnswers.{GoesOn, IsFailed, IsStreamRefused, OpenStream, StreamHeedsFlags, StreamHeedsReading, StreamRunsBy, StreamRunsOn, causes_of_reading, stored_in}
 
 -- they are a beginning of what is left, and none only at the end
@@ -76,5 +76,5 @@ module _ (F A : RattleType) (r : reading.Ghosts F.Denot) (g : writing.Ghosts F.D
 
   abbrev pub keeps : MutBor (Stream F.Denot A.Denot Window g r b) → Result (Bor (List ℕ)) StdError → Fml
   keeps s result = Rests (stream.the_row (record { mir = named 1; lft = [] }) F A (window.the_row A h) g r b h) s
-      (λ new. FillKeeps (rest_in r.tells (writes.open_of s.now)) (rest_in r.tells (writes.open_of new)) (Some (writes.window_of new).ahead) result
+      (λ new. FillKeeps (known_rest_in r.tells (writes.open_of s.now)) (known_rest_in r.tells (writes.open_of new)) (Some (writes.window_of new).ahead) result
       × IsFilled result s.now new)

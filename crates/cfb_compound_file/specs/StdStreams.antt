@@ -23,11 +23,11 @@ bytes_to_read tells s = known_content (is_known_to_read tells s) (stored_in s) s
 abbrev pub is_known_in : Bool → OpenStream → Bool
 is_known_in tells s = is_known tells (is_failed s.file) s.window.pending
 
-abbrev pub rest_in : Bool → OpenStream → Option (List ℕ)
-rest_in tells s = known_rest (is_known_in tells s) (stored_in s) s.window
+abbrev pub known_rest_in : Bool → OpenStream → Option (List ℕ)
+known_rest_in tells s = known_rest (is_known_in tells s) (stored_in s) s.window
 
-abbrev pub place_in : Bool → OpenStream → Option ℕ
-place_in tells s = known_position (is_known_in tells s) s.window
+abbrev pub known_place_in : Bool → OpenStream → Option ℕ
+known_place_in tells s = known_position (is_known_in tells s) s.window
 
-abbrev pub bytes_in : Bool → OpenStream → Option (List ℕ)
-bytes_in tells s = known_content (is_known_in tells s) (stored_in s) s.window
+abbrev pub known_bytes_in : Bool → OpenStream → Option (List ℕ)
+known_bytes_in tells s = known_content (is_known_in tells s) (stored_in s) s.window

@@ -34,8 +34,8 @@ pub record FileSetting : Type 0 where
   pub is_sound : Bool
   pub buffer_limit : ℕ
 
-abbrev pub setting_of : FileState → FileSetting
-setting_of file = record {
+abbrev pub file_setting_of : FileState → FileSetting
+file_setting_of file = record {
   version = version_of file.base;
   cases = cases_of file.base;
   max_sectors = (tables_in file.base).max_sectors;

@@ -2,7 +2,7 @@
 ghost use Rattle.std.specs.Prelude.{◌≤◌, ◌+◌, ◌↔◌, IsTrue};
 ghost use Rattle.cfb_compound_file.specs.cfb_content.Contents.{IsStreamOf, IsTooLongFor};
 ghost use Rattle.cfb_agreement.specs.Files.{IsFullFile, failures_of};
-ghost use Rattle.cfb_compound_file.specs.Stored.{IsTight, KeepsAllButStream, kept_of, setting_of, stored_of};
+ghost use Rattle.cfb_compound_file.specs.Stored.{IsTight, KeepsAllButStream, kept_of, file_setting_of, stored_of};
 
 use crate::compound_file::CompoundFile;
 use cfb_format::error::{Detail, Error};
@@ -26,7 +26,7 @@ impl<F: ReadMedium, A: Heap + Clone> ReadContents for CompoundFile<F, A> {
 
     ghost Setting = { FileSetting };
 
-    ghost setting = { λ file. setting_of file };
+    ghost setting = { λ file. file_setting_of file };
 
     ghost failures = { λ file. failures_of file };
 

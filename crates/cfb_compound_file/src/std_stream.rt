@@ -16,7 +16,7 @@ ghost use Rattle.cfb_compound_file.specs.Buffering.{BuffersRead, BuffersSeek, Bu
 ghost use Rattle.cfb_compound_file.specs.Stored.{ChangesStream, kept_of};
 ghost use Rattle.cfb_compound_file.specs.Streams.{entry_of, file_of, open_of, window_of};
 ghost use Rattle.cfb_compound_file.specs.StdLending.{IsLendingRefused, IsLentFrom, keeps};
-ghost use Rattle.cfb_compound_file.specs.StdStreams.{bytes_in, place_in, rest_in};
+ghost use Rattle.cfb_compound_file.specs.StdStreams.{known_bytes_in, known_place_in, known_rest_in};
 ghost use Rattle.cfb_compound_file.specs.StreamAnswers.{ClosesTree, GoesOn, GoesOnInTurn, IsFailed, IsStreamRefused, StreamHeedsFlags, StreamHeedsWritingOut, StreamRunsOn, stream_in};
 ghost use Rattle.cfb_compound_file.specs.cfb_rules.StreamCalls.{consume, count, flush, got, offset, read, ready, seek, write};
 
@@ -29,14 +29,14 @@ use std::io::{BufRead, Read, Seek, SeekFrom, Write};
 
 impl<'a, F: Medium, A: Heap + Clone> Read for Stream<'a, F, A> {
     ghost use Rattle.cfb_compound_file.specs.Streams.{open_of};
-    ghost use Rattle.cfb_compound_file.specs.StdStreams.{rest_in};
+    ghost use Rattle.cfb_compound_file.specs.StdStreams.{known_rest_in};
 
-    ghost remaining = { λ s. rest_in F.tells (open_of s) };
+    ghost remaining = { λ s. known_rest_in F.tells (open_of s) };
 
     fn read(&mut self, into: &mut [u8]) -> io::Result<usize>
         ensures bound { ReadsAtMost result into.new }
-        ensures bytes { ReadConsumes (rest_in F.tells (open_of self.old))
-            (rest_in F.tells (open_of self.new)) result into.new }
+        ensures bytes { ReadConsumes (known_rest_in F.tells (open_of self.old))
+            (known_rest_in F.tells (open_of self.new)) result into.new }
         ensures same_file { (file_of self.new).ghost_name ≡ (file_of self.old).ghost_name }
         ensures any { StreamHeedsFlags (StandsFor IsFailed)
             (open_of self.old) result (open_of self.new) }
@@ -68,9 +68,9 @@ impl<'a, F: Medium, A: Heap + Clone> BufRead for Stream<'a, F, A> {
     ghost consumable_len = { λ s. Some (window_of s).ahead };
 
     fn fill_buf(&mut self) -> io::Result<&[u8]>
-        ensures front { IfSome (rest_in F.tells (open_of self.old))
+        ensures front { IfSome (known_rest_in F.tells (open_of self.old))
             (λ xs. IfOk result (λ s. StartsWith xs s.now)) }
-        ensures end { IfSome (rest_in F.tells (open_of self.old))
+        ensures end { IfSome (known_rest_in F.tells (open_of self.old))
             (λ xs. IfOk result (λ s. length s.now ≡ 0 → xs ≡ [])) }
         ensures* after_borrow { sem 𝓛
             (keeps F.row A.row F.ReadMedium F.Medium.own A.Allocator self.entry result) }
@@ -88,8 +88,8 @@ impl<'a, F: Medium, A: Heap + Clone> BufRead for Stream<'a, F, A> {
     }
 
     fn consume(&mut self, amount: usize)
-        ensures bytes { DropsConsumable (rest_in F.tells (open_of self.old))
-            (rest_in F.tells (open_of self.new)) (Some (window_of self.old).ahead) amount }
+        ensures bytes { DropsConsumable (known_rest_in F.tells (open_of self.old))
+            (known_rest_in F.tells (open_of self.new)) (Some (window_of self.old).ahead) amount }
         ensures same_file { (file_of self.new).ghost_name ≡ (file_of self.old).ghost_name }
         ensures file { (file_of self.new).now ≡ (file_of self.old).now }
         ensures entry { entry_of self.new ≡ entry_of self.old }
@@ -103,17 +103,17 @@ impl<'a, F: Medium, A: Heap + Clone> BufRead for Stream<'a, F, A> {
 
 impl<'a, F: Medium, A: Heap + Clone> Seek for Stream<'a, F, A> {
     ghost use Rattle.cfb_compound_file.specs.Streams.{open_of};
-    ghost use Rattle.cfb_compound_file.specs.StdStreams.{bytes_in, place_in};
+    ghost use Rattle.cfb_compound_file.specs.StdStreams.{known_bytes_in, known_place_in};
 
-    ghost stream_position = { λ s. place_in F.tells (open_of s) };
+    ghost stream_position = { λ s. known_place_in F.tells (open_of s) };
 
-    ghost stream_bytes = { λ s. bytes_in F.tells (open_of s) };
+    ghost stream_bytes = { λ s. known_bytes_in F.tells (open_of s) };
 
     fn seek(&mut self, to: SeekFrom) -> io::Result<u64>
-        ensures moves { SeekMoves (place_in F.tells (open_of self.old))
-            (place_in F.tells (open_of self.new)) (bytes_in F.tells (open_of self.old)) to result }
-        ensures bytes { Keeps (bytes_in F.tells (open_of self.old))
-            (bytes_in F.tells (open_of self.new)) }
+        ensures moves { SeekMoves (known_place_in F.tells (open_of self.old))
+            (known_place_in F.tells (open_of self.new)) (known_bytes_in F.tells (open_of self.old)) to result }
+        ensures bytes { Keeps (known_bytes_in F.tells (open_of self.old))
+            (known_bytes_in F.tells (open_of self.new)) }
         ensures same_file { (file_of self.new).ghost_name ≡ (file_of self.old).ghost_name }
         ensures any { StreamHeedsFlags (StandsFor IsFailed)
             (open_of self.old) result (open_of self.new) }

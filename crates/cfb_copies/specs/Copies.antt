@@ -12,7 +12,7 @@ use Rattle.cfb_format.specs.Tree.{AreWhole, Tree, nothing}
 use Rattle.cfb_built.specs.Copied.{CanAllBeCopied, Part, names_of, parts_copied}
 use Rattle.cfb_places.specs.declared.walk.Place.{Place}
 use Rattle.cfb_places.specs.Laws.{IsWholeAt}
-use Rattle.cfb_places.specs.Parts.{part_at, parts_of}
+use Rattle.cfb_places.specs.Parts.{part_at, tree_parts}
 use Rattle.cfb_places.specs.Places.{places_of}
 use Rattle.cfb_copies.specs.cfb_tables.Changes.{NoneFree}
 use Rattle.cfb_copies.specs.cfb_alloc.Frame.{IsFixedHeaderByte}
@@ -36,7 +36,7 @@ AreReadable file list = All (λ (p : Place). IsWholeAt (entries_of file.base) (c
 
 -- the parts of the file's tree, in the order of a walk
 abbrev pub parts_in_file : FileState → Outline → List Part
-parts_in_file file o = parts_of (entries_of file.base) (content_of file.base) o
+parts_in_file file o = tree_parts (entries_of file.base) (content_of file.base) o
 
 -- ---- on the way
 

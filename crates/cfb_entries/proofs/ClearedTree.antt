@@ -22,7 +22,7 @@ use Rattle.cfb_entries.specs.Clearing.{HasCleared}
 use Rattle.cfb_index.specs.Index.{Lists}
 use Rattle.cfb_index.proofs.Lists.{lists-same}
 use Rattle.cfb_entries.specs.cfb_keys.declared.key.IndexKey.{IndexKey}
-use Rattle.cfb_entries.specs.Covering.{names_in}
+use Rattle.cfb_entries.specs.Covering.{entry_names}
 use Rattle.cfb_entries.proofs.Cleared.{after, after-counts, apart-now}
 
 -- what stands in a storage of an outline stands in that
@@ -125,18 +125,18 @@ module _ (cases : Cases) (old : List Entry) (o : Outline) (top : ℕ) (x : Outli
             }
 
     -- a child that is not in it keeps its name
-    name-kept : (p k : ℕ) → IsOutside p k → names_in new k ≡ names_in old k
+    name-kept : (p k : ℕ) → IsOutside p k → entry_names new k ≡ entry_names old k
     name-kept p k (c, pt, out) = elim (cases_eq k top) [
-      | inl e ↦ ap (names_in new) e ∙ ap (λ (y : Entry). y.name) did.top_kept ∙ ap (names_in old) (sym e)
+      | inl e ↦ ap (entry_names new) e ∙ ap (λ (y : Entry). y.name) did.top_kept ∙ ap (entry_names old) (sym e)
       | inr kt ↦ elim (cases_lt 0 (times_in k (numbers x))) [
         | inl inside ↦ elim (owner-inside p k c (omega (arith, inside))) [ inl e ↦ absurd (pt e) | inr q ↦ absurd (omega (arith, out, q)) ]
         | inr z ↦ ap (λ (y : Entry). y.name) (did.others_kept k kt (outside k (numbers x) (omega (arith, z))))
       ]
     ]
 
-    pub cleared-lists : (IsLeft : ℕ → ℕ → Type 0) → ((p k : ℕ) → IsLeft p k ↔ IsOutside p k) → (numbers : IndexKey → Option ℕ) → Lists cases (names_in old) IsLeft numbers
-        → Lists cases (names_in new) (IsChildIn cases new (after cases old o top x is reached standing new did)) numbers
+    pub cleared-lists : (IsLeft : ℕ → ℕ → Type 0) → ((p k : ℕ) → IsLeft p k ↔ IsOutside p k) → (numbers : IndexKey → Option ℕ) → Lists cases (entry_names old) IsLeft numbers
+        → Lists cases (entry_names new) (IsChildIn cases new (after cases old o top x is reached standing new did)) numbers
     cleared-lists IsLeft both numbers lists =
-        lists-same cases (names_in old) IsLeft numbers lists (names_in new) (IsChildIn cases new (after cases old o top x is reached standing new did))
+        lists-same cases (entry_names old) IsLeft numbers lists (entry_names new) (IsChildIn cases new (after cases old o top x is reached standing new did))
         (λ p k. (λ c. (both p k).1 ((cleared-children p k).0 c), λ l. (cleared-children p k).1 ((both p k).0 l)))
         (λ p k l. name-kept p k ((both p k).0 l)) numbers (λ q. refl)

@@ -24,7 +24,7 @@ use Rattle.cfb_trees.proofs.PathInserted as put
 use Rattle.cfb_trees.proofs.PathReached.{Reached, reached-number}
 use Rattle.cfb_trees.proofs.Same.{fields-keep-outline, grown-at, growth-keeps-outline, same-fields, set-fields}
 use Rattle.cfb_siblings.specs.Laws.{grown_by}
-use Rattle.cfb_entries.specs.Covering.{Covers, names_in}
+use Rattle.cfb_entries.specs.Covering.{Covers, entry_names}
 use Rattle.cfb_entries.specs.EntryList.{AreInOrder, HaveShortNames}
 use Rattle.cfb_entries.specs.declared.fields.Fields.{Fields}
 use Rattle.cfb_entries.specs.Fields.{entries_with_fields, entry_with_fields}
@@ -36,10 +36,10 @@ use Rattle.cfb_entries.proofs.Contents.{short-at}
 pub covers-kept : (cases : Cases) (old new : List Entry) (o : Outline) (before after : Index) → IsOutline cases old o → IsOutline cases new o → length old ≤ length new
     → ((k : ℕ) → ButFields (entry_at old k) (entry_at new k)) → HasSame before after → Covers cases old before → Covers cases new after
 covers-kept cases old new o before after is now longer same kept covers o' is' =
-    let here : Lists cases (names_in new) (IsChildIn cases new o) (number_under after) =
-    lists-same cases (names_in old) (IsChildIn cases old o) (number_under before) (covers o is)
-    (names_in new) (IsChildIn cases new o) (other-fields-keep-children cases old new o is longer same) (λ p k h. (same k).name) (number_under after) kept in
-    subst (λ (x : Outline). Lists cases (names_in new) (IsChildIn cases new x) (number_under after)) (IsOutline-unique cases new o o' now is') here
+    let here : Lists cases (entry_names new) (IsChildIn cases new o) (number_under after) =
+    lists-same cases (entry_names old) (IsChildIn cases old o) (number_under before) (covers o is)
+    (entry_names new) (IsChildIn cases new o) (other-fields-keep-children cases old new o is longer same) (λ p k h. (same k).name) (number_under after) kept in
+    subst (λ (x : Outline). Lists cases (entry_names new) (IsChildIn cases new x) (number_under after)) (IsOutline-unique cases new o o' now is') here
 
 pub grown-covered : (cases : Cases) (es : List Entry) (more : ℕ) (index : Index) → AreInOrder cases es → Covers cases es index → Covers cases (grown_by es more) index
 grown-covered cases es more index a covers =
@@ -57,8 +57,8 @@ fields-covered cases es i f index whole a covers =
 -- another index that has the same
 pub covers-same : (cases : Cases) (es : List Entry) (before after : Index) → HasSame before after → Covers cases es before → Covers cases es after
 covers-same cases es before after kept covers o is =
-    lists-same cases (names_in es) (IsChildIn cases es o) (number_under before) (covers o is)
-    (names_in es) (IsChildIn cases es o) (λ p k. (λ c. c, λ c. c)) (λ p k h. refl) (number_under after) kept
+    lists-same cases (entry_names es) (IsChildIn cases es o) (number_under before) (covers o is)
+    (entry_names es) (IsChildIn cases es o) (λ p k. (λ c. c, λ c. c)) (λ p k h. refl) (number_under after) kept
 
 -- ---- an entry was put
 
@@ -71,27 +71,27 @@ module _ (cases : Cases) (old new : List Entry) (parent n : ℕ) (entry : Entry)
   one-more : (p k : ℕ) → IsChildIn cases new o' p k ↔ (((p ≡ parent) × (k ≡ n)) ⊎ IsChildIn cases old r.outline p k)
   one-more = insertion-adds-a-child cases old new r.outline o' parent n entry xs ys r.is is' r.reached r.kind free object childless ins
 
-  same-name : (p k : ℕ) → IsChildIn cases old r.outline p k → names_in new k ≡ names_in old k
+  same-name : (p k : ℕ) → IsChildIn cases old r.outline p k → entry_names new k ≡ entry_names old k
   same-name p k c = put.same-name cases old new r.outline r.is parent n entry xs ys ins free r.kind childless at k (child-reached cases old r.outline r.is p k c)
 
   -- no other child has its key
-  apart : (p k : ℕ) → IsChildIn cases old r.outline p k → key_in cases parent (names_in new n) ≢ key_in cases p (names_in new k)
+  apart : (p k : ℕ) → IsChildIn cases old r.outline p k → key_in cases parent (entry_names new n) ≢ key_in cases p (entry_names new k)
   apart p k c e =
-      let (pq, same) = (keys-tell-names cases parent p (names_in new n) (names_in new k) (short-at new short n) (short-at new short k)).0 e in
+      let (pq, same) = (keys-tell-names cases parent p (entry_names new n) (entry_names new k) (short-at new short n) (short-at new short k)).0 e in
       let mine : IsChildIn cases new o' parent n = (one-more parent n).1 (inl (refl, refl)) in
       let other : IsChildIn cases new o' parent k = (one-more parent k).1 (inr (subst (λ (q : ℕ). IsChildIn cases old r.outline q k) (sym pq) c)) in
       let one : other.list ≡ mine.list = Below-unique cases new (entry_at new parent).child other.list mine.list other.below mine.below in
-      let is-n : n ≡ k = one-named cases new (names_in new n) mine.list n k mine.below.rises mine.among (subst (λ (l : List ℕ). Contains l k) one other.among)
-      (same-itself cases (names_in new n)) same in
+      let is-n : n ≡ k = one-named cases new (entry_names new n) mine.list n k mine.below.rises mine.among (subst (λ (l : List ℕ). Contains l k) one other.among)
+      (same-itself cases (entry_names new n)) same in
       (child-reached cases old r.outline r.is p k c).used (ap (λ (j : ℕ). (entry_at old j).obj_type) (sym is-n) ∙ free)
 
-  pub put-lists : (before after : Index) → Covers cases old before → Updates before after (key_in cases parent (names_in new n)) (Some n)
-      → Lists cases (names_in new) (IsChildIn cases new o') (number_under after)
+  pub put-lists : (before after : Index) → Covers cases old before → Updates before after (key_in cases parent (entry_names new n)) (Some n)
+      → Lists cases (entry_names new) (IsChildIn cases new o') (number_under after)
   put-lists before after covers u =
-      let renamed : Lists cases (names_in new) (IsChildIn cases old r.outline) (number_under before) =
-      lists-same cases (names_in old) (IsChildIn cases old r.outline) (number_under before) (covers r.outline r.is)
-      (names_in new) (IsChildIn cases old r.outline) (λ p k. (λ c. c, λ c. c)) same-name (number_under before) (λ q. refl) in
-      lists-more cases (names_in new) (IsChildIn cases old r.outline) (number_under before) renamed (number_under after) parent n u (IsChildIn cases new o')
+      let renamed : Lists cases (entry_names new) (IsChildIn cases old r.outline) (number_under before) =
+      lists-same cases (entry_names old) (IsChildIn cases old r.outline) (number_under before) (covers r.outline r.is)
+      (entry_names new) (IsChildIn cases old r.outline) (λ p k. (λ c. c, λ c. c)) same-name (number_under before) (λ q. refl) in
+      lists-more cases (entry_names new) (IsChildIn cases old r.outline) (number_under before) renamed (number_under after) parent n u (IsChildIn cases new o')
       (λ p k. (
         λ c. elim ((one-more p k).0 c) [ inl e ↦ inl e | inr d ↦ inr (d, apart p k d) ],
         λ s. elim s [ inl e ↦ (one-more p k).1 (inl e) | inr d ↦ (one-more p k).1 (inr d.0) ],
@@ -99,6 +99,6 @@ module _ (cases : Cases) (old new : List Entry) (parent n : ℕ) (entry : Entry)
 
 pub covers-put : (cases : Cases) (old new : List Entry) (parent n : ℕ) (entry : Entry) (xs ys : List ℕ) → HasInserted cases old new parent n entry xs ys
     → IsReachedStorage cases old parent → (entry_at old n).obj_type ≡ Unallocated → IsObject entry → entry.child ≡ no_stream → HaveShortNames new
-    → (before after : Index) → Updates before after (key_in cases parent (names_in new n)) (Some n) → Covers cases old before → Covers cases new after
+    → (before after : Index) → Updates before after (key_in cases parent (entry_names new n)) (Some n) → Covers cases old before → Covers cases new after
 covers-put cases old new parent n entry xs ys ins r free object childless short before after u covers o' is' =
     put-lists cases old new parent n entry xs ys ins r free object childless short o' is' before after covers u

@@ -20,7 +20,7 @@ use Rattle.cfb_trees.proofs.Reached.{below-reached}
 use Rattle.cfb_trees.proofs.Standing.{reached-is-parent}
 use Rattle.cfb_entries.specs.declared.indexing.Child.{Child}
 use Rattle.cfb_entries.specs.Clearing.{HasCleared}
-use Rattle.cfb_entries.specs.Covering.{AreTaken, Covers, IsChildOf, child_at, names_in}
+use Rattle.cfb_entries.specs.Covering.{AreTaken, Covers, IsChildOf, child_at, entry_names}
 use Rattle.cfb_entries.specs.EntryList.{HaveShortNames}
 use Rattle.cfb_entries.proofs.Built.{taken-lists}
 use Rattle.cfb_entries.proofs.Cleared.{after, inside-reached, now-is, stands-inside}
@@ -58,7 +58,7 @@ module _ (cases : Cases) (es : List Entry) (top : ℕ) (list : List ℕ) (r : Is
         let (x, s, has) = stands-inside cases es top r in
         let same : list ≡ numbers x = all x has in
         let here : HasCleared es new top (numbers x) = subst (HasCleared es new top) same did in
-        let left : Lists cases (names_in es) (λ p k. IsChildIn cases es r.outline p k × (Contains children (child_at p k) → ⊥)) (number_under last) =
+        let left : Lists cases (entry_names es) (λ p k. IsChildIn cases es r.outline p k × (Contains children (child_at p k) → ⊥)) (number_under last) =
         taken-lists cases es r.outline short children (λ c m. is-child c.storage c.number m) (number_under before) (number_under last) (covers r.outline r.is) taken in
         let both : (p k : ℕ) → (IsChildIn cases es r.outline p k × (Contains children (child_at p k) → ⊥)) ↔ (IsChildIn cases es r.outline p k × (p ≢ top) × (times_in p (numbers x) ≡ 0)) =
         λ p k. (
@@ -75,7 +75,7 @@ module _ (cases : Cases) (es : List Entry) (top : ℕ) (list : List ℕ) (r : Is
                 ],
           ),
         ) in
-        let now : Lists cases (names_in new) (IsChildIn cases new (after cases es r.outline top x r.is r.reached s new here)) (number_under last) =
+        let now : Lists cases (entry_names new) (IsChildIn cases new (after cases es r.outline top x r.is r.reached s new here)) (number_under last) =
         cleared-lists cases es r.outline top x r.is r.reached s new here (λ p k. IsChildIn cases es r.outline p k × (Contains children (child_at p k) → ⊥)) both (number_under last) left in
-        subst (λ (y : Outline). Lists cases (names_in new) (IsChildIn cases new y) (number_under last))
+        subst (λ (y : Outline). Lists cases (entry_names new) (IsChildIn cases new y) (number_under last))
         (IsOutline-unique cases new (after cases es r.outline top x r.is r.reached s new here) o' (now-is cases es r.outline top x r.is r.reached s new here) is') now

@@ -19,7 +19,7 @@ use Rattle.cfb_siblings.proofs.Tallies.{counted, present, tally-append}
 use Rattle.cfb_trees.specs.Children.{IsChildIn}
 use Rattle.cfb_trees.specs.Reached.{IsReached}
 use Rattle.cfb_entries.specs.declared.indexing.Child.{Child}
-use Rattle.cfb_entries.specs.Covering.{AreMoved, ArePut, AreTaken, IsChildOf, ListsChildren, child_at, key_of, moved_all, names_in, without_all}
+use Rattle.cfb_entries.specs.Covering.{AreMoved, ArePut, AreTaken, IsChildOf, ListsChildren, child_at, key_of, moved_all, entry_names, without_all}
 use Rattle.cfb_siblings.proofs.PathWalk.{is-stream-or}
 
 -- ---- lists
@@ -149,20 +149,20 @@ module _ (cases : Cases) (es : List Entry) (old mid new : Index) where
       ∙ sym (ap (λ (f : IndexKey → Option ℕ). f q) (without-push (take i cs) c (number_under old)))
       ∙ ap (λ (l : List Child). without_all cases es l (number_under old) q) (sym (take_more cs i d lt))
 
-  moved-push : (from to : ℕ) (cs : List ℕ) (c : ℕ) (numbers : IndexKey → Option ℕ) → moved_all cases (names_in es) from to (cs ++ c ∷ []) numbers
-      ≡ update is_same_key (update is_same_key (moved_all cases (names_in es) from to cs numbers) (key_in cases from (names_in es c)) None) (key_in cases to (names_in es c)) (Some c)
+  moved-push : (from to : ℕ) (cs : List ℕ) (c : ℕ) (numbers : IndexKey → Option ℕ) → moved_all cases (entry_names es) from to (cs ++ c ∷ []) numbers
+      ≡ update is_same_key (update is_same_key (moved_all cases (entry_names es) from to cs numbers) (key_in cases from (entry_names es c)) None) (key_in cases to (entry_names es c)) (Some c)
   moved-push from to [] c numbers = refl
   moved-push from to (x ∷ cs) c numbers =
-      moved-push from to cs c (update is_same_key (update is_same_key numbers (key_in cases from (names_in es x)) None) (key_in cases to (names_in es x)) (Some x))
+      moved-push from to cs c (update is_same_key (update is_same_key numbers (key_in cases from (entry_names es x)) None) (key_in cases to (entry_names es x)) (Some x))
 
-  pub move-more : (from to : ℕ) (cs : List ℕ) (i : ℕ) (less : Index) → i < length cs → Updates mid less (key_in cases from (names_in es (get_or cs i 0))) None
-      → Updates less new (key_in cases to (names_in es (get_or cs i 0))) (Some (get_or cs i 0)) → AreMoved cases es (take i cs) from to old mid → AreMoved cases es (take (i + 1) cs) from to old new
+  pub move-more : (from to : ℕ) (cs : List ℕ) (i : ℕ) (less : Index) → i < length cs → Updates mid less (key_in cases from (entry_names es (get_or cs i 0))) None
+      → Updates less new (key_in cases to (entry_names es (get_or cs i 0))) (Some (get_or cs i 0)) → AreMoved cases es (take i cs) from to old mid → AreMoved cases es (take (i + 1) cs) from to old new
   move-more from to cs i less lt u v held q =
       let c = get_or cs i 0 in
       v q
-      ∙ ap (λ (x : Option ℕ). cond (is_same_key (key_in cases to (names_in es c)) q) (Some c) x) (u q ∙ ap (λ (x : Option ℕ). cond (is_same_key (key_in cases from (names_in es c)) q) None x) (held q))
+      ∙ ap (λ (x : Option ℕ). cond (is_same_key (key_in cases to (entry_names es c)) q) (Some c) x) (u q ∙ ap (λ (x : Option ℕ). cond (is_same_key (key_in cases from (entry_names es c)) q) None x) (held q))
       ∙ sym (ap (λ (f : IndexKey → Option ℕ). f q) (moved-push from to (take i cs) c (number_under old)))
-      ∙ ap (λ (l : List ℕ). moved_all cases (names_in es) from to l (number_under old) q) (sym (take_more cs i 0 lt))
+      ∙ ap (λ (l : List ℕ). moved_all cases (entry_names es) from to l (number_under old) q) (sym (take_more cs i 0 lt))
 
 -- into an index with nothing in it
 pub put-into-none : (cases : Cases) (es : List Entry) (children : List Child) (none mid put last : Index) → none.pairs ≡ [] → HasSame none mid → ArePut cases es children mid put → HasSame put last

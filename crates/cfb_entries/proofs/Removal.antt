@@ -22,7 +22,7 @@ use Rattle.cfb_trees.proofs.Members.{reached-is-within}
 use Rattle.cfb_trees.proofs.Reached.{below-reached}
 use Rattle.cfb_trees.proofs.Standing.{reached-is-parent}
 use Rattle.cfb_trees.proofs.Taken.{freed-counted}
-use Rattle.cfb_entries.specs.Covering.{Covers, IsIndexedRemoval, IsReachedChild, ListsChildren, ListsMoved, names_in}
+use Rattle.cfb_entries.specs.Covering.{Covers, IsIndexedRemoval, IsReachedChild, ListsChildren, ListsMoved, entry_names}
 use Rattle.cfb_entries.specs.EntryList.{HaveShortNames, IsChildless, RemovesEntry}
 use Rattle.cfb_siblings.proofs.Alone.{one-named}
 use Rattle.cfb_entries.proofs.Changed.{is-removal}
@@ -93,7 +93,7 @@ module _ (cases : Cases) (es : List Entry) (parent : ℕ) (name : List ℕ) (r :
       (below-reached r.outline there.0 (child-below cases es r.outline r.is parent there.0 (record { reached = r.reached; storage = r.kind; list = there.1; below = there.2.below; among = there.3.0 })))
 
   pub there-short : IsShort name
-  there-short = same-short cases name (names_in es there.0) there.3.1 (short-at es short there.0)
+  there-short = same-short cases name (entry_names es there.0) there.3.1 (short-at es short there.0)
 
 -- ---- what is in the entry that moved
 

@@ -24,7 +24,7 @@ use Rattle.cfb_trees.specs.Reached.{IsReached}
 use Rattle.cfb_trees.proofs.InStorages.{none-in, one-storage, removal-takes-a-child}
 use Rattle.cfb_trees.proofs.PathRemoved.{moved-freed, moved-other}
 use Rattle.cfb_trees.proofs.Taken.{freed-counted}
-use Rattle.cfb_entries.specs.Covering.{moved_all, names_in}
+use Rattle.cfb_entries.specs.Covering.{moved_all, entry_names}
 use Rattle.cfb_entries.specs.EntryList.{HaveShortNames}
 use Rattle.cfb_siblings.proofs.Alone.{one-named}
 use Rattle.cfb_entries.proofs.Contents.{in-middle, short-at}
@@ -32,20 +32,20 @@ use Rattle.cfb_entries.proofs.Moves.{AreApart, IsMoved, moved-lists}
 use Rattle.cfb_format.proofs.Tests.{if-false, if-true}
 
 -- in one storage of a tree no two entries have the same name
-pub children-apart : (cases : Cases) (es : List Entry) (o : Outline) → AreApart cases (names_in es) (IsChildIn cases es o)
+pub children-apart : (cases : Cases) (es : List Entry) (o : Outline) → AreApart cases (entry_names es) (IsChildIn cases es o)
 children-apart cases es o p k j c d same =
     let one : d.list ≡ c.list = Below-unique cases es (entry_at es p).child d.list c.list d.below c.below in
-    one-named cases es (names_in es k) c.list k j c.below.rises c.among (subst (λ (l : List ℕ). Contains l j) one d.among) (same-itself cases (names_in es k)) same
+    one-named cases es (entry_names es k) c.list k j c.below.rises c.among (subst (λ (l : List ℕ). Contains l j) one d.among) (same-itself cases (entry_names es k)) same
 
 module _ (cases : Cases) (old new : List Entry) (o o' : Outline) (parent n freed : ℕ) (xs ys list : List ℕ)
     (is : IsOutline cases old o) (is' : IsOutline cases new o') (reached : IsReached o parent) (storage : (entry_at old parent).obj_type ≢ Stream)
     (childless : (entry_at old n).child ≡ no_stream) (rem : HasRemoved cases old new parent n freed xs ys list)
     (short : HaveShortNames old) (short' : HaveShortNames new)
-    (numbers : IndexKey → Option ℕ) (lists : Lists cases (names_in old) (IsChildIn cases old o) numbers) where
+    (numbers : IndexKey → Option ℕ) (lists : Lists cases (entry_names old) (IsChildIn cases old o) numbers) where
   now : (p' k' : ℕ) → IsChildIn cases new o' p' k' ↔ WasChildIn cases old o n freed p' k'
   now = (removal-takes-a-child cases old new o o' parent n freed xs ys list is is' reached storage childless rem).0
 
-  name-now : (k : ℕ) → k ≢ n → names_in new (place_after n freed k) ≡ names_in old k
+  name-now : (k : ℕ) → k ≢ n → entry_names new (place_after n freed k) ≡ entry_names old k
   name-now = (removal-takes-a-child cases old new o o' parent n freed xs ys list is is' reached storage childless rem).1
 
   child-of : (k : ℕ) → 1 ≤ times_in k (xs ++ n ∷ ys) → IsChildIn cases old o parent k
@@ -73,13 +73,13 @@ module _ (cases : Cases) (old new : List Entry) (o o' : Outline) (parent n freed
 
   -- ---- the key of the entry is taken
 
-  module _ (name : List ℕ) (fits : IsShort name) (same : is_same_name cases name (names_in old n) ≡ true) (less : IndexKey → Option ℕ) (u : IsUpdate numbers less (key_in cases parent name) None) where
-    left-both : (p k : ℕ) → IsLeft p k ↔ (IsChildIn cases old o p k × (key_in cases parent name ≢ key_in cases p (names_in old k)))
+  module _ (name : List ℕ) (fits : IsShort name) (same : is_same_name cases name (entry_names old n) ≡ true) (less : IndexKey → Option ℕ) (u : IsUpdate numbers less (key_in cases parent name) None) where
+    left-both : (p k : ℕ) → IsLeft p k ↔ (IsChildIn cases old o p k × (key_in cases parent name ≢ key_in cases p (entry_names old k)))
     left-both p k = (
       λ (c, kn). (
         c,
         λ e.
-            let (ep, alike) = (keys-tell-names cases parent p name (names_in old k) fits (short-at old short k)).0 e in
+            let (ep, alike) = (keys-tell-names cases parent p name (entry_names old k) fits (short-at old short k)).0 e in
             let d : IsChildIn cases old o parent k = subst (λ (q : ℕ). IsChildIn cases old o q k) (sym ep) c in
             let one : d.list ≡ taken-child.list = Below-unique cases old (entry_at old parent).child d.list taken-child.list d.below taken-child.below in
             kn (one-named cases old name taken-child.list k n taken-child.below.rises (subst (λ (l : List ℕ). Contains l k) one d.among) taken-child.among alike same),
@@ -88,20 +88,20 @@ module _ (cases : Cases) (old new : List Entry) (o o' : Outline) (parent n freed
         c,
         λ e.
             let ep : p ≡ parent = owner p k c (subst (λ (j : ℕ). IsChildIn cases old o parent j) (sym e) taken-child) in
-            let alike : is_same_name cases name (names_in old k) ≡ true = subst (λ (j : ℕ). is_same_name cases name (names_in old j) ≡ true) (sym e) same in
-            ne ((keys-tell-names cases parent p name (names_in old k) fits (short-at old short k)).1 (sym ep, alike)),
+            let alike : is_same_name cases name (entry_names old k) ≡ true = subst (λ (j : ℕ). is_same_name cases name (entry_names old j) ≡ true) (sym e) same in
+            ne ((keys-tell-names cases parent p name (entry_names old k) fits (short-at old short k)).1 (sym ep, alike)),
       ),
     )
 
-    left-lists : Lists cases (names_in old) IsLeft less
-    left-lists = lists-less cases (names_in old) (IsChildIn cases old o) numbers lists less (key_in cases parent name) u IsLeft left-both
+    left-lists : Lists cases (entry_names old) IsLeft less
+    left-lists = lists-less cases (entry_names old) (IsChildIn cases old o) numbers lists less (key_in cases parent name) u IsLeft left-both
 
     -- ---- its slot is free
 
-    pub stays-lists : freed ≡ n → Lists cases (names_in new) (IsChildIn cases new o') less
+    pub stays-lists : freed ≡ n → Lists cases (entry_names new) (IsChildIn cases new o') less
     stays-lists e =
         let place : (k : ℕ) → k ≢ n → place_after n freed k ≡ k = λ k kn. moved-other n freed k (λ f. kn (f ∙ e)) in
-        lists-same cases (names_in old) IsLeft less left-lists (names_in new) (IsChildIn cases new o')
+        lists-same cases (entry_names old) IsLeft less left-lists (entry_names new) (IsChildIn cases new o')
         (λ p' k'. (
           λ c. let (p, k, d, kn, ep, ek) = (now p' k').0 c in
               let fp : p' ≡ p = ep ∙ place p (not-in-taken p k d) in
@@ -109,40 +109,40 @@ module _ (cases : Cases) (old new : List Entry) (o o' : Outline) (parent n freed
               (subst (λ (q : ℕ). IsChildIn cases old o q k') (sym fp) (subst (λ (j : ℕ). IsChildIn cases old o p j) (sym fk) d), λ f. kn (sym fk ∙ f)),
           λ (d, kn). (now p' k').1 (p', k', d, kn, sym (place p' (not-in-taken p' k' d)), sym (place k' kn)),
         ))
-        (λ p k l. sym (ap (names_in new) (place k l.1)) ∙ name-now k l.1) less (λ q. refl)
+        (λ p k l. sym (ap (entry_names new) (place k l.1)) ∙ name-now k l.1) less (λ q. refl)
 
     -- ---- the freed entry stands in its slot now
 
-    module _ (fn : freed ≢ n) (more : IndexKey → Option ℕ) (v : IsUpdate less more (key_in cases parent (names_in new n)) (Some n)) where
+    module _ (fn : freed ≢ n) (more : IndexKey → Option ℕ) (v : IsUpdate less more (key_in cases parent (entry_names new n)) (Some n)) where
       place-other : (k : ℕ) → k ≢ freed → place_after n freed k ≡ k
       place-other k kf = moved-other n freed k kf
 
-      name-moved : names_in new n ≡ names_in old freed
-      name-moved = ap (names_in new) (sym (moved-freed n freed freed refl)) ∙ name-now freed fn
+      name-moved : entry_names new n ≡ entry_names old freed
+      name-moved = ap (entry_names new) (sym (moved-freed n freed freed refl)) ∙ name-now freed fn
 
-      name-other : (k : ℕ) → k ≢ n → k ≢ freed → names_in new k ≡ names_in old k
-      name-other k kn kf = ap (names_in new) (sym (place-other k kf)) ∙ name-now k kn
+      name-other : (k : ℕ) → k ≢ n → k ≢ freed → entry_names new k ≡ entry_names old k
+      name-other k kn kf = ap (entry_names new) (sym (place-other k kf)) ∙ name-now k kn
 
       abbrev IsPlaced : ℕ → ℕ → Type 0
       IsPlaced p k = ((p ≡ parent) × (k ≡ n)) ⊎ (IsLeft p k × (k ≢ freed))
 
       -- the names by which the freed entry is found already
       abbrev named : ℕ → List ℕ
-      named k = if k == freed then names_in old freed else names_in new k
+      named k = if k == freed then entry_names old freed else entry_names new k
 
-      named-freed : (k : ℕ) → k ≡ freed → named k ≡ names_in old freed
-      named-freed k e = if-true (k == freed) (names_in old freed) (names_in new k) (eq-eqb k freed e)
+      named-freed : (k : ℕ) → k ≡ freed → named k ≡ entry_names old freed
+      named-freed k e = if-true (k == freed) (entry_names old freed) (entry_names new k) (eq-eqb k freed e)
 
-      named-other : (k : ℕ) → k ≢ freed → named k ≡ names_in new k
-      named-other k e = if-false (k == freed) (names_in old freed) (names_in new k) (ne_eqb k freed e)
+      named-other : (k : ℕ) → k ≢ freed → named k ≡ entry_names new k
+      named-other k e = if-false (k == freed) (entry_names old freed) (entry_names new k) (ne_eqb k freed e)
 
-      named-left : (k : ℕ) → k ≢ n → named k ≡ names_in old k
+      named-left : (k : ℕ) → k ≢ n → named k ≡ entry_names old k
       named-left k kn = elim (cases_eq k freed) [
-        | inl e ↦ named-freed k e ∙ ap (names_in old) (sym e)
+        | inl e ↦ named-freed k e ∙ ap (entry_names old) (sym e)
         | inr kf ↦ named-other k kf ∙ name-other k kn kf
       ]
 
-      named-taken : named n ≡ names_in old freed
+      named-taken : named n ≡ entry_names old freed
       named-taken = named-other n (λ e. fn (sym e)) ∙ name-moved
 
       placed-both : (p k : ℕ) → IsPlaced p k ↔ (((p ≡ parent) × (k ≡ n)) ⊎ (IsLeft p k × (key_in cases parent (named n) ≢ key_in cases p (named k))))
@@ -152,8 +152,8 @@ module _ (cases : Cases) (old new : List Entry) (o o' : Outline) (parent n freed
           | inr l ↦ inr (
             l.0,
             λ e.
-                let f : key_in cases parent (names_in old freed) ≡ key_in cases p (names_in old k) = ap (key_in cases parent) (sym named-taken) ∙ e ∙ ap (key_in cases p) (named-left k l.0.1) in
-                let (ep, alike) = (keys-tell-names cases parent p (names_in old freed) (names_in old k) (short-at old short freed) (short-at old short k)).0 f in
+                let f : key_in cases parent (entry_names old freed) ≡ key_in cases p (entry_names old k) = ap (key_in cases parent) (sym named-taken) ∙ e ∙ ap (key_in cases p) (named-left k l.0.1) in
+                let (ep, alike) = (keys-tell-names cases parent p (entry_names old freed) (entry_names old k) (short-at old short freed) (short-at old short k)).0 f in
                 l.1 (sym (children-apart cases old o parent freed k freed-child (subst (λ (q : ℕ). IsChildIn cases old o q k) (sym ep) l.0.0) alike)),
           )
         ],
@@ -163,19 +163,19 @@ module _ (cases : Cases) (old new : List Entry) (o o' : Outline) (parent n freed
             l.0,
             λ e.
                 let ep : p ≡ parent = owner p k l.0.0 (subst (λ (j : ℕ). IsChildIn cases old o parent j) (sym e) freed-child) in
-                l.1 (ap (key_in cases parent) (named-taken ∙ ap (names_in old) (sym e) ∙ sym (named-left k l.0.1)) ∙ ap (λ (q : ℕ). key_in cases q (named k)) (sym ep)),
+                l.1 (ap (key_in cases parent) (named-taken ∙ ap (entry_names old) (sym e) ∙ sym (named-left k l.0.1)) ∙ ap (λ (q : ℕ). key_in cases q (named k)) (sym ep)),
           )
         ],
       )
 
-      placed-lists : Lists cases (names_in new) IsPlaced more
+      placed-lists : Lists cases (entry_names new) IsPlaced more
       placed-lists =
           let renamed : Lists cases named IsLeft less =
-          lists-same cases (names_in old) IsLeft less left-lists named IsLeft (λ p k. (λ l. l, λ l. l)) (λ p k l. named-left k l.1) less (λ q. refl) in
+          lists-same cases (entry_names old) IsLeft less left-lists named IsLeft (λ p k. (λ l. l, λ l. l)) (λ p k l. named-left k l.1) less (λ q. refl) in
           let v' : IsUpdate less more (key_in cases parent (named n)) (Some n) =
           subst (λ (x : List ℕ). IsUpdate less more (key_in cases parent x) (Some n)) (sym (named-other n (λ e. fn (sym e)))) v in
           let put : Lists cases named IsPlaced more = lists-more cases named IsLeft less renamed more parent n v' IsPlaced placed-both in
-          lists-same cases named IsPlaced more put (names_in new) IsPlaced (λ p k. (λ l. l, λ l. l))
+          lists-same cases named IsPlaced more put (entry_names new) IsPlaced (λ p k. (λ l. l, λ l. l))
           (λ p k s. elim s [
             | inl e ↦ sym (named-other k (λ f. fn (sym f ∙ e.1)))
             | inr l ↦ sym (named-other k l.1)
@@ -190,28 +190,28 @@ module _ (cases : Cases) (old new : List Entry) (o o' : Outline) (parent n freed
           λ e. not-itself freed (freed-counted cases old new parent n freed xs ys list rem) (owner freed k c (subst (λ (j : ℕ). IsChildIn cases old o parent j) (sym e) freed-child)),
         )
 
-        placed-apart : AreApart cases (names_in new) IsPlaced
+        placed-apart : AreApart cases (entry_names new) IsPlaced
         placed-apart p k j a b same = elim a [
           | inl e ↦ elim b [
             | inl f ↦ e.1 ∙ sym f.1
             | inr r ↦
                 let d : IsChildIn cases old o parent j = subst (λ (q : ℕ). IsChildIn cases old o q j) e.0 r.0.0 in
-                let alike : is_same_name cases (names_in old freed) (names_in old j) ≡ true =
-                subst (λ (x : List ℕ). is_same_name cases x (names_in old j) ≡ true) (ap (names_in new) e.1 ∙ name-moved)
-                (subst (λ (x : List ℕ). is_same_name cases (names_in new k) x ≡ true) (name-other j r.0.1 r.1) same) in
+                let alike : is_same_name cases (entry_names old freed) (entry_names old j) ≡ true =
+                subst (λ (x : List ℕ). is_same_name cases x (entry_names old j) ≡ true) (ap (entry_names new) e.1 ∙ name-moved)
+                (subst (λ (x : List ℕ). is_same_name cases (entry_names new k) x ≡ true) (name-other j r.0.1 r.1) same) in
                 absurd (r.1 (sym (children-apart cases old o parent freed j freed-child d alike)))
           ]
           | inr l ↦ elim b [
             | inl f ↦
                 let d : IsChildIn cases old o parent k = subst (λ (q : ℕ). IsChildIn cases old o q k) f.0 l.0.0 in
-                let alike : is_same_name cases (names_in old k) (names_in old freed) ≡ true =
-                subst (λ (x : List ℕ). is_same_name cases x (names_in old freed) ≡ true) (name-other k l.0.1 l.1)
-                (subst (λ (x : List ℕ). is_same_name cases (names_in new k) x ≡ true) (ap (names_in new) f.1 ∙ name-moved) same) in
+                let alike : is_same_name cases (entry_names old k) (entry_names old freed) ≡ true =
+                subst (λ (x : List ℕ). is_same_name cases x (entry_names old freed) ≡ true) (name-other k l.0.1 l.1)
+                (subst (λ (x : List ℕ). is_same_name cases (entry_names new k) x ≡ true) (ap (entry_names new) f.1 ∙ name-moved) same) in
                 absurd (l.1 (children-apart cases old o parent k freed d freed-child alike))
             | inr r ↦
                 children-apart cases old o p k j l.0.0 r.0.0
-                (subst (λ (x : List ℕ). is_same_name cases x (names_in old j) ≡ true) (name-other k l.0.1 l.1)
-                (subst (λ (x : List ℕ). is_same_name cases (names_in new k) x ≡ true) (name-other j r.0.1 r.1) same))
+                (subst (λ (x : List ℕ). is_same_name cases x (entry_names old j) ≡ true) (name-other k l.0.1 l.1)
+                (subst (λ (x : List ℕ). is_same_name cases (entry_names new k) x ≡ true) (name-other j r.0.1 r.1) same))
           ]
         ]
 
@@ -221,7 +221,7 @@ module _ (cases : Cases) (old new : List Entry) (o o' : Outline) (parent n freed
           | inr l ↦ not-in-taken n j l.0.0 refl
         ]
 
-        is-now : (p' k' : ℕ) → IsChildIn cases new o' p' k' ↔ IsMoved cases (names_in new) (short-at new short') freed n fn IsPlaced cs p' k'
+        is-now : (p' k' : ℕ) → IsChildIn cases new o' p' k' ↔ IsMoved cases (entry_names new) (short-at new short') freed n fn IsPlaced cs p' k'
         is-now p' k' = (
           λ c.
               let (p, k, d, kn, ep, ek) = (now p' k').0 c in
@@ -257,11 +257,11 @@ module _ (cases : Cases) (old new : List Entry) (o o' : Outline) (parent n freed
           ],
         )
 
-        pub moves-lists : (after : IndexKey → Option ℕ) → ((q : IndexKey) → after q ≡ moved_all cases (names_in new) freed n cs more q)
-            → Lists cases (names_in new) (IsChildIn cases new o') after
+        pub moves-lists : (after : IndexKey → Option ℕ) → ((q : IndexKey) → after q ≡ moved_all cases (entry_names new) freed n cs more q)
+            → Lists cases (entry_names new) (IsChildIn cases new o') after
         moves-lists after w =
-            let moved : Lists cases (names_in new) (IsMoved cases (names_in new) (short-at new short') freed n fn IsPlaced cs) (moved_all cases (names_in new) freed n cs more) =
-            moved-lists cases (names_in new) (short-at new short') freed n fn cs IsPlaced (λ k m. inr ((((all k).0 m), (inside-left k ((all k).0 m)).0), (inside-left k ((all k).0 m)).1)) once placed-apart
+            let moved : Lists cases (entry_names new) (IsMoved cases (entry_names new) (short-at new short') freed n fn IsPlaced cs) (moved_all cases (entry_names new) freed n cs more) =
+            moved-lists cases (entry_names new) (short-at new short') freed n fn cs IsPlaced (λ k m. inr ((((all k).0 m), (inside-left k ((all k).0 m)).0), (inside-left k ((all k).0 m)).1)) once placed-apart
             (λ k j m s e. nothing-there j s) more placed-lists in
-            lists-same cases (names_in new) (IsMoved cases (names_in new) (short-at new short') freed n fn IsPlaced cs) (moved_all cases (names_in new) freed n cs more) moved
-            (names_in new) (IsChildIn cases new o') is-now (λ p k h. refl) after w
+            lists-same cases (entry_names new) (IsMoved cases (entry_names new) (short-at new short') freed n fn IsPlaced cs) (moved_all cases (entry_names new) freed n cs more) moved
+            (entry_names new) (IsChildIn cases new o') is-now (λ p k h. refl) after w

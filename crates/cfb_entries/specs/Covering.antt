@@ -15,12 +15,12 @@ use Rattle.cfb_trees.specs.Children.{IsChildIn}
 use Rattle.cfb_entries.specs.declared.indexing.Child.{Child}
 
 -- the names of the entries, by their numbers
-abbrev pub names_in : List Entry → ℕ → List ℕ
-names_in entries k = (entry_at entries k).name
+abbrev pub entry_names : List Entry → ℕ → List ℕ
+entry_names entries k = (entry_at entries k).name
 
 -- the index has each entry of the tree under its storage and its name, and nothing else
 abbrev pub Covers : Cases → List Entry → Index → Type 0
-Covers cases entries index = (o : Outline) → IsOutline cases entries o → Lists cases (names_in entries) (IsChildIn cases entries o) (number_under index)
+Covers cases entries index = (o : Outline) → IsOutline cases entries o → Lists cases (entry_names entries) (IsChildIn cases entries o) (number_under index)
 
 -- ---- children by their numbers
 
@@ -29,7 +29,7 @@ child_at p k = record { storage = p; number = k }
 
 -- the key of an entry in its storage
 abbrev pub key_of : Cases → List Entry → Child → IndexKey
-key_of cases entries child = key_in cases child.storage (names_in entries child.number)
+key_of cases entries child = key_in cases child.storage (entry_names entries child.number)
 
 -- k is a child of p, which is no stream
 abbrev pub IsChildOf : Cases → List Entry → ℕ → ℕ → Type 0
@@ -57,7 +57,7 @@ moved_all cases named from to (c ∷ cs) numbers =
     moved_all cases named from to cs (update is_same_key (update is_same_key numbers (key_in cases from (named c)) None) (key_in cases to (named c)) (Some c))
 
 abbrev pub AreMoved : Cases → List Entry → List ℕ → ℕ → ℕ → Index → Index → Type 0
-AreMoved cases entries numbers from to old new = (q : IndexKey) → number_under new q ≡ moved_all cases (names_in entries) from to numbers (number_under old) q
+AreMoved cases entries numbers from to old new = (q : IndexKey) → number_under new q ≡ moved_all cases (entry_names entries) from to numbers (number_under old) q
 
 -- ---- a removal
 
@@ -81,4 +81,4 @@ pub record IsIndexedRemoval (cases : Cases) (entries : List Entry) (parent : ℕ
   pub less : Index
   pub gone : Updates old less (key_in cases parent name) None
   pub stays : freed ≡ number → HasSame less new
-  pub more : freed ≢ number → (put : Index) × Updates less put (key_in cases parent (names_in entries number)) (Some number) × AreMoved cases entries list freed number put new
+  pub more : freed ≢ number → (put : Index) × Updates less put (key_in cases parent (entry_names entries number)) (Some number) × AreMoved cases entries list freed number put new

@@ -10,7 +10,7 @@ ghost use Rattle.cfb_index.specs.Index.{Updates};
 ghost use Rattle.cfb_entries.specs.cfb_keys.Keys.{key_in};
 ghost use Rattle.cfb_siblings.specs.Children.{IsParent};
 ghost use Rattle.cfb_trees.specs.Reached.{IsReached};
-ghost use Rattle.cfb_entries.specs.Covering.{AreMoved, ArePut, AreTaken, Covers, IsChildOf, ListsChildren, child_at, names_in};
+ghost use Rattle.cfb_entries.specs.Covering.{AreMoved, ArePut, AreTaken, Covers, IsChildOf, ListsChildren, child_at, entry_names};
 ghost use Rattle.cfb_entries.specs.EntryList.{HaveShortNames};
 
 use cfb_codecs::direntry::DirEntry;
@@ -117,7 +117,7 @@ pub(crate) fn put_entry<A: Allocator + Clone>(
     requires short { HaveShortNames (entries_of list.now) }
     requires room { 0 < index.old.room }
     ensures put { Updates index.old index.new
-        (key_in letters.now storage (names_in (entries_of list.now) number)) (Some number) }
+        (key_in letters.now storage (entry_names (entries_of list.now) number)) (Some number) }
     ensures room { index.old.room ≤ index.new.room + 1 }
 {
     index.put(letters, storage, &list[number as usize].name, number);
@@ -134,7 +134,7 @@ pub(crate) fn take_entry<A: Allocator>(
     requires inside { number < length list.now }
     requires short { HaveShortNames (entries_of list.now) }
     ensures taken { Updates index.old index.new
-        (key_in letters.now storage (names_in (entries_of list.now) number)) None }
+        (key_in letters.now storage (entry_names (entries_of list.now) number)) None }
     ensures room { index.old.room ≤ index.new.room }
 {
     index.take(letters, storage, &list[number as usize].name);

@@ -12,19 +12,19 @@ use Rattle.cfb_lines.specs.declared.word.Word.TheVariants.{Mkdir, Mkdirs, Touch,
 use Rattle.cfb_lines.specs.Commands.{AreCommands, HasHex, HasMoment, HasNumber, IsLine, IsScript, Says}
 use Rattle.cfb_lines.specs.Fields.{IsHex, IsSeconds}
 use Rattle.cfb_lines.specs.Lines.{lines_in}
-use Rattle.cfb_lines.specs.Wrong.{WrongIf, rest_of}
+use Rattle.cfb_lines.specs.Wrong.{WrongIf, last_fields}
 use Rattle.cfb_lines.specs.Words.{spelling}
 
 -- ---- one field
 
-pub no_moment : (last : Option (Bor (List ℕ))) (text : Bor (List ℕ)) → last ≡ Some text → ((z : ℤ) → IsSeconds text.now z → ⊥) → HasMoment (rest_of last) (λ n. ⊤) → ⊥
+pub no_moment : (last : Option (Bor (List ℕ))) (text : Bor (List ℕ)) → last ≡ Some text → ((z : ℤ) → IsSeconds text.now z → ⊥) → HasMoment (last_fields last) (λ n. ⊤) → ⊥
 no_moment last text e none =
-    subst (λ (o : Option (Bor (List ℕ))). HasMoment (rest_of o) (λ n. ⊤) → ⊥) (sym e)
+    subst (λ (o : Option (Bor (List ℕ))). HasMoment (last_fields o) (λ n. ⊤) → ⊥) (sym e)
     (λ h. let same : text.now ≡ h.0 = cc (h.2) in none h.1 (subst (λ (t : List ℕ). IsSeconds t h.1) (sym same) h.3))
 
 pub some_bytes : {V E : Type 0} (items : V → List ℕ) (r : Result V E) (last : Option (Bor (List ℕ))) (text : Bor (List ℕ)) → last ≡ Some text
-    → IfOk r (λ v. IsHex text.now (items v)) → IfOk r (λ v. HasHex (rest_of last) (λ bytes. bytes ≡ items v))
-some_bytes items (Ok v) last text e h = subst (λ (o : Option (Bor (List ℕ))). HasHex (rest_of o) (λ bytes. bytes ≡ items v)) (sym e) (text.now, items v, refl, h, refl)
+    → IfOk r (λ v. IsHex text.now (items v)) → IfOk r (λ v. HasHex (last_fields last) (λ bytes. bytes ≡ items v))
+some_bytes items (Ok v) last text e h = subst (λ (o : Option (Bor (List ℕ))). HasHex (last_fields o) (λ bytes. bytes ≡ items v)) (sym e) (text.now, items v, refl, h, refl)
 some_bytes items (Err x) last text e h = tt
 
 -- ---- one line

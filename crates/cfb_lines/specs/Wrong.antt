@@ -10,6 +10,6 @@ WrongIf P WrongWords = P
 WrongIf P Memory = ⊤
 
 -- the fields behind the path, of which there is one at most
-abbrev pub rest_of : Option (Bor (List ℕ)) → List (List ℕ)
-rest_of None = []
-rest_of (Some last) = last.now ∷ []
+abbrev pub last_fields : Option (Bor (List ℕ)) → List (List ℕ)
+last_fields None = []
+last_fields (Some last) = last.now ∷ []

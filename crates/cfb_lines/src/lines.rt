@@ -3,7 +3,7 @@ ghost use Rattle.std.specs.Prelude.{◌≡◌, ◌<◌, ◌≤◌, ◌∷◌, �
 ghost use Rattle.std.specs.List.{slice_split};
 ghost use Rattle.cfb_lines.specs.Commands.{HasHex, HasMoment, HasNumber, IsLine, IsScript, AreCommands, Says};
 ghost use Rattle.cfb_commands.specs.Commands.{command_of, opening_of, stream_call_of};
-ghost use Rattle.cfb_lines.specs.Wrong.{WrongIf, rest_of};
+ghost use Rattle.cfb_lines.specs.Wrong.{WrongIf, last_fields};
 ghost use Rattle.cfb_lines.specs.Words.{spelling};
 ghost use Rattle.cfb_lines.specs.declared.word.Word.{Word as TheWord};
 ghost use Rattle.cfb_lines.specs.cfb_rules.Lists as rules;
@@ -23,7 +23,7 @@ use std::io::SeekFrom;
 fn fields_of(line: &str) -> Option<(Word, &str, Option<&str>)>
     ensures { MatchOption result
         ((w : TheWord) (path : List ℕ) (rest : List (List ℕ)) → slice_split (λ b. b == 9) line.now ≡ spelling w ∷ path ∷ rest → length rest ≤ 1 → ⊥)
-        (λ f. slice_split (λ b. b == 9) line.now ≡ spelling f.0 ∷ f.1.now ∷ rest_of f.2) }
+        (λ f. slice_split (λ b. b == 9) line.now ≡ spelling f.0 ∷ f.1.now ∷ last_fields f.2) }
 {
     let (word, behind) = cut(line);
     let word = word_of(word)?;
@@ -42,8 +42,8 @@ fn fields_of(line: &str) -> Option<(Word, &str, Option<&str>)>
 
 /// The moment in the last field.
 fn moment_in(last: Option<&str>) -> Result<Timestamp, LinesError>
-    ensures ok { IfOk result (λ m. HasMoment (rest_of last.entry) (λ n. n ≡ m)) }
-    ensures wrong { IfErr result (WrongIf (HasMoment (rest_of last.entry) (λ n. ⊤) → ⊥)) }
+    ensures ok { IfOk result (λ m. HasMoment (last_fields last.entry) (λ n. n ≡ m)) }
+    ensures wrong { IfErr result (WrongIf (HasMoment (last_fields last.entry) (λ n. ⊤) → ⊥)) }
 {
     let Some(text) = last else {
         return Err(LinesError::WrongWords);
@@ -56,8 +56,8 @@ fn moment_in(last: Option<&str>) -> Result<Timestamp, LinesError>
 
 /// The bits in the last field.
 fn state_bits_in(last: Option<&str>) -> Result<u32, LinesError>
-    ensures ok { IfOk result (λ b. HasNumber 32 (rest_of last.entry) (λ n. n ≡ b)) }
-    ensures wrong { IfErr result (WrongIf (HasNumber 32 (rest_of last.entry) (λ n. ⊤) → ⊥)) }
+    ensures ok { IfOk result (λ b. HasNumber 32 (last_fields last.entry) (λ n. n ≡ b)) }
+    ensures wrong { IfErr result (WrongIf (HasNumber 32 (last_fields last.entry) (λ n. ⊤) → ⊥)) }
 {
     let Some(text) = last else {
         return Err(LinesError::WrongWords);
@@ -70,8 +70,8 @@ fn state_bits_in(last: Option<&str>) -> Result<u32, LinesError>
 
 /// The length in the last field.
 fn stream_len_in(last: Option<&str>) -> Result<u64, LinesError>
-    ensures ok { IfOk result (λ l. HasNumber 64 (rest_of last.entry) (λ n. n ≡ l)) }
-    ensures wrong { IfErr result (WrongIf (HasNumber 64 (rest_of last.entry) (λ n. ⊤) → ⊥)) }
+    ensures ok { IfOk result (λ l. HasNumber 64 (last_fields last.entry) (λ n. n ≡ l)) }
+    ensures wrong { IfErr result (WrongIf (HasNumber 64 (last_fields last.entry) (λ n. ⊤) → ⊥)) }
 {
     let Some(text) = last else {
         return Err(LinesError::WrongWords);
@@ -84,8 +84,8 @@ fn stream_len_in(last: Option<&str>) -> Result<u64, LinesError>
 
 /// The bytes in the last field.
 fn content_in<A: Heap + Clone>(alloc: &A, last: Option<&str>) -> Result<Vec<u8, A>, LinesError>
-    ensures ok { IfOk result (λ v. HasHex (rest_of last.entry) (λ bytes. bytes ≡ v.items)) }
-    ensures wrong { IfErr result (WrongIf (HasHex (rest_of last.entry) (λ bytes. ⊤) → ⊥)) }
+    ensures ok { IfOk result (λ v. HasHex (last_fields last.entry) (λ bytes. bytes ≡ v.items)) }
+    ensures wrong { IfErr result (WrongIf (HasHex (last_fields last.entry) (λ bytes. ⊤) → ⊥)) }
 {
     let Some(text) = last else {
         return Err(LinesError::WrongWords);
@@ -95,8 +95,8 @@ fn content_in<A: Heap + Clone>(alloc: &A, last: Option<&str>) -> Result<Vec<u8, 
 
 /// That there is no last field.
 fn no_more(last: Option<&str>) -> Result<(), LinesError>
-    ensures ok { OnOk result (rest_of last.entry ≡ []) }
-    ensures wrong { IfErr result (WrongIf (rest_of last.entry ≡ [] → ⊥)) }
+    ensures ok { OnOk result (last_fields last.entry ≡ []) }
+    ensures wrong { IfErr result (WrongIf (last_fields last.entry ≡ [] → ⊥)) }
 {
     match last {
         None => Ok(()),
@@ -130,8 +130,8 @@ fn command_with<A: Heap + Clone>(
     path: &str,
     last: Option<&str>,
 ) -> Result<Command<A>, LinesError>
-    ensures found { IfOk result (λ c. Says word (chars path.entry.now) (rest_of last.entry) (command_of c)) }
-    ensures wrong { IfErr result (WrongIf ((c : Ordered) → Says word (chars path.entry.now) (rest_of last.entry) c → ⊥)) }
+    ensures found { IfOk result (λ c. Says word (chars path.entry.now) (last_fields last.entry) (command_of c)) }
+    ensures wrong { IfErr result (WrongIf ((c : Ordered) → Says word (chars path.entry.now) (last_fields last.entry) c → ⊥)) }
 {
     let path = String::from_str(alloc.clone()?, path)?;
     match word {

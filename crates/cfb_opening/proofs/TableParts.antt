@@ -19,7 +19,7 @@ use Rattle.cfb_reading.specs.Difat.{AcceptsDifat, AcceptsNoDifat}
 use Rattle.cfb_reading.specs.FatWords.{AcceptsFatWords, AcceptsNoFatWords, PointsInto}
 use Rattle.cfb_reading.proofs.KeptWordLaws.{make-the-fat, point-into-file, words-are-kept}
 use Rattle.cfb_opening.specs.Acceptable.{IsAcceptable, IsRefused}
-use Rattle.cfb_opening.specs.Known.{AcceptsHead, AcceptsNoHead, AcceptsTables, KnowsTables, parts_in, unchanged_sectors}
+use Rattle.cfb_opening.specs.Known.{AcceptsHead, AcceptsNoHead, AcceptsTables, KnowsTables, table_parts, unchanged_sectors}
 
 pub if-strict : (validation : Validation) {P Q : Type 0} → (P → Q) → IfStrict validation P → IfStrict validation Q
 if-strict Permissive turn s = tt
@@ -121,11 +121,11 @@ module _ (validation : Validation) (bytes : List ℕ) (failures : ℕ) (h : Head
             let is_fat = (make-the-fat validation h.version bytes list own a.tables.fat words (sector_count h.version bytes) refl kept).0 accepts in
             let there : IsTrue points ↔ PointsInto (sector_count h.version bytes) words list own =
             subst (λ (f : SectorFile). IsTrue points ↔ PointsInto f.num_sectors words list own) same into in
-            let file_too = point-into-file validation bytes words (parts_in h made) (sector_count h.version bytes) refl kept in
+            let file_too = point-into-file validation bytes words (table_parts h made) (sector_count h.version bytes) refl kept in
             record {
               file = a_file ∙ same;
               version = ap (λ (t : TableState). t.version) tables;
               tables = subst (λ (t : TableState). AcceptsTables validation bytes h t) (sym tables) (record { head = head; difat = difat; fat = is_fat.0; strict = is_fat.1 });
-              into_file = subst (λ (t : TableState). IsTrue points ↔ PointsIntoFile bytes (parts_in h t)) (sym tables)
+              into_file = subst (λ (t : TableState). IsTrue points ↔ PointsIntoFile bytes (table_parts h t)) (sym tables)
                   (λ p. file_too.0 (there.0 p), λ p. there.1 (file_too.1 p));
             }

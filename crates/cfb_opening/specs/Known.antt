@@ -53,8 +53,8 @@ pub record AcceptsTables (validation : Validation) (bytes : List ℕ) (h : Heade
   pub strict : IfStrict validation (IsStrictFat h.version bytes t.fat_sectors t.difat_sectors)
 
 -- the parts so far
-abbrev pub parts_in : Header → TableState → Reading
-parts_in h t = record {
+abbrev pub table_parts : Header → TableState → Reading
+table_parts h t = record {
   header = h;
   fat_sectors = t.fat_sectors;
   difat_sectors = t.difat_sectors;
@@ -71,7 +71,7 @@ pub record KnowsTables (validation : Validation) (bytes : List ℕ) (failures : 
   pub file : a.file ≡ unchanged_sectors h.version bytes failures
   pub version : a.tables.version ≡ h.version
   pub tables : AcceptsTables validation bytes h a.tables
-  pub into_file : IsTrue points ↔ PointsIntoFile bytes (parts_in h a.tables)
+  pub into_file : IsTrue points ↔ PointsIntoFile bytes (table_parts h a.tables)
 
 -- ---- the directory's entries and the MiniFAT's words
 

@@ -20,7 +20,7 @@ use Rattle.cfb_places.proofs.cfb_trees.PathDown.{number-down}
 use Rattle.cfb_built.specs.Copied.{names_of}
 use Rattle.cfb_places.specs.declared.walk.Place.{Place}
 use Rattle.cfb_places.specs.Places.{placed_in, places_in, places_of, number_at, parent_at, storage_number}
-use Rattle.cfb_places.specs.Parts.{StandsAtPlace, part_at, parts_of}
+use Rattle.cfb_places.specs.Parts.{StandsAtPlace, part_at, tree_parts}
 use Rattle.cfb_places.specs.Laws.{HasParentBefore, NamesAreValid, ParentsComeFirst, PartsStandAtPlaces, PlacesAreTheWalk}
 use Rattle.cfb_places.proofs.Walking.{places-count}
 use Rattle.cfb_places.proofs.Standing.{OnLevel, Deeper, Stands, place_at, parts-count, stands}
@@ -54,7 +54,7 @@ module _ (cases : Cases) (es : List Entry) (c : Entry → List ℕ) (o : Outline
   root-kind : (entry_at es 0).obj_type ≢ Stream
   root-kind e = let q : Root ≡ Stream = sym is.root ∙ e in cc
 
-  pub stood : (at : ℕ) → at < length (places_of o) → Stands cases es c (siblings o) [] 0 None (parts_of es c o) (places_of o) at
+  pub stood : (at : ℕ) → at < length (places_of o) → Stands cases es c (siblings o) [] 0 None (tree_parts es c o) (places_of o) at
   stood at lt =
       stands cases es c [] 0 (siblings o) (record { kind = root-kind; below = is.children; down = refl }) 0 None o is.contents (λ j m. m) at
       (omega (arith, lt, places-count 0 None o))
@@ -63,15 +63,15 @@ module _ (cases : Cases) (es : List Entry) (c : Entry → List ℕ) (o : Outline
   in-range number (inl e) = used-within es number Storage no-storage e
   in-range number (inr e) = used-within es number Stream no-stream e
 
-  above-is : (at : ℕ) → OnLevel cases es c (siblings o) [] None (part_at (parts_of es c o) at) (place_at (places_of o) at) ⊎ Deeper cases es c 0 (parts_of es c o) (places_of o) at
-      → MatchOption (parent_at (places_of o) at) (parent_names (names_of (part_at (parts_of es c o) at)) ≡ [])
-      (λ (up : ℕ). (up < at) × (parent_names (names_of (part_at (parts_of es c o) at)) ≡ names_of (part_at (parts_of es c o) up)))
+  above-is : (at : ℕ) → OnLevel cases es c (siblings o) [] None (part_at (tree_parts es c o) at) (place_at (places_of o) at) ⊎ Deeper cases es c 0 (tree_parts es c o) (places_of o) at
+      → MatchOption (parent_at (places_of o) at) (parent_names (names_of (part_at (tree_parts es c o) at)) ≡ [])
+      (λ (up : ℕ). (up < at) × (parent_names (names_of (part_at (tree_parts es c o) at)) ≡ names_of (part_at (tree_parts es c o) up)))
   above-is at (inl l) =
-      subst (λ (p : Option ℕ). MatchOption p (parent_names (names_of (part_at (parts_of es c o) at)) ≡ [])
-      (λ (up : ℕ). (up < at) × (parent_names (names_of (part_at (parts_of es c o) at)) ≡ names_of (part_at (parts_of es c o) up)))) (sym l.is_parent) l.names
+      subst (λ (p : Option ℕ). MatchOption p (parent_names (names_of (part_at (tree_parts es c o) at)) ≡ [])
+      (λ (up : ℕ). (up < at) × (parent_names (names_of (part_at (tree_parts es c o) at)) ≡ names_of (part_at (tree_parts es c o) up)))) (sym l.is_parent) l.names
   above-is at (inr d) =
-      subst (λ (p : Option ℕ). MatchOption p (parent_names (names_of (part_at (parts_of es c o) at)) ≡ [])
-      (λ (up : ℕ). (up < at) × (parent_names (names_of (part_at (parts_of es c o) at)) ≡ names_of (part_at (parts_of es c o) up))))
+      subst (λ (p : Option ℕ). MatchOption p (parent_names (names_of (part_at (tree_parts es c o) at)) ≡ [])
+      (λ (up : ℕ). (up < at) × (parent_names (names_of (part_at (tree_parts es c o) at)) ≡ names_of (part_at (tree_parts es c o) up))))
       (sym (up-is d.up (parent_at (places_of o) at) d.is_parent)) (d.before, d.names)
 
   pub stands-at : (at : ℕ) → at < length (places_of o) → StandsAtPlace cases es c o at
@@ -85,7 +85,7 @@ module _ (cases : Cases) (es : List Entry) (c : Entry → List ℕ) (o : Outline
           storage = s.shows.storage;
           stream = s.shows.stream;
           named = s.shows.named;
-          found = number-down cases es o is (names_of (part_at (parts_of es c o) at)) (number_at (places_of o) at) s.shows.down;
+          found = number-down cases es o is (names_of (part_at (tree_parts es c o) at)) (number_at (places_of o) at) s.shows.down;
         };
         parent = above-is at s.holder;
       }
@@ -105,8 +105,8 @@ module _ (cases : Cases) (es : List Entry) (o : Outline) (is : IsOutline cases e
       present (number_at (places_of o) at) children
       (subst (λ (l : List ℕ). 1 ≤ times_in (number_at (places_of o) at) l) (Below-unique cases es (entry_at es n).child list children below has.below) among)
 
-  held : OnLevel cases es no-content (siblings o) [] None (part_at (parts_of es no-content o) at) (place_at (places_of o) at)
-      ⊎ Deeper cases es no-content 0 (parts_of es no-content o) (places_of o) at → HasParentBefore cases es (places_of o) at
+  held : OnLevel cases es no-content (siblings o) [] None (part_at (tree_parts es no-content o) at) (place_at (places_of o) at)
+      ⊎ Deeper cases es no-content 0 (tree_parts es no-content o) (places_of o) at → HasParentBefore cases es (places_of o) at
   held (inl l) = record {
     before = subst (λ (p : Option ℕ). MatchOption p ⊤ (λ (up : ℕ). (up < at) × ((entry_at es (number_at (places_of o) up)).obj_type ≡ Storage))) (sym l.is_parent) tt;
     among = subst (λ (p : Option ℕ). (children : List ℕ) → HasChildren cases es (storage_number (places_of o) p) children → Contains children (number_at (places_of o) at))

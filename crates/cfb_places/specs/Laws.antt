@@ -11,7 +11,7 @@ use Rattle.cfb_places.specs.cfb_siblings.Children.{HasChildren}
 use Rattle.cfb_objects.specs.Objects.{tree_from}
 use Rattle.cfb_places.specs.declared.walk.Place.{Place}
 use Rattle.cfb_places.specs.Places.{number_at, parent_at, places_of, storage_number}
-use Rattle.cfb_places.specs.Parts.{StandsAtPlace, parts_of}
+use Rattle.cfb_places.specs.Parts.{StandsAtPlace, tree_parts}
 
 -- the numbers of the list are those of the outline, in its order
 abbrev pub PlacesAreTheWalk : Type 0
@@ -29,7 +29,7 @@ ParentsComeFirst = (cases : Cases) (entries : List Entry) (o : Outline) → IsOu
 -- the list is as long as that of the parts, and each part stands at its place
 abbrev pub PartsStandAtPlaces : Type 0
 PartsStandAtPlaces = (cases : Cases) (entries : List Entry) (content : Entry → List ℕ) (o : Outline) → IsOutline cases entries o
-    → (length (parts_of entries content o) ≡ length (places_of o))
+    → (length (tree_parts entries content o) ≡ length (places_of o))
     × ((at : ℕ) → at < length (places_of o) → StandsAtPlace cases entries content o at)
 
 -- the names of each storage rise

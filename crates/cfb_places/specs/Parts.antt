@@ -21,8 +21,8 @@ abbrev pub part_at : List Part → ℕ → Part
 part_at parts k = slice_index_or parts k no_part
 
 -- the parts of the tree that these entries are
-abbrev pub parts_of : List Entry → (Entry → List ℕ) → Outline → List Part
-parts_of entries content o = parts_in [] (tree_from entries content o).objects
+abbrev pub tree_parts : List Entry → (Entry → List ℕ) → Outline → List Part
+tree_parts entries content o = parts_in [] (tree_from entries content o).objects
 
 -- the part at this place is that of the entry `number`
 pub record IsPartOf (cases : Cases) (entries : List Entry) (content : Entry → List ℕ) (o : Outline) (parts : List Part) (at number : ℕ) : Type 0 where
@@ -38,6 +38,6 @@ pub record IsPartOf (cases : Cases) (entries : List Entry) (content : Entry → 
 
 -- at the place stands the part that is there in the tree, in the storage whose part has the names before its own
 pub record StandsAtPlace (cases : Cases) (entries : List Entry) (content : Entry → List ℕ) (o : Outline) (at : ℕ) : Type 0 where
-  pub part : IsPartOf cases entries content o (parts_of entries content o) at (number_at (places_of o) at)
-  pub parent : MatchOption (parent_at (places_of o) at) (parent_names (names_of (part_at (parts_of entries content o) at)) ≡ [])
-      (λ above. (above < at) × (parent_names (names_of (part_at (parts_of entries content o) at)) ≡ names_of (part_at (parts_of entries content o) above)))
+  pub part : IsPartOf cases entries content o (tree_parts entries content o) at (number_at (places_of o) at)
+  pub parent : MatchOption (parent_at (places_of o) at) (parent_names (names_of (part_at (tree_parts entries content o) at)) ≡ [])
+      (λ above. (above < at) × (parent_names (names_of (part_at (tree_parts entries content o) at)) ≡ names_of (part_at (tree_parts entries content o) above)))

@@ -2,7 +2,7 @@
 ghost use Rattle.std.specs.Prelude.{◌≡◌, ◌+◌, ◌-◌, ◌^◌, ◌≤◌, ◌<◌, max, min, true, OnOk, OnErr, IfErr, length};
 ghost use Rattle.cfb_format.specs.Refused.{CountsFailure};
 ghost use Rattle.cfb_stream_buffer.specs.Contents.{laid, IsMediumFault};
-ghost use Rattle.cfb_stream_window_bench.specs.Memory.{stored_in};
+ghost use Rattle.cfb_stream_window_bench.specs.Memory.{stored_of_list};
 ghost use Rattle.cfb_stream_window_bench.specs.cfb_rules.StreamCalls.{resized};
 
 use cfb_format::error::{Detail, Error};
@@ -126,7 +126,7 @@ impl ReadContents for MemoryContents {
 
     ghost tells = { λ _. Unit {0} };
 
-    ghost stored = { λ m _. stored_in m };
+    ghost stored = { λ m _. stored_of_list m };
 
     ghost use Rattle.cfb_stream_window_bench.specs.Memory.{ListState};
 

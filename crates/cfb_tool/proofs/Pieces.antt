@@ -11,7 +11,7 @@ use Rattle.cfb_rules.specs.Lists.{Command}
 use Rattle.cfb_rules.specs.Refusal.{refusal_number}
 use Rattle.cfb_tool.specs.cfb_agreement.Files.{FileState}
 use Rattle.cfb_commands.specs.declared.command.Command.{Command as TheCommand}
-use Rattle.cfb_commands.specs.Commands.{command_of, refusal_of}
+use Rattle.cfb_commands.specs.Commands.{command_of, refusal_of_error}
 use Rattle.cfb_tool.specs.Playing.{ArePlayed, IsPlayed}
 use Rattle.cfb_tool.proofs.Runs.{all_but, all_ok}
 
@@ -20,7 +20,7 @@ pub past_end : (bytes : List ℕ) (n : ℕ) → length bytes ≤ n → drop n by
 past_end bytes n past = drop_all n bytes past
 
 -- what is printed of a kind
-pub digit : (e : Error) (n : ℕ) → n ≡ number_of e → min (48 + n) (2 ^ 8 - 1) ≡ 48 + refusal_number (refusal_of e)
+pub digit : (e : Error) (n : ℕ) → n ≡ number_of e → min (48 + n) (2 ^ 8 - 1) ≡ 48 + refusal_number (refusal_of_error e)
 digit (NotFound d) n is = ap (λ (k : ℕ). min (48 + k) (2 ^ 8 - 1)) is
 digit (AlreadyExists d) n is = ap (λ (k : ℕ). min (48 + k) (2 ^ 8 - 1)) is
 digit (InvalidInput d) n is = ap (λ (k : ℕ). min (48 + k) (2 ^ 8 - 1)) is
@@ -81,9 +81,9 @@ module _ {A : Type 0} (tells : Bool) (can_give : MediumFault → Bool) (old : Fi
       (all_ok tells can_give old (map command_of (take i commands)) (command_of here) text now (111 ∷ 107 ∷ 10 ∷ []) done middle new p refl (λ t. played t (command_of here) one)) is
 
   -- one that was
-  pub one_refused : (e : Error) (letter : ℕ) → letter ≡ 48 + refusal_number (refusal_of e)
-      → (IsTrue tells → (asked : Command) → map command_of (take 1 (drop i commands)) ≡ asked ∷ [] → IsPlayed can_give middle asked (Some (refusal_of e)) new)
+  pub one_refused : (e : Error) (letter : ℕ) → letter ≡ 48 + refusal_number (refusal_of_error e)
+      → (IsTrue tells → (asked : Command) → map command_of (take 1 (drop i commands)) ≡ asked ∷ [] → IsPlayed can_give middle asked (Some (refusal_of_error e)) new)
       → next ≡ now ++ 69 ∷ letter ∷ 10 ∷ [] → ArePlayed tells can_give old (map command_of (take (i + 1) commands)) text next false new
   one_refused e letter digits played is = behind false (69 ∷ letter ∷ 10 ∷ [])
-      (all_but tells can_give old (map command_of (take i commands)) (command_of here) text now (69 ∷ letter ∷ 10 ∷ []) done middle new p (refusal_of e)
+      (all_but tells can_give old (map command_of (take i commands)) (command_of here) text now (69 ∷ letter ∷ 10 ∷ []) done middle new p (refusal_of_error e)
       (ap (λ (n : ℕ). 69 ∷ n ∷ 10 ∷ []) digits) (λ t. played t (command_of here) one)) is

@@ -14,7 +14,7 @@ use Rattle.cfb_commands.specs.Seen.{seen_as, standing_at}
 use Rattle.cfb_commands.proofs.Made.{run_stays}
 use Rattle.cfb_commands.specs.declared.command.Command.{Command as TheCommand}
 use Rattle.cfb_commands.specs.declared.command.Reply.{Reply as TheReply}
-use Rattle.cfb_commands.specs.Commands.{command_of, refusal_of, reply_of}
+use Rattle.cfb_commands.specs.Commands.{command_of, refusal_of_error, command_reply_of}
 use Rattle.cfb_commands.specs.Working.{RunsLegally}
 use Rattle.cfb_tool.specs.Playing.{AddsInTurn, ArePlayed, IsAdded, IsPlayed, PlaysOnce, addition, bytes_written, is_all_done, path_written, told_line, told_lines}
 use Rattle.cfb_tool.proofs.Turns.{adds_more, adds_not, adds_nothing, adds_refused, adds_stuck, done_more, done_not, lines_more, plays_more, plays_on, plays_refused}
@@ -58,11 +58,11 @@ drop_none n xs none = ap (λ (m : ℕ). drop m xs) none
 -- a list of one command, with its reply
 pub one_run : {A : Type 0} (can_give : MediumFault → Bool) (old new : FileState) (commands : List (TheCommand A)) (asked : Command) (olds news : List (TheReply A)) (reply : TheReply A)
     → map command_of commands ≡ asked ∷ [] → length olds ≡ 0 → length news ≡ 1 → reply ≡ get_or news 0 reply
-    → RunsLegally can_give old (map command_of commands) (map reply_of (drop (length olds) news)) new
-    → RunsLegally can_give old (asked ∷ []) (reply_of reply ∷ []) new
+    → RunsLegally can_give old (map command_of commands) (map command_reply_of (drop (length olds) news)) new
+    → RunsLegally can_give old (asked ∷ []) (command_reply_of reply ∷ []) new
 one_run {A = A} can_give old new commands asked olds news reply one none each is runs =
-    subst (λ (cs : List Command). RunsLegally can_give old cs (reply_of reply ∷ []) new) one
-    (subst (λ (rs : List (TheReply A)). RunsLegally can_give old (map command_of commands) (map reply_of rs) new) (drop_none (length olds) news none ∙ single news reply each is) runs)
+    subst (λ (cs : List Command). RunsLegally can_give old cs (command_reply_of reply ∷ []) new) one
+    (subst (λ (rs : List (TheReply A)). RunsLegally can_give old (map command_of commands) (map command_reply_of rs) new) (drop_none (length olds) news none ∙ single news reply each is) runs)
 
 -- ---- what is left is added in turn
 
@@ -96,8 +96,8 @@ module _ (can_give : MediumFault → Bool) (old : FileState) (path bytes : List 
     added_not some = added now [] [] (Some out_of_memory) (adds_not path rest some) (runs_none can_give now)
 
     module _ (some : 0 < length rest) (next : FileState) where
-      pub added_refused : (e : Error) → PlaysOnce can_give now (addition path rest) (Err e) next → IsAdded can_give old path bytes (Some (refusal_of e)) next
-      added_refused e h = added next (addition path rest ∷ []) (h.0 ∷ []) (Some (refusal_of e)) (adds_refused path rest some h.0 (refusal_of e) h.2) h.1
+      pub added_refused : (e : Error) → PlaysOnce can_give now (addition path rest) (Err e) next → IsAdded can_give old path bytes (Some (refusal_of_error e)) next
+      added_refused e h = added next (addition path rest ∷ []) (h.0 ∷ []) (Some (refusal_of_error e)) (adds_refused path rest some h.0 (refusal_of_error e) h.2) h.1
 
       pub added_stuck : (n : ℕ) → n ≡ 0 → PlaysOnce can_give now (addition path rest) (Ok n) next → IsAdded can_give old path bytes (Some medium_failed) next
       added_stuck n none h = added next (addition path rest ∷ []) (h.0 ∷ []) (Some medium_failed) (adds_stuck path rest some h.0 h.2.0 (sym h.2.1 ∙ none)) h.1
@@ -117,11 +117,11 @@ module _ (can_give : MediumFault → Bool) (old : FileState) (path bytes : List 
 -- ---- one command, done to its end
 
 module _ (can_give : MediumFault → Bool) (old : FileState) (asked : Command) where
-  pub played_not : (next : FileState) (e : Error) → PlaysOnce can_give old asked (Err e) next → IsPlayed can_give old asked (Some (refusal_of e)) next
+  pub played_not : (next : FileState) (e : Error) → PlaysOnce can_give old asked (Err e) next → IsPlayed can_give old asked (Some (refusal_of_error e)) next
   played_not next e h = record {
     commands = asked ∷ [];
     replies = h.0 ∷ [];
-    plays = plays_refused asked h.0 (refusal_of e) h.2;
+    plays = plays_refused asked h.0 (refusal_of_error e) h.2;
     runs = h.1;
   }
 

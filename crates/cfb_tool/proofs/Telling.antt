@@ -7,18 +7,18 @@ use Rattle.cfb_format.specs.declared.error.Error.{Error}
 use Rattle.cfb_rules.specs.Calls.{Reply}
 use Rattle.cfb_rules.specs.Refusal.{Refusal}
 use Rattle.cfb_rules.specs.StreamCalls.{StreamCall, StreamReply}
-use Rattle.cfb_commands.specs.Commands.{call_answer, closing_of, refusal_of, stream_answer}
+use Rattle.cfb_commands.specs.Commands.{call_answer, refusal_of_result, refusal_of_error, stream_answer}
 use Rattle.cfb_tool.specs.Playing.{bytes_of_work, first_of, first_refusal, last_count, last_write, refusal_of_call, refusal_of_work, taken_by_work}
 
 -- a call by path
 pub told_by_call : {T : Type 0} (answer : T → Reply) (result : Result T Error) → ((x : T) → refusal_of_call (answer x) ≡ None)
-    → closing_of result ≡ refusal_of_call (call_answer answer result)
+    → refusal_of_result result ≡ refusal_of_call (call_answer answer result)
 told_by_call answer (Ok x) quiet = sym (quiet x)
 told_by_call answer (Err e) quiet = refl
 
 -- an operation on a stream
 pub told_by_work : {T : Type 0} (answer : T → StreamReply) (result : Result T Error) → ((x : T) → refusal_of_work (answer x) ≡ None)
-    → closing_of result ≡ refusal_of_work (stream_answer answer result)
+    → refusal_of_result result ≡ refusal_of_work (stream_answer answer result)
 told_by_work answer (Ok x) quiet = sym (quiet x)
 told_by_work answer (Err e) quiet = refl
 
@@ -48,7 +48,7 @@ written_last f xs front x e = subst (λ ys. last_write (map f ys) ≡ bytes_of_w
 
 -- one that was not refused is passed, and the first that was is told
 module _ {X : Type 0} (f : X → StreamReply) (xs : List X) (i : ℕ) (x : X) (closing : Option Refusal) (error : Option Error) (less : i < length xs) (is : x ≡ get_or xs i x)
-    (told : option_map refusal_of error ≡ refusal_of_work (f x)) where
+    (told : option_map refusal_of_error error ≡ refusal_of_work (f x)) where
   here : first_refusal (map f (drop i xs)) closing ≡ first_of (refusal_of_work (f x)) (first_refusal (map f (drop (i + 1) xs)) closing)
   here = ap (λ ys. first_refusal (map f ys) closing) (drop_more xs i x less)
       ∙ ap (λ y. first_of (refusal_of_work (f y)) (first_refusal (map f (drop (i + 1) xs)) closing)) (sym is)
@@ -56,13 +56,13 @@ module _ {X : Type 0} (f : X → StreamReply) (xs : List X) (i : ℕ) (x : X) (c
   pub passed_at : is_some error ≡ false → first_refusal (map f (drop i xs)) closing ≡ first_refusal (map f (drop (i + 1) xs)) closing
   passed_at none = here ∙ ap (λ (o : Option Refusal). first_of o (first_refusal (map f (drop (i + 1) xs)) closing)) (sym told ∙ go error none)
     where
-      go : (o : Option Error) → is_some o ≡ false → option_map refusal_of o ≡ None
+      go : (o : Option Error) → is_some o ≡ false → option_map refusal_of_error o ≡ None
       go None e = refl
       go (Some x) e = absurd (let w : true ≡ false = e in cc)
 
-  pub caught_at : is_some error ≡ true → option_map refusal_of error ≡ first_refusal (map f (drop i xs)) closing
+  pub caught_at : is_some error ≡ true → option_map refusal_of_error error ≡ first_refusal (map f (drop i xs)) closing
   caught_at some = go error some (first_refusal (map f (drop (i + 1) xs)) closing) ∙ ap (λ (o : Option Refusal). first_of o (first_refusal (map f (drop (i + 1) xs)) closing)) told ∙ sym here
     where
-      go : (o : Option Error) → is_some o ≡ true → (rest : Option Refusal) → option_map refusal_of o ≡ first_of (option_map refusal_of o) rest
+      go : (o : Option Error) → is_some o ≡ true → (rest : Option Refusal) → option_map refusal_of_error o ≡ first_of (option_map refusal_of_error o) rest
       go None e rest = absurd (let w : false ≡ true = e in cc)
       go (Some x) e rest = refl

@@ -13,7 +13,7 @@ use Rattle.cfb_tool.specs.cfb_path_changes.Answers.{MeansTree, setting_of}
 use Rattle.cfb_commands.specs.Promised.{promised}
 use Rattle.cfb_commands.specs.Seen.{seen_as, standing_at}
 use Rattle.cfb_commands.proofs.Made.{run_stays}
-use Rattle.cfb_commands.specs.Commands.{closing_of}
+use Rattle.cfb_commands.specs.Commands.{refusal_of_result}
 use Rattle.cfb_tool.specs.Content.{HasStream, HoldsStream, IsPut}
 use Rattle.cfb_tool.proofs.Stored.{written_is_stored}
 use Rattle.cfb_tool.proofs.cfb_volume.Settings.{setting-same}
@@ -30,6 +30,6 @@ module _ (can_give : MediumFault → Bool) (old new : FileState) (path bytes : L
       (Means-unique (cases_of new.base) (bytes_of new.base) a.0 tree (a.1 kept.0) (means kept.0))
       (subst (λ (cases : Cases). HasStream cases a.0 path bytes) (sym stays.setting.limits.cases) kept.1)
 
-  pub put_holds : {T : Type 0} (result : Result T Error) → Agrees old → IsPut can_give old path bytes (closing_of result) new → OnOk result (HoldsStream new path bytes)
+  pub put_holds : {T : Type 0} (result : Result T Error) → Agrees old → IsPut can_give old path bytes (refusal_of_result result) new → OnOk result (HoldsStream new path bytes)
   put_holds (Ok x) agrees put = record { holds = stored agrees put }
   put_holds (Err e) agrees put = tt

@@ -25,7 +25,7 @@ use Rattle.cfb_tool.specs.cfb_compound_file.Asking.{IsOfOpeningStream}
 use Rattle.cfb_tool.specs.cfb_compound_file.OpenedStreams.{BeginsAt, IsOpenedAt}
 use Rattle.cfb_tool.specs.cfb_compound_file.StreamAnswers.{IsStreamRefused, OpenStream, StreamRunsBy, causes_of_reading, closing_of, run_in, stored_in, stream_in}
 use Rattle.cfb_tool.specs.cfb_stream_buffer.Contents.{stream_setting_of}
-use Rattle.cfb_commands.specs.Commands.{refusal_of}
+use Rattle.cfb_commands.specs.Commands.{refusal_of_error}
 use Rattle.cfb_commands.proofs.Errors.{known}
 use Rattle.cfb_tool.specs.cfb_stream_window.Windows.{Runs, Suits, Window}
 use Rattle.cfb_tool.specs.Content.{HasStream, HoldsStream, IsUnread}
@@ -120,7 +120,7 @@ module _ (old : FileState) (path : List ℕ) (s next : OpenStream) (opened_at : 
 
   -- what was refused so is not read
   pub not_read : Answers old (open_read_stream path) done → (can_give : MediumFault → Bool) (e : Error)
-      → IsStreamRefused (causes_of_reading s.file next.file) can_give s read_to_end next e → IsUnread old path (refusal_of e) next.file
+      → IsStreamRefused (causes_of_reading s.file next.file) can_give s read_to_end next e → IsUnread old path (refusal_of_error e) next.file
   not_read answers can_give e why = record {
     opens = answers;
     reads = λ tree means. (

@@ -17,7 +17,7 @@ use Rattle.cfb_tool.specs.cfb_agreement.Files.{FileState, SameSetting, failures_
 use Rattle.cfb_tool.specs.cfb_path_changes.Answers.{Answers, AnswersNot, MeansTree, setting_of}
 use Rattle.cfb_tool.specs.cfb_compound_file.Stored.{kept_of}
 use Rattle.cfb_tool.specs.cfb_compound_file.StreamAnswers.{OpenStream, causes_of_reading}
-use Rattle.cfb_commands.specs.Commands.{refusal_of}
+use Rattle.cfb_commands.specs.Commands.{refusal_of_error}
 use Rattle.cfb_commands.specs.Promised.{IsOpenSince}
 use Rattle.cfb_commands.specs.Working.{LendsNothing, Works}
 use Rattle.cfb_commands.specs.Working as commands
@@ -56,7 +56,7 @@ pub record CountsReading {T : Type 0} (can_give : MediumFault → Bool) (result 
 
 -- the stream was not opened, or not read
 abbrev pub IsNotRead : FileState → List ℕ → FileState → Error → Type 0
-IsNotRead old path new e = (AnswersNot old (open_read_stream path) e × (new ≡ old)) ⊎ IsUnread old path (refusal_of e) new
+IsNotRead old path new e = (AnswersNot old (open_read_stream path) e × (new ≡ old)) ⊎ IsUnread old path (refusal_of_error e) new
 
 -- ---- written
 

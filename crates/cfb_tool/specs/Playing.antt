@@ -7,7 +7,7 @@ use Rattle.cfb_rules.specs.Lists.{Command, CommandReply, by_path, on_stream, ope
 use Rattle.cfb_rules.specs.Refusal.{Refusal, medium_failed, out_of_memory, refusal_number}
 use Rattle.cfb_rules.specs.StreamCalls.{StreamCall, StreamReply, answered, count, from_end, got, not_done, offset, ready, seek, write}
 use Rattle.cfb_tool.specs.cfb_agreement.Files.{FileState}
-use Rattle.cfb_commands.specs.Commands.{refusal_of}
+use Rattle.cfb_commands.specs.Commands.{refusal_of_error}
 use Rattle.cfb_commands.specs.Working.{RunsLegally}
 
 -- ---- what a reply tells
@@ -144,7 +144,7 @@ is_all_done (Some refusal ∷ more) = false
 -- the command was done once, by the rules: its last operation took so many bytes, or that was its first refusal
 abbrev pub PlaysOnce : (MediumFault → Bool) → FileState → Command → Result ℕ Error → FileState → Type 0
 PlaysOnce can_give old command result new = (reply : CommandReply) × RunsLegally can_give old (command ∷ []) (reply ∷ []) new
-    × MatchResult result (λ n. (refusal_in reply ≡ None) × (n ≡ taken_in reply)) (λ e. refusal_in reply ≡ Some (refusal_of e))
+    × MatchResult result (λ n. (refusal_in reply ≡ None) × (n ≡ taken_in reply)) (λ e. refusal_in reply ≡ Some (refusal_of_error e))
 
 module _ (can_give : MediumFault → Bool) (old : FileState) where
   -- bytes were added at the end of the stream at this path, by calls that keep the rules

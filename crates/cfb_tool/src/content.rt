@@ -1,6 +1,6 @@
 //! All bytes of a stream, read and written.
 ghost use Rattle.std.specs.Prelude.{◌≡◌, ◌||◌, IsTrue, IfErr, IfOk, OnOk, chars};
-ghost use Rattle.cfb_commands.specs.Commands.{closing_of};
+ghost use Rattle.cfb_commands.specs.Commands.{refusal_of_result};
 ghost use Rattle.cfb_commands.specs.Faults.{CanBeGiven};
 ghost use Rattle.cfb_tool.specs.cfb_compound_file.Streams.{file_of, open_of};
 ghost use Rattle.cfb_tool.specs.Content.{CountsReading, HoldsStream, IsNotRead, IsOnlyRead, IsPut, IsWrittenWhole};
@@ -45,7 +45,7 @@ pub fn put_content<F: Medium, A: Heap + Clone>(
     bytes: &[u8],
 ) -> Result<(), Error>
     ensures put { IsTrue F.tells → IsPut (λ f. F.read_faults f || F.write_faults f) file.old
-        (chars path.now) bytes.now (closing_of result) file.new }
+        (chars path.now) bytes.now (refusal_of_result result) file.new }
     ensures holds { IsTrue F.tells
         → OnOk result (HoldsStream file.new (chars path.now) bytes.now) }
     ensures given { IsTrue F.tells
@@ -67,7 +67,7 @@ fn write_all<F: Medium, A: Heap + Clone>(
 ) -> Result<(), Error>
     ensures same_file { (file_of stream.new).ghost_name ≡ (file_of stream.old).ghost_name }
     ensures works { IsTrue F.tells → IsWrittenWhole (λ f. F.read_faults f || F.write_faults f)
-        (open_of stream.old) bytes.now (closing_of result) (open_of stream.new) }
+        (open_of stream.old) bytes.now (refusal_of_result result) (open_of stream.new) }
     ensures given { IsTrue F.tells
         → IfErr result (CanBeGiven (λ f. F.read_faults f || F.write_faults f)) }
 {

@@ -1,7 +1,7 @@
 //! Commands done one after the other, each to its end: a write goes on until all of its bytes are
 //! taken.
 ghost use Rattle.std.specs.Prelude.{◌≡◌, ◌<◌, ◌≤◌, ◌+◌, ◌*◌, ◌++◌, ◌∷◌, ◌||◌, [], IfErr, IfOk, IsTrue, OnErr, chars, drop, length, map, take, vec_capacity};
-ghost use Rattle.cfb_commands.specs.Commands.{closing_of, command_of};
+ghost use Rattle.cfb_commands.specs.Commands.{refusal_of_result, command_of};
 ghost use Rattle.cfb_format.specs.Refused.{IsMemory};
 ghost use Rattle.cfb_rules.specs.Lists.{Command as Ordered};
 ghost use Rattle.cfb_tool.specs.Playing.{ArePlayed, IsAdded, IsPlayed, PlaysOnce, addition};
@@ -77,7 +77,7 @@ fn go_on<F: Medium, A: Heap + Clone>(
     requires room { 1 ≤ vec_capacity replies.old }
     ensures room { 1 ≤ vec_capacity replies.new }
     ensures added { IsTrue F.tells → IsAdded (λ f. F.read_faults f || F.write_faults f) file.old
-        (chars path.now) bytes.now (closing_of result) file.new }
+        (chars path.now) bytes.now (refusal_of_result result) file.new }
 {
     let mut rest = bytes;
     while !rest.is_empty() {
@@ -103,7 +103,7 @@ fn do_command<F: Medium, A: Heap + Clone>(
     requires room { 1 ≤ vec_capacity replies.old }
     ensures room { 1 ≤ vec_capacity replies.new }
     ensures played { IsTrue F.tells → (asked : Ordered) → map command_of one.now ≡ asked ∷ []
-        → IsPlayed (λ f. F.read_faults f || F.write_faults f) file.old asked (closing_of result)
+        → IsPlayed (λ f. F.read_faults f || F.write_faults f) file.old asked (refusal_of_result result)
         file.new }
 {
     let count = do_once(file, one, replies)?;

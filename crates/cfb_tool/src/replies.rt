@@ -1,7 +1,7 @@
 //! What is told by the reply to a command.
 ghost use Rattle.std.specs.Prelude.{◌≡◌, [], chars, map, MatchOption};
 ghost use Rattle.std.specs.Option.{option_map};
-ghost use Rattle.cfb_commands.specs.Commands.{closing_of, command_of, refusal_of, reply_of, stream_call_of, stream_reply_of};
+ghost use Rattle.cfb_commands.specs.Commands.{refusal_of_result, command_of, refusal_of_error, command_reply_of, stream_call_of, stream_reply_of};
 ghost use Rattle.cfb_tool.specs.Playing.{bytes_of_work, bytes_written, first_refusal, last_count, path_written, refusal_in, refusal_of_work, taken_by_work, taken_in};
 
 use cfb_commands::command::{Command, Reply, StreamOp, StreamReply};
@@ -10,7 +10,7 @@ use std::alloc::Allocator as Heap;
 
 /// Why a call was refused, if it was.
 fn error_of<T>(answer: &Result<T, Error>) -> Option<Error>
-    ensures { option_map refusal_of result ≡ closing_of answer.now }
+    ensures { option_map refusal_of_error result ≡ refusal_of_result answer.now }
 {
     match answer {
         Ok(_) => None,
@@ -20,7 +20,7 @@ fn error_of<T>(answer: &Result<T, Error>) -> Option<Error>
 
 /// Why an operation on a stream was refused, if it was.
 fn error_of_work<A: Heap>(reply: &StreamReply<A>) -> Option<Error>
-    ensures { option_map refusal_of result ≡ refusal_of_work (stream_reply_of reply.now) }
+    ensures { option_map refusal_of_error result ≡ refusal_of_work (stream_reply_of reply.now) }
 {
     match reply {
         StreamReply::Bytes(answer) => error_of(answer),
@@ -32,8 +32,8 @@ fn error_of_work<A: Heap>(reply: &StreamReply<A>) -> Option<Error>
 
 /// What was refused first of the operations on a stream and of its closing.
 fn first_error_of<A: Heap>(replies: &[StreamReply<A>], closed: &Result<(), Error>) -> Option<Error>
-    ensures { option_map refusal_of result
-        ≡ first_refusal (map stream_reply_of replies.now) (closing_of closed.now) }
+    ensures { option_map refusal_of_error result
+        ≡ first_refusal (map stream_reply_of replies.now) (refusal_of_result closed.now) }
 {
     for reply in replies {
         let error = error_of_work(reply);
@@ -46,7 +46,7 @@ fn first_error_of<A: Heap>(replies: &[StreamReply<A>], closed: &Result<(), Error
 
 /// What was refused first of a command: its call, or its opening, an operation or its closing.
 pub(crate) fn first_error<A: Heap>(reply: &Reply<A>) -> Option<Error>
-    ensures { option_map refusal_of result ≡ refusal_in (reply_of reply.now) }
+    ensures { option_map refusal_of_error result ≡ refusal_in (command_reply_of reply.now) }
 {
     match reply {
         Reply::Done(answer) => error_of(answer),
@@ -83,7 +83,7 @@ fn last_taken<A: Heap>(replies: &[StreamReply<A>]) -> usize
 
 /// How many bytes the last operation of a command took, if it is a write.
 pub(crate) fn taken<A: Heap>(reply: &Reply<A>) -> usize
-    ensures { result ≡ taken_in (reply_of reply.now) }
+    ensures { result ≡ taken_in (command_reply_of reply.now) }
 {
     match reply {
         Reply::Stream(Ok((replies, _))) => last_taken(replies),

@@ -35,7 +35,7 @@ use Rattle.cfb_whole_bench.specs.cfb_compound_file.Stored.{ChangesStream, KeepsR
 use Rattle.cfb_whole_bench.specs.cfb_path_changes.Finding.{StandsAt}
 use Rattle.cfb_whole_bench.specs.cfb_compound_file.StreamAnswers.{ClosesTree, IsClosingRefused, OpenStream, closed_tree, run_in, stored_in, stream_in}
 use Rattle.cfb_whole_bench.specs.Changes.{ListAt, empty_list, some_too_long}
-use Rattle.cfb_whole_bench.specs.OneStream.{AreChangesRefused, IsChangedTo, IsDataRefused, IsFileRefused, IsFullFor, IsFullNow, IsMadeWith, ClosesCalmly, IsWantOfMemory, LacksForOne, data_name, data_path, data_tree}
+use Rattle.cfb_whole_bench.specs.OneStream.{AreChangesRefused, IsChangedTo, IsDataRefused, IsFileRefused, IsFullFor, IsFullNow, IsMadeWith, ClosesCalmly, IsStoppedForMemory, LacksForOne, data_name, data_path, data_tree}
 use Rattle.cfb_whole_bench.specs.declared.whole.Change.{Change}
 use Rattle.cfb_whole_bench.proofs.Refusals.{by_break, stopped_so}
 
@@ -311,7 +311,7 @@ module _ (version : Version) (first : FileState) (entry : ℕ) (is : IsMadeWith 
 
 -- ---- the file that is left
 
-pub want_is_refusal : (version : Version) (changes : List Change) (left : Option FileState) (e : Error) → IsWantOfMemory e → IsFileRefused version changes left e
+pub want_is_refusal : (version : Version) (changes : List Change) (left : Option FileState) (e : Error) → IsStoppedForMemory e → IsFileRefused version changes left e
 want_is_refusal version changes left =
     stopped_so ⊥ ((file : FileState) × (left ≡ Some file) × IsFullFor version changes file) ⊥ (IsTrue (some_too_long (max_stream_len version) empty_list changes))
     (λ h. absurd h) (λ h. absurd h)

@@ -16,7 +16,7 @@ use Rattle.cfb_whole_bench.specs.cfb_agreement.Files.{Agrees, FileState, Holds, 
 use Rattle.cfb_whole_bench.specs.cfb_agreement.Laws.{AsMadeIsInOrder, SoundIsExact}
 use Rattle.cfb_whole_bench.specs.cfb_opening.Acceptable.{IsAcceptable}
 use Rattle.cfb_whole_bench.specs.cfb_compound_file.Opening.{CanBeReopened, IsOpenedWith, OpeningWithRefused, permissive_options}
-use Rattle.cfb_whole_bench.specs.OneStream.{IsMadeWith, IsReopenedWith, IsWantOfMemory}
+use Rattle.cfb_whole_bench.specs.OneStream.{IsMadeWith, IsReopenedWith, IsStoppedForMemory}
 
 module _ (version : Version) (tree : Tree) (file : FileState) (is : IsMadeWith version tree file) (bytes : List ℕ) (same : bytes ≡ bytes_of file.base) where
   module _ (agrees : Agrees file) (exact : SoundIsExact) (in_order : AsMadeIsInOrder) (failures : ℕ) (new : FileState)
@@ -56,7 +56,7 @@ module _ (version : Version) (tree : Tree) (file : FileState) (is : IsMadeWith v
     }
 
   -- such bytes are acceptable, so that nothing but memory can be refused
-  not_opened : CanBeReopened file → (e : Error) → OpeningWithRefused (λ _. false) permissive_options bytes e → IsWantOfMemory e
+  not_opened : CanBeReopened file → (e : Error) → OpeningWithRefused (λ _. false) permissive_options bytes e → IsStoppedForMemory e
   not_opened again (NotFound d) h = absurd h
   not_opened again (AlreadyExists d) h = absurd h
   not_opened again (InvalidInput d) h = absurd h
@@ -77,6 +77,6 @@ module _ (version : Version) (tree : Tree) (file : FileState) (is : IsMadeWith v
     opened_if agrees exact in_order (Err e) refused = tt
 
     pub refused_if : CanBeReopened file → (result : Result FileState Error)
-        → MatchResult result (IsOpenedWith permissive_options bytes failures) (OpeningWithRefused (λ _. false) permissive_options bytes) → IfErr result IsWantOfMemory
+        → MatchResult result (IsOpenedWith permissive_options bytes failures) (OpeningWithRefused (λ _. false) permissive_options bytes) → IfErr result IsStoppedForMemory
     refused_if again (Ok new) opened = tt
     refused_if again (Err e) refused = not_opened again e refused

@@ -106,8 +106,8 @@ AreChangesRefused first entry s changes now =
     IsStopped (IsFullNow first entry (λ file. LacksForOne file entry changes) now) (IsTrue (some_too_long (max_stream_len (version_of first.base)) s changes))
 
 -- only a growth of memory was refused to the medium, or memory to the call
-abbrev pub IsWantOfMemory : Error → Type 0
-IsWantOfMemory = IsStopped ⊥ ⊥
+abbrev pub IsStoppedForMemory : Error → Type 0
+IsStoppedForMemory = IsStopped ⊥ ⊥
 
 -- This file is so full: no entry can be had for the stream; or the stream stands there, and nothing can be had for what is kept back or written,
 -- or a length needs more sectors than there are numbers for. The numbers are all that the format has

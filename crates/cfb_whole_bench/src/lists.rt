@@ -1,12 +1,12 @@
 //! Lists of commands on files in memory: what is said of a run on a medium that tells its bytes is said here with no premise.
 ghost use Rattle.std.specs.Prelude.{◌≡◌, ◌≤◌, ◌+◌, All, IfErr, IfOk, OnOk, drop, length, map, take, vec_capacity};
-ghost use Rattle.cfb_commands.specs.Commands.{command_of, reply_of};
+ghost use Rattle.cfb_commands.specs.Commands.{command_of, command_reply_of};
 ghost use Rattle.cfb_commands.specs.Failing.{IsAsked};
 ghost use Rattle.cfb_commands.specs.Faults.{IsGiven};
 ghost use Rattle.cfb_commands.specs.Kinds.{AreOfKinds, kind_of_command};
 ghost use Rattle.cfb_format.specs.Memory.{is_refused_growth};
 ghost use Rattle.cfb_whole_bench.specs.Lists.{RunsTo};
-ghost use Rattle.cfb_whole_bench.specs.OneStream.{IsWantOfMemory};
+ghost use Rattle.cfb_whole_bench.specs.OneStream.{IsStoppedForMemory};
 
 use crate::whole::{made, reopened};
 use cfb::{Command, CompoundFile, Error, MemoryMedium, Reply, Version, run};
@@ -32,9 +32,9 @@ pub fn run_in_memory<A: Allocator + Clone>(
     ensures asked { All IsAsked (drop (length replies.old.items) replies.new.items) }
     ensures given { All (IsGiven is_refused_growth)
         (drop (length replies.old.items) replies.new.items) }
-    ensures ok { IfOk result (RunsTo version (map command_of commands.now) (map reply_of (drop
+    ensures ok { IfOk result (RunsTo version (map command_of commands.now) (map command_reply_of (drop
         (length replies.old.items) replies.new.items))) }
-    ensures refused { IfErr result IsWantOfMemory }
+    ensures refused { IfErr result IsStoppedForMemory }
 {
     let mut file = made(&alloc, version)?;
     run(&mut file, commands, replies);

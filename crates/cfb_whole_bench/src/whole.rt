@@ -14,7 +14,7 @@ ghost use Rattle.cfb_whole_bench.specs.cfb_agreement.Files.{FileState, failures_
 ghost use Rattle.cfb_whole_bench.specs.cfb_compound_file.Streams.{file_of, open_of};
 ghost use Rattle.cfb_whole_bench.specs.Changes.{ListAt, after, after_all, after_write, empty_list, some_too_long};
 ghost use Rattle.cfb_whole_bench.specs.declared.whole.Change.TheVariants.{Write};
-ghost use Rattle.cfb_whole_bench.specs.OneStream.{AreChangesRefused, IsChangeRefused, IsChangedTo, IsDataRefused, IsFileRefused, IsMadeWith, IsReopenedWith, IsWantOfMemory, data_tree};
+ghost use Rattle.cfb_whole_bench.specs.OneStream.{AreChangesRefused, IsChangeRefused, IsChangedTo, IsDataRefused, IsFileRefused, IsMadeWith, IsReopenedWith, IsStoppedForMemory, data_tree};
 
 use cfb::{CompoundFile, Error, MemoryMedium, Stream, Version, laws};
 use std::alloc::Allocator;
@@ -131,7 +131,7 @@ pub(crate) fn made<A: Allocator + Clone>(
     ensures ok { IfOk result (IsMadeWith version empty_tree) }
     ensures bytes { IfOk result (λ file. bytes_of file.base ≡ created_bytes version) }
     ensures calm { IfOk result (λ file. failures_of file ≡ 0) }
-    ensures refused { IfErr result IsWantOfMemory }
+    ensures refused { IfErr result IsStoppedForMemory }
 {
     laws::bytes::created_file_is_right();
     let medium = MemoryMedium::new(alloc.clone()?);
@@ -148,7 +148,7 @@ pub(crate) fn reopened<A: Allocator + Clone>(
     ensures bytes { IfOk result (λ new. bytes_of new.base ≡ bytes_of file.base) }
     ensures failures { IfOk result (λ new. failures_of new ≡ failures_of file) }
     ensures refused { (version : VersionOf) (tree : Tree)
-        → IsMadeWith version tree file → IfErr result IsWantOfMemory }
+        → IsMadeWith version tree file → IfErr result IsStoppedForMemory }
 {
     laws::files::bytes_are_what_is_held();
     let _is_failed = file.is_failed();
@@ -178,7 +178,7 @@ pub fn made_and_opened<A: Allocator + Clone>(
 ) -> Result<CompoundFile<MemoryMedium<A>, A>, Error>
     ensures ok { IfOk result (IsReopenedWith version empty_tree) }
     ensures bytes { IfOk result (λ file. bytes_of file.base ≡ created_bytes version) }
-    ensures refused { IfErr result IsWantOfMemory }
+    ensures refused { IfErr result IsStoppedForMemory }
 {
     let file = made(&alloc, version)?;
     reopened(alloc, file)

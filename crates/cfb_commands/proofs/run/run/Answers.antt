@@ -2,7 +2,7 @@ use Rattle.std.proofs.Common.{◌≤◌, ◌∙◌, ◌∷◌, [], List, ap, ari
 use Rattle.std.proofs.lemmas.List.{take-append-le, take_all}
 use Rattle.std.specs.Prelude.{◌||◌}
 use Rattle.cfb_commands.specs.declared.command.Command.{Command as TheCommand}
-use Rattle.cfb_commands.specs.Commands.{command_of, reply_of}
+use Rattle.cfb_commands.specs.Commands.{command_of, command_reply_of}
 use Rattle.cfb_commands.specs.Working.{RunsLegally}
 use Rattle.cfb_commands.specs.Failing.{IsAsked}
 use Rattle.cfb_commands.specs.Faults.{IsGiven}
@@ -40,7 +40,7 @@ returns-clause-order g c = λ told. stays_made _ c.args.file.now c.loop-command.
 pub returns-clause-runs : goal.returns-clause-runs
 returns-clause-runs g c = λ told.
     subst (λ (commands : List (TheCommand g.row.A.Denot)). RunsLegally (λ f. g.F.ReadMedium.read_faults f || g.F.Medium.write_faults f) c.args.file.now (map command_of commands)
-    (map reply_of (drop (length c.args.replies.now.items) c.loop-command.replies.items)) c.loop-command.file) (take_all c.loop-command.command-index c.args.commands.now c.loop-command-test.false)
+    (map command_reply_of (drop (length c.args.replies.now.items) c.loop-command.replies.items)) c.loop-command.file) (take_all c.loop-command.command-index c.args.commands.now c.loop-command-test.false)
     (c.loop-command.invariant.runs told)
 
 pub returns-clause-failed : goal.returns-clause-failed

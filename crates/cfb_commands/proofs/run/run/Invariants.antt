@@ -1,6 +1,6 @@
 use Rattle.std.proofs.Common.{◌≡◌, ◌+◌, drop, length, map, take, vec_capacity}
 use Rattle.std.specs.Prelude.{◌||◌, All, IsTrue}
-use Rattle.cfb_commands.specs.Commands.{command_of, reply_of}
+use Rattle.cfb_commands.specs.Commands.{command_of, command_reply_of}
 use Rattle.cfb_commands.specs.Failing.{IsAsked}
 use Rattle.cfb_commands.specs.Faults.{IsGiven}
 use Rattle.cfb_commands.specs.Kinds.{AreOfKinds, kind_of_command}
@@ -17,5 +17,5 @@ invariant-loop-command g l = record {
   given : IsTrue g.F.ReadMedium.tells → All (IsGiven (λ f. g.F.ReadMedium.read_faults f || g.F.Medium.write_faults f)) (drop (length l.fn.replies.items) l.replies.items);
   runs : IsTrue g.F.ReadMedium.tells
       → RunsLegally (λ f. g.F.ReadMedium.read_faults f || g.F.Medium.write_faults f) l.fn.file
-      (map command_of (take l.command-index l.commands)) (map reply_of (drop (length l.fn.replies.items) l.replies.items)) l.file;
+      (map command_of (take l.command-index l.commands)) (map command_reply_of (drop (length l.fn.replies.items) l.replies.items)) l.file;
 }

@@ -5,7 +5,7 @@ use Rattle.cfb_commands.specs.cfb_agreement.Files.{FileState}
 use Rattle.cfb_commands.specs.cfb_rules.Lists.{on_stream}
 use Rattle.cfb_commands.specs.cfb_rules.Refusal.{failed_earlier, out_of_memory}
 use Rattle.cfb_compound_file.specs.Streams.{open_of}
-use Rattle.cfb_commands.specs.Commands.{closing_of, opening_of, refusal_of, stream_call_of, stream_reply_of, streamed_reply}
+use Rattle.cfb_commands.specs.Commands.{refusal_of_result, opening_of, refusal_of_error, stream_call_of, stream_reply_of, streamed_reply}
 use Rattle.cfb_commands.specs.Working.{AnswersCommand}
 use Rattle.cfb_commands.proofs.Faults.{all_counted}
 use Rattle.cfb_commands.proofs.Openings.{at_error, done_so, failed_not, memory_not, refused_so, same_file}
@@ -35,7 +35,7 @@ returns-in_err-replies-clause-answers g c =
 pub returns-in_err-stream-clause-answers : goal.returns-in_err-stream-clause-answers
 returns-in_err-stream-clause-answers g c =
     let p = err_from_is_err_and c.from_residual-in_err-stream.result c.from_residual-in_err-stream.ensures.1 in
-    rw (p.1, p.2) (λ told. refused_so _ c.args.file.now c.opened.follows.lender-at-none (opening_of c.args.how) (chars c.args.path.now) (map stream_call_of c.args.ops.now) (refusal_of c.in_err-stream.field-0.0)
+    rw (p.1, p.2) (λ told. refused_so _ c.args.file.now c.opened.follows.lender-at-none (opening_of c.args.how) (chars c.args.path.now) (map stream_call_of c.args.ops.now) (refusal_of_error c.in_err-stream.field-0.0)
     (at_error _ c.opened.result c.in_err-stream.field-0.0 c.in_err-stream.was c.opened.follows.holds-at-none told))
 
 -- the file ends as closing leaves it: the stream held it all the while
@@ -50,7 +50,7 @@ returns-clause-answers g c =
     let now = open_of c.work_all.new.stream in
     let o = c.in_ok-stream.ensures.opened told in
     done_so _ c.args.file.now c.close-closed.new.self.0 (opening_of c.args.how) (chars c.args.path.now) s now (map stream_call_of c.args.ops.now) (map stream_reply_of c.work_all.new.replies.items)
-    (closing_of c.close-closed.result) o (λ first tree same. c.work_all.ensures.works told first s.file (chars c.args.path.now) tree same o.since o.lends)
+    (refusal_of_result c.close-closed.result) o (λ first tree same. c.work_all.ensures.works told first s.file (chars c.args.path.now) tree same o.since o.lends)
     (closed_of _ s.file now c.close-closed.result c.close-closed.new.self.0 (c.close-closed.ensures.closes told) (c.close-closed.ensures.refused told) (c.close-closed.ensures.tree told s.file)
     (c.close-closed.ensures.changes told) (c.close-closed.ensures.rest told) c.close-closed.ensures.calm (c.close-closed.ensures.foreseen told) (c.close-closed.ensures.counts told)))
 

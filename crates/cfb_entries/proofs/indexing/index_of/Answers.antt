@@ -9,7 +9,7 @@ use Rattle.cfb_trees.proofs.Members.{reached-is-within}
 use Rattle.cfb_trees.proofs.Reached.{below-reached}
 use Rattle.cfb_trees.proofs.InStorages.{child-below}
 use Rattle.cfb_trees.proofs.Standing.{reached-is-parent}
-use Rattle.cfb_entries.specs.Covering.{ArePut, names_in}
+use Rattle.cfb_entries.specs.Covering.{ArePut, entry_names}
 use Rattle.cfb_entries.proofs.Built.{built-lists}
 use Rattle.cfb_entries.proofs.Indexed.{all-listed, put-into-none}
 use Rattle.cfb_entries.proofs.indexing.index_of.Goals as goal
@@ -41,7 +41,7 @@ returns-clause-covers g c o' is' =
     let children = c.in_ok-children.children.items in
     let listed = c.in_ok-children.ensures.ok cases (λ p n ne. let (list, h, inside) = reached-is-parent cases es o p is ((all p).0 n) ne in (list, h)) in
     let put : ArePut cases es children c.reserve.new.self c.put_entries.new.index = rw c.deref.ensures.value at c.put_entries.ensures.put in
-    let here : Lists cases (names_in es) (IsChildIn cases es o) (number_under c.reserve-2.new.self) =
+    let here : Lists cases (entry_names es) (IsChildIn cases es o) (number_under c.reserve-2.new.self) =
     built-lists cases es o c.requires.short children (all-listed cases es o c.args.reached.now children all listed) (number_under c.reserve-2.new.self)
     (put-into-none cases es children c.new-index.result c.reserve.new.self c.put_entries.new.index c.reserve-2.new.self c.new-index.ensures c.reserve.ensures.same put c.reserve-2.ensures.same) in
-    subst (λ (x : Outline). Lists cases (names_in es) (IsChildIn cases es x) (number_under c.reserve-2.new.self)) (IsOutline-unique cases es o o' is is') here
+    subst (λ (x : Outline). Lists cases (entry_names es) (IsChildIn cases es x) (number_under c.reserve-2.new.self)) (IsOutline-unique cases es o o' is is') here

@@ -4,13 +4,13 @@ use Rattle.cfb_codecs.specs.EntryModel.{entries_of}
 use Rattle.cfb_entries.specs.cfb_keys.Keys.{IsShort, key_in}
 use Rattle.cfb_index.specs.Index.{Updates}
 use Rattle.cfb_siblings.proofs.Held.{name-read}
-use Rattle.cfb_entries.specs.Covering.{names_in}
+use Rattle.cfb_entries.specs.Covering.{entry_names}
 use Rattle.cfb_entries.proofs.Contents.{short-at}
 use Rattle.cfb_entries.proofs.indexing.take_entry.Goals as goal
 
 pub returns-clause-taken : goal.returns-clause-taken
 returns-clause-taken g c =
     let es = entries_of c.args.list.now in
-    let name : chars c.deref.result.now ≡ names_in es c.args.number = ap chars c.deref.ensures ∙ name-read c.args.list.now c.args.number c.index-list-number.result c.requires.inside in
+    let name : chars c.deref.result.now ≡ entry_names es c.args.number = ap chars c.deref.ensures ∙ name-read c.args.list.now c.args.number c.index-list-number.result c.requires.inside in
     subst (λ (x : List ℕ). Updates c.args.index.now c.take.new.self (key_in c.args.letters.now c.args.storage x) None) name
     (c.take.ensures.taken (subst (λ (x : List ℕ). IsShort x) (sym name) (short-at es c.requires.short c.args.number)))

@@ -7,7 +7,7 @@ use Rattle.cfb_tool.specs.cfb_agreement.Files.{FileState, failures_of}
 use Rattle.cfb_tool.specs.cfb_compound_file.ReadStreams.{open_of}
 use Rattle.cfb_tool.specs.cfb_compound_file.Stored.{kept_of}
 use Rattle.cfb_tool.specs.cfb_compound_file.StreamAnswers.{StreamRunsBy, causes_of_reading}
-use Rattle.cfb_commands.specs.Commands.{refusal_of}
+use Rattle.cfb_commands.specs.Commands.{refusal_of_error}
 use Rattle.cfb_commands.proofs.Errors.{known}
 use Rattle.cfb_commands.proofs.Openings.{at_error, same_file}
 use Rattle.cfb_commands.proofs.Quiet.{from_none}

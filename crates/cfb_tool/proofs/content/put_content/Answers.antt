@@ -3,7 +3,7 @@ use Rattle.std.specs.Prelude.{◌||◌, IsTrue, Ok, OnOk, Some}
 use Rattle.std.proofs.lemmas.Result.{err_from_is_err_and}
 use Rattle.cfb_tool.specs.cfb_agreement.Files.{FileState, failures_of}
 use Rattle.cfb_tool.specs.cfb_compound_file.Streams.{open_of}
-use Rattle.cfb_commands.specs.Commands.{closing_of, refusal_of}
+use Rattle.cfb_commands.specs.Commands.{refusal_of_result, refusal_of_error}
 use Rattle.cfb_commands.proofs.Faults.{all_counted, counted}
 use Rattle.cfb_commands.proofs.Openings.{at_error, creates_not, creates_ok, same_file}
 use Rattle.cfb_commands.proofs.Working.{closed_of}
@@ -19,7 +19,7 @@ returns-in_err-stream-clause-put g c =
     let old = c.args.file.now in
     let last = c.create_stream.follows.lender-at-none in
     let e = c.in_err-stream.field-0.0 in
-    rw (p.1, p.2) (λ told. put_not _ old last (chars c.args.path.now) c.args.bytes.now (refusal_of e)
+    rw (p.1, p.2) (λ told. put_not _ old last (chars c.args.path.now) c.args.bytes.now (refusal_of_error e)
     (creates_not _ old last (chars c.args.path.now) e true ((at_error _ c.create_stream.result e c.in_err-stream.was c.create_stream.follows.holds-at-none).1 told)))
 
 pub returns-in_err-written-clause-put : goal.returns-in_err-written-clause-put
@@ -32,13 +32,13 @@ returns-in_err-written-clause-put g c =
     let new = c.close-closed.new.self.0 in
     let closed = c.close-closed.ensures in
     rw (p.1, p.2) (same_file
-    (λ (file : FileState). IsTrue g.F.ReadMedium.tells → IsPut (λ f. g.F.ReadMedium.read_faults f || g.F.Medium.write_faults f) old at c.args.bytes.now (Some (refusal_of c.in_err-written.field-0.0)) file)
+    (λ (file : FileState). IsTrue g.F.ReadMedium.tells → IsPut (λ f. g.F.ReadMedium.read_faults f || g.F.Medium.write_faults f) old at c.args.bytes.now (Some (refusal_of_error c.in_err-written.field-0.0)) file)
     _ new (search (c.in_ok-stream.ensures.lent, c.write_all-written.ensures.same_file, rules))
     (λ told.
-    put_so _ old new at c.args.bytes.now s now (closing_of c.write_all-written.result) (closing_of c.close-closed.result) (Some (refusal_of c.in_err-written.field-0.0))
+    put_so _ old new at c.args.bytes.now s now (refusal_of_result c.write_all-written.result) (refusal_of_result c.close-closed.result) (Some (refusal_of_error c.in_err-written.field-0.0))
     (creates_ok _ old at (λ z. open_of z) _ true (Ok c.in_ok-stream.stream) told c.in_ok-stream.ensures.created) (c.write_all-written.ensures.works told)
     (closed_of _ s.file now c.close-closed.result new (closed.closes told) (closed.refused told) (closed.tree told s.file) (closed.changes told) (closed.rest told) closed.calm (closed.foreseen told) (closed.counts told))
-    (ap (λ r. first_of (closing_of r) (closing_of c.close-closed.result)) (sym c.in_err-written.was))))
+    (ap (λ r. first_of (refusal_of_result r) (refusal_of_result c.close-closed.result)) (sym c.in_err-written.was))))
 
 pub returns-clause-put : goal.returns-clause-put
 returns-clause-put g c =
@@ -49,13 +49,13 @@ returns-clause-put g c =
     let new = c.close-closed.new.self.0 in
     let closed = c.close-closed.ensures in
     same_file
-    (λ (file : FileState). IsTrue g.F.ReadMedium.tells → IsPut (λ f. g.F.ReadMedium.read_faults f || g.F.Medium.write_faults f) old at c.args.bytes.now (closing_of c.close-closed.result) file)
+    (λ (file : FileState). IsTrue g.F.ReadMedium.tells → IsPut (λ f. g.F.ReadMedium.read_faults f || g.F.Medium.write_faults f) old at c.args.bytes.now (refusal_of_result c.close-closed.result) file)
     _ new (search (c.in_ok-stream.ensures.lent, c.write_all-written.ensures.same_file, rules))
     (λ told.
-    put_so _ old new at c.args.bytes.now s now (closing_of c.write_all-written.result) (closing_of c.close-closed.result) (closing_of c.close-closed.result)
+    put_so _ old new at c.args.bytes.now s now (refusal_of_result c.write_all-written.result) (refusal_of_result c.close-closed.result) (refusal_of_result c.close-closed.result)
     (creates_ok _ old at (λ z. open_of z) _ true (Ok c.in_ok-stream.stream) told c.in_ok-stream.ensures.created) (c.write_all-written.ensures.works told)
     (closed_of _ s.file now c.close-closed.result new (closed.closes told) (closed.refused told) (closed.tree told s.file) (closed.changes told) (closed.rest told) closed.calm (closed.foreseen told) (closed.counts told))
-    (ap (λ r. first_of (closing_of r) (closing_of c.close-closed.result)) (sym c.in_ok-written.was)))
+    (ap (λ r. first_of (refusal_of_result r) (refusal_of_result c.close-closed.result)) (sym c.in_ok-written.was)))
 
 -- what is put is stored: `put` is proved once more here, since one answer does not see another
 pub returns-clause-holds : goal.returns-clause-holds
@@ -71,10 +71,10 @@ returns-clause-holds g c =
     _ new (search (c.in_ok-stream.ensures.lent, c.write_all-written.ensures.same_file, rules))
     (λ told.
     put_holds (λ f. g.F.ReadMedium.read_faults f || g.F.Medium.write_faults f) old new at c.args.bytes.now c.close-closed.result (c.is_failed-is_failed.ensures.agrees told)
-    (put_so _ old new at c.args.bytes.now s now (closing_of c.write_all-written.result) (closing_of c.close-closed.result) (closing_of c.close-closed.result)
+    (put_so _ old new at c.args.bytes.now s now (refusal_of_result c.write_all-written.result) (refusal_of_result c.close-closed.result) (refusal_of_result c.close-closed.result)
     (creates_ok _ old at (λ z. open_of z) _ true (Ok c.in_ok-stream.stream) told c.in_ok-stream.ensures.created) (c.write_all-written.ensures.works told)
     (closed_of _ s.file now c.close-closed.result new (closed.closes told) (closed.refused told) (closed.tree told s.file) (closed.changes told) (closed.rest told) closed.calm (closed.foreseen told) (closed.counts told))
-    (ap (λ r. first_of (closing_of r) (closing_of c.close-closed.result)) (sym c.in_ok-written.was))))
+    (ap (λ r. first_of (refusal_of_result r) (refusal_of_result c.close-closed.result)) (sym c.in_ok-written.was))))
 
 pub returns-in_err-stream-clause-given : goal.returns-in_err-stream-clause-given
 returns-in_err-stream-clause-given g c =

@@ -7,7 +7,7 @@ use Rattle.cfb_tool.specs.cfb_compound_file.StreamAnswers.{StreamRunsOn, stream_
 use Rattle.cfb_tool.specs.cfb_compound_file.Streams.{open_of}
 use Rattle.cfb_commands.specs.Promised.{IsWorkedOn}
 use Rattle.cfb_commands.proofs.Before.{same_before}
-use Rattle.cfb_commands.specs.Commands.{refusal_of, stream_answer}
+use Rattle.cfb_commands.specs.Commands.{refusal_of_error, stream_answer}
 use Rattle.cfb_commands.proofs.Faults.{counted}
 use Rattle.cfb_commands.proofs.Operations.{comes_told, goes_told, short_write, worked_on}
 use Rattle.cfb_commands.proofs.Quiet.{writes_none}
@@ -39,7 +39,7 @@ returns-in_err-count-clause-works g c =
     let now = open_of c.loop-rest.stream in
     let next = open_of c.write.new.self in
     let rest = c.loop-rest.rest.now in
-    rw (p.1, p.2) (λ told. begun_refused _ (open_of c.args.stream.now) c.args.bytes.now rest now next (c.loop-rest.invariant.begun told) (refusal_of c.in_err-count.field-0.0)
+    rw (p.1, p.2) (λ told. begun_refused _ (open_of c.args.stream.now) c.args.bytes.now rest now next (c.loop-rest.invariant.begun told) (refusal_of_error c.in_err-count.field-0.0)
     (subst (λ (r : Result ℕ Error). IsWorkedOn now (write rest) (stream_answer count r) next) c.in_err-count.was
     (worked_on now (write rest) next (comes_told _ now (write rest) next told c.write.ensures.goes_on (λ short. c.write.ensures.once told (short_write _ short))) count (λ n. refl) _ c.write.result
     (c.write.ensures.runs told) (c.write.ensures.refused told) (c.write.ensures.foreseen told) (c.write.ensures.counts told)

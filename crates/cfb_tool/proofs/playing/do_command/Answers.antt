@@ -4,7 +4,7 @@ use Rattle.std.proofs.lemmas.Result.{err_from_is_err_and}
 use Rattle.cfb_format.specs.declared.error.Error.{Error}
 use Rattle.cfb_format.specs.declared.medium.MediumFault.{MediumFault}
 use Rattle.cfb_rules.specs.Lists.{Command}
-use Rattle.cfb_commands.specs.Commands.{closing_of, command_of}
+use Rattle.cfb_commands.specs.Commands.{refusal_of_result, command_of}
 use Rattle.cfb_tool.specs.Playing.{PlaysOnce, bytes_written, path_written}
 use Rattle.cfb_tool.proofs.Pieces.{first_asked}
 use Rattle.cfb_tool.proofs.Runs.{played_adding, played_not, played_whole}
@@ -25,7 +25,7 @@ returns-in-Some-written_by-clause-played g c =
     let is : (asked : Command) → map command_of c.args.one.now ≡ asked ∷ [] → command_of c.in-Some.command.now ≡ asked = λ asked one. first_asked c.args.one.now c.in-Some.command.now asked one c.in-Some.ensures.value in
     λ told asked one. played_adding can_give c.args.file.now asked middle c.in_ok-count.count
     (subst (λ (r : Result ℕ Error). PlaysOnce can_give c.args.file.now asked r middle) c.in_ok-count.was (c.do_once.ensures.plays told asked one))
-    c.go_on.new.file (closing_of c.go_on.result) (chars c.in-Some-written_by.path.now) c.in-Some-written_by.bytes.now c.behind.result.now
+    c.go_on.new.file (refusal_of_result c.go_on.result) (chars c.in-Some-written_by.path.now) c.in-Some-written_by.bytes.now c.behind.result.now
     (ap (λ (a : Command). path_written a) (sym (is asked one)) ∙ c.in-Some-written_by.ensures.0)
     (ap (λ (a : Command). bytes_written a) (sym (is asked one)) ∙ c.in-Some-written_by.ensures.1)
     c.behind.ensures (c.go_on.ensures.added told)

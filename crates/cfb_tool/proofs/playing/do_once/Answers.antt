@@ -3,7 +3,7 @@ use Rattle.std.specs.Prelude.{◌||◌}
 use Rattle.std.specs.List.{slice_get}
 use Rattle.std.proofs.lemmas.Option.{get_or_from_slice_get}
 use Rattle.cfb_format.specs.declared.medium.MediumFault.{MediumFault}
-use Rattle.cfb_commands.specs.Commands.{reply_of}
+use Rattle.cfb_commands.specs.Commands.{command_reply_of}
 use Rattle.cfb_tool.proofs.Runs.{one_run}
 use Rattle.cfb_tool.proofs.playing.do_once.Goals as goal
 
@@ -17,7 +17,7 @@ returns-in-Some-first_error-clause-plays g c =
     let reply = c.in-Some.reply.now in
     let first = get_or_from_slice_get news 0 reply reply (sym (c.in-Some.ensures.value ∙ ap (λ rs. slice_get rs 0) c.deref.ensures.value)) in
     λ told asked one. (
-      reply_of reply,
+      command_reply_of reply,
       one_run can_give c.args.file.now c.run.new.file c.args.one.now asked olds news reply one none each (sym first) (c.run.ensures.runs told),
       sym c.in-Some-first_error.ensures,
     )
@@ -32,7 +32,7 @@ returns-in-None-clause-plays g c =
     let reply = c.in-Some.reply.now in
     let first = get_or_from_slice_get news 0 reply reply (sym (c.in-Some.ensures.value ∙ ap (λ rs. slice_get rs 0) c.deref.ensures.value)) in
     λ told asked one. (
-      reply_of reply,
+      command_reply_of reply,
       one_run can_give c.args.file.now c.run.new.file c.args.one.now asked olds news reply one none each (sym first) (c.run.ensures.runs told),
       (sym c.in-None.ensures, c.taken.ensures),
     )

@@ -3,7 +3,7 @@ use Rattle.std.specs.Prelude.{◌||◌, Result, Some}
 use Rattle.std.proofs.lemmas.Result.{err_from_is_err_and}
 use Rattle.cfb_format.specs.declared.error.Error.{Error}
 use Rattle.cfb_format.specs.declared.medium.MediumFault.{MediumFault}
-use Rattle.cfb_commands.specs.Commands.{command_of, refusal_of}
+use Rattle.cfb_commands.specs.Commands.{command_of, refusal_of_error}
 use Rattle.cfb_tool.specs.Playing.{IsAdded, PlaysOnce, addition}
 use Rattle.cfb_tool.proofs.Pieces.{one_long_asked}
 use Rattle.cfb_tool.proofs.Runs.{IsAdding, added_all, added_not, added_refused, added_stuck, adding_more, adding_none}
@@ -25,7 +25,7 @@ returns-in_err-one-clause-added g c =
     let now = c.loop-rest.file in
     let rest = c.loop-rest.rest.now in
     let some : 0 < length rest = grind (arith, c.is_empty.ensures, c.loop-rest-test.true) in
-    rw (p.1, p.2) (λ told. subst (λ (e : Error). IsAdded can_give old at c.args.bytes.now (Some (refusal_of e)) now) (sym c.in_err-one.ensures.memory)
+    rw (p.1, p.2) (λ told. subst (λ (e : Error). IsAdded can_give old at c.args.bytes.now (Some (refusal_of_error e)) now) (sym c.in_err-one.ensures.memory)
     (added_not can_give old at c.args.bytes.now rest now (c.loop-rest.invariant.adding told) some))
 
 pub returns-in_err-count-clause-added : goal.returns-in_err-count-clause-added

@@ -4,7 +4,7 @@ use Rattle.std.proofs.lemmas.List.{take_all}
 use Rattle.cfb_commands.specs.declared.command.Command.{Command as TheCommand}
 use Rattle.cfb_format.specs.declared.error.Error.{Error}
 use Rattle.cfb_format.specs.declared.medium.MediumFault.{MediumFault}
-use Rattle.cfb_commands.specs.Commands.{closing_of, command_of}
+use Rattle.cfb_commands.specs.Commands.{refusal_of_result, command_of}
 use Rattle.cfb_tool.specs.Playing.{ArePlayed, IsPlayed}
 use Rattle.cfb_tool.proofs.Pieces.{digit, one_long, one_ok, one_refused, three_more}
 use Rattle.cfb_tool.proofs.Runs.{all_none}
@@ -34,12 +34,12 @@ loop-at-preserved g c =
       played = elim c.match-do_command.branch [
         | in-Ok w ↦ rw (w.lines-is, w.is_done-is) (one_ok g.F.ReadMedium.tells can_give c.args.file.now c.args.commands.now c.loop-at.at c.loop-at-test.true text now w.push_line.new.lines.items
             c.loop-at.is_done middle new i.played
-            (λ told asked one. subst (λ (r : Result (Unit {0}) Error). IsPlayed can_give middle asked (closing_of r) new) w.in-Ok.is
+            (λ told asked one. subst (λ (r : Result (Unit {0}) Error). IsPlayed can_give middle asked (refusal_of_result r) new) w.in-Ok.is
             (c.do_command.ensures.played told asked (ap (λ cs. map command_of cs) c.one_at.ensures ∙ one))) w.push_line.ensures.line)
         | in-Err w ↦ rw (w.lines-is, w.is_done-is) (one_refused g.F.ReadMedium.tells can_give c.args.file.now c.args.commands.now c.loop-at.at c.loop-at-test.true text now
             w.push_line-in-Err.new.lines.items c.loop-at.is_done middle new i.played w.in-Err.e w.saturating_add.result
             (w.saturating_add.ensures ∙ digit w.in-Err.e w.number.result w.number.ensures)
-            (λ told asked one. subst (λ (r : Result (Unit {0}) Error). IsPlayed can_give middle asked (closing_of r) new) w.in-Err.is
+            (λ told asked one. subst (λ (r : Result (Unit {0}) Error). IsPlayed can_give middle asked (refusal_of_result r) new) w.in-Err.is
             (c.do_command.ensures.played told asked (ap (λ cs. map command_of cs) c.one_at.ensures ∙ one))) w.push_line-in-Err.ensures.line)
       ];
       count = elim c.match-do_command.branch [

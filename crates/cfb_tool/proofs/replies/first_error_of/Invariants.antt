@@ -1,10 +1,10 @@
 use Rattle.std.proofs.Common.{◌≡◌, drop, map}
-use Rattle.cfb_commands.specs.Commands.{closing_of, stream_reply_of}
+use Rattle.cfb_commands.specs.Commands.{refusal_of_result, stream_reply_of}
 use Rattle.cfb_tool.specs.Playing.{first_refusal}
 use Rattle.cfb_tool.proofs.replies.first_error_of.Given as goal
 
 abbrev pub invariant-loop-reply : goal.invariant-loop-reply
 invariant-loop-reply g l = record {
-  left : first_refusal (map stream_reply_of (drop l.reply-index l.replies)) (closing_of l.closed)
-      ≡ first_refusal (map stream_reply_of l.replies) (closing_of l.closed);
+  left : first_refusal (map stream_reply_of (drop l.reply-index l.replies)) (refusal_of_result l.closed)
+      ≡ first_refusal (map stream_reply_of l.replies) (refusal_of_result l.closed);
 }

@@ -2,7 +2,7 @@ use Rattle.std.proofs.Common.{ap, subst, sym}
 use Rattle.cfb_compound_file.specs.cfb_mini_sectors.State.{cases_of, entries_of}
 use Rattle.cfb_compound_file.specs.cfb_content.Contents.{IsTooLongFor}
 use Rattle.cfb_agreement.specs.Files.{FileState}
-use Rattle.cfb_compound_file.specs.Stored.{setting_of}
+use Rattle.cfb_compound_file.specs.Stored.{file_setting_of}
 use Rattle.cfb_compound_file.proofs.StoredStreams.{fails_then, fails_tight, stream_stays}
 use Rattle.cfb_compound_file.proofs.contents.CompoundFileContents.fail.Goals as goal
 
@@ -20,4 +20,4 @@ returns-clause-there g c =
     stream_stays _ _ _ (ap (λ (z : FileState). entries_of z.base) c.fail.ensures) (ap (λ (z : FileState). cases_of z.base) c.fail.ensures) (rw (← c.self.view_is) at c.requires.there)
 
 pub returns-clause-setting : goal.returns-clause-setting
-returns-clause-setting g c = rw (← c.self.view_is) (ap (λ (z : FileState). setting_of z) c.fail.ensures)
+returns-clause-setting g c = rw (← c.self.view_is) (ap (λ (z : FileState). file_setting_of z) c.fail.ensures)

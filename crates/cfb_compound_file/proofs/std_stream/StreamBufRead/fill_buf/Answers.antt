@@ -2,7 +2,7 @@ use Rattle.std.proofs.Common.{◌≤◌, refl, arith}
 use Rattle.std.specs.Prelude.{Err, Ok}
 use Rattle.cfb_std_streams.proofs.Knowing.{calm_then, lent_ahead, lent_end, lent_from, lent_front, lent_keeps, lent_unfailed, nothing_said, rest_stays}
 use Rattle.cfb_compound_file.specs.Stored.{stored_of}
-use Rattle.cfb_compound_file.specs.StdStreams.{rest_in}
+use Rattle.cfb_compound_file.specs.StdStreams.{known_rest_in}
 use Rattle.cfb_compound_file.specs.StreamAnswers.{open_stream_of}
 use Rattle.cfb_compound_file.proofs.StdStreams.{same_failed}
 use Rattle.cfb_compound_file.proofs.StoredStreams.{changed_once}
@@ -52,7 +52,7 @@ returns-in-Ok g c =
 pub returns-in-Err : goal.returns-in-Err
 returns-in-Err g c =
     let old = c.args.self.now in
-    let known = rest_in g.F.ReadMedium.tells (open_stream_of old.file.now old.entry old.window) in
+    let known = known_rest_in g.F.ReadMedium.tells (open_stream_of old.file.now old.entry old.window) in
     let keeps = rest_stays g.F.ReadMedium.tells (causes_of old.file.now c.fill.new.content) (stored_of old.file.now old.entry) (stored_of c.fill.new.content old.entry) old.window c.fill.new.self
     old.window.pending c.fill.new.self.pending (λ told. old.is_open told) (calm_then old.window.pending c.fill.new.self.pending) fill_buf
     (λ told calm. same_failed old.file.now c.fill.new.content (c.fill.ensures.calm told calm).kept)

@@ -3,11 +3,11 @@ use Rattle.std.proofs.lemmas.List.{nil_from_length}
 use Rattle.std.proofs.lemmas.Bool.Decides.{nat_tests}
 use Rattle.cfb_stream_buffer.specs.Contents.{stored_after_write}
 use Rattle.cfb_stream_buffer.proofs.Lists.{put_none}
-use Rattle.cfb_stream_window_bench.specs.Memory.{stored_in}
+use Rattle.cfb_stream_window_bench.specs.Memory.{stored_of_list}
 use Rattle.cfb_stream_window_bench.proofs.memory.MemoryContentsContents.append.Goals as goal
 
 pub returns-then-is_empty-clause-ok : goal.returns-then-is_empty-clause-ok
 returns-then-is_empty-clause-ok c = λ told takes.
-    let s = stored_in c.args.self.now in
+    let s = stored_of_list c.args.self.now in
     let none = nil_from_length c.args.bytes.now (grind (arith, nat_tests)) in
     sym (ap (λ (xs : List ℕ). stored_after_write s s.size xs) none ∙ put_none s s.size (omega arith))
