@@ -1,11 +1,11 @@
 -- The list of free numbers, as the table changes.
-use Rattle.std.proofs.Common.{◌≡◌, ◌≢◌, ℕ, ◌+◌, ◌-◌, ◌<◌, ◌≤◌, ◌⊎◌, inl, inr, List, [], ◌∷◌, ◌++◌, length, set, sym, ◌∙◌, ap, subst, arith, length-set, length-append}
+use Rattle.std.proofs.Common.{◌≡◌, ◌≢◌, ℕ, ◌+◌, ◌-◌, ◌<◌, ◌≤◌, inl, inr, List, [], ◌∷◌, ◌++◌, length, set, sym, ◌∙◌, ap, subst, arith, length-set, length-append}
 use Rattle.std.specs.Prelude.{Contains}
 use Rattle.std.proofs.lemmas.List.Elements.{Contains-append_left, Contains-append_cases, Contains-push, Contains-push_cases}
 use Rattle.std.proofs.lemmas.Bool.{cases_eq, cases_lt, eqb-true}
 use Rattle.cfb_format.specs.Bytes.{free_sector}
 use Rattle.cfb_format.specs.Chain.{value}
-use Rattle.cfb_tables.specs.Changes.{NoneFree}
+use Rattle.cfb_tables.specs.Changes.{ListsFree, NoneFree}
 use Rattle.cfb_tables.proofs.Members.{value-set, value-set_other, value-left, value-right}
 use Rattle.std.proofs.lemmas.Map.Steps.{length-le_from_distinct_below}
 use Rattle.std.proofs.lemmas.Map.Views.{Contains-from_any}
@@ -14,6 +14,10 @@ use Rattle.cfb_tables.specs.Listed.{last_or_end}
 use Rattle.cfb_mini_table.specs.MiniTable.{ListsMiniFree, SameValues, EndsBusy, TakesEndFirst, AreBusy}
 use Rattle.cfb_format.proofs.Members.{Contains-nil, Contains-here, none_distinct, distinct-left, distinct-apart, distinct-join, distinct-push}
 use Rattle.cfb_format.proofs.Walks.{value-below}
+
+-- the free numbers below the end, where there are none past it
+pub mini-listed : (free table : List ℕ) → ListsFree (length table) free table → ListsMiniFree free table
+mini-listed free table f = record { once = f.once; sound = λ i m. (f.sound i m).1; whole = f.whole }
 
 -- a number past the end is skipped
 pub mini-skip : (free table : List ℕ) (x : ℕ) → length table ≤ x → ListsMiniFree (free ++ x ∷ []) table → ListsMiniFree free table
@@ -105,19 +109,6 @@ mini-grow table w busy f =
     }
 
 -- ---- which number is taken next
-
--- of the first n numbers of a table: the last of them is in use, or is the one to be taken next
-abbrev pub TakesLastFirst : ℕ → List ℕ → List ℕ → Type 0
-TakesLastFirst n free table = (0 < n → value table (n - 1) ≢ free_sector) ⊎ ((front : List ℕ) × (free ≡ front ++ (n - 1) ∷ []))
-
-pub next-none : (free table : List ℕ) → TakesLastFirst 0 free table
-next-none free table = inl (λ some. absurd (omega (arith, some)))
-
-pub next-more : (n : ℕ) (free table : List ℕ) → TakesLastFirst (n + 1) (free ++ n ∷ []) table
-next-more n free table = inr (free, ap (λ (k : ℕ). free ++ k ∷ []) (let e : n ≡ n + 1 - 1 = omega arith in e))
-
-pub next-skip : (n : ℕ) (free table : List ℕ) → value table n ≢ free_sector → TakesLastFirst (n + 1) free table
-next-skip n free table ne = inl (λ some e. ne (ap (value table) (let k : n ≡ n + 1 - 1 = omega arith in k) ∙ e))
 
 same-pushed : (front free : List ℕ) (y x : ℕ) → free ++ x ∷ [] ≡ front ++ y ∷ [] → x ≡ y
 same-pushed front free y x e = sym (last_pushed free x) ∙ ap last_or_end e ∙ last_pushed front y

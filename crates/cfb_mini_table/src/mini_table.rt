@@ -11,11 +11,12 @@ ghost use Rattle.cfb_tables.specs.Refused.{TableRefused, WalkRefused, LastRefuse
 ghost use Rattle.cfb_tables.specs.Tables.{first_or_end};
 ghost use Rattle.cfb_mini_table.specs.MiniTable.{read_entries, AcceptsMini, IsTooFewMini, IsPreparedMini, TakesMini, MiniGivesBack, AreBusy};
 
-use crate::words::{begin, extend, free_numbers, give_back, read};
+use crate::words::{begin, extend, give_back, read};
 use cfb_format::consts::{END_OF_CHAIN, MAX_REGULAR_SECTOR};
 use cfb_format::error::Error;
 use cfb_format::validate::Validation;
 use cfb_format::version::Version;
+use cfb_tables::free::free_numbers;
 use cfb_tables::walk::{last_of, next_in, walk};
 use std::alloc::{Allocator, Global};
 use std::marker::Model;

@@ -117,26 +117,6 @@ fn check<A: Allocator>(alloc: A, minifat: &[u32], limit: usize) -> Result<(), Er
     Ok(())
 }
 
-/// The numbers that are free, in order, in a list that has room for all numbers.
-pub fn free_numbers<A: Allocator>(alloc: A, minifat: &[u32]) -> Result<Vec<u32, A>, Error>
-    requires short { length minifat.now ≤ max_regular_sector }
-    ensures ok { IfOk result (λ free. ListsMiniFree free.items minifat.now) }
-    ensures counted { IfOk result (λ free. vec_len free ≡ free_count minifat.now) }
-    ensures next { IfOk result (λ free. TakesEndFirst free.items minifat.now) }
-    ensures within { IfOk result (λ free. (i : ℕ)
-        → Contains free.items i → i < length minifat.now) }
-    ensures room { IfOk result (λ free. length minifat.now ≤ vec_capacity free) }
-    ensures err { IfErr result (TableRefused ⊥ Unit ⊥) }
-{
-    let mut free = Vec::with_capacity(alloc, minifat.len())?;
-    for number in 0..minifat.len() {
-        if minifat[number] == FREE_SECTOR {
-            free.push_reserved(number as u32);
-        }
-    }
-    Ok(free)
-}
-
 /// Takes a mini sector, as the only one of a chain: the one that was freed last, or the one past the end where none is
 /// free. Numbers past the end in the list of free ones are dropped on the way.
 fn take_one<A: Allocator>(minifat: &mut Vec<u32, A>, free: &mut Vec<u32, A>) -> u32

@@ -10,7 +10,8 @@ ghost use Rattle.cfb_reading.specs.Difat.{has_sector};
 ghost use Rattle.cfb_reading.specs.FatWords.{AcceptsFatWords, AcceptsNoFatWords, ArePadding, AreThere, PointsInto};
 
 use crate::marks::{is_marked, mark, mark_all};
-use cfb_format::consts::{DIFAT_SECTOR, FAT_SECTOR, FREE_SECTOR, MAX_REGULAR_SECTOR};
+use cfb_alloc::are_padding;
+use cfb_format::consts::MAX_REGULAR_SECTOR;
 use cfb_format::error::{Detail, Error};
 use cfb_format::medium::ReadMedium;
 use cfb_format::validate::Validation;
@@ -78,24 +79,6 @@ fn invalid(text: &'static str) -> Error
     ensures { IsInvalidData result }
 {
     Error::InvalidData(Detail::text(text))
-}
-
-/// Whether a word may stand past the last sector.
-fn is_padding(word: u32, validation: Validation) -> bool
-    ensures { result ≡ is_padding_in validation word }
-{
-    match validation {
-        Validation::Permissive => {
-            word == 0 || word == FREE_SECTOR || word == FAT_SECTOR || word == DIFAT_SECTOR
-        }
-        Validation::Strict => word == FREE_SECTOR,
-    }
-}
-
-fn are_padding(words: &[u32], validation: Validation) -> bool
-    ensures { result ≡ list_all (is_padding_in validation) words.now }
-{
-    words.iter().all(|word| is_padding(*word, validation))
 }
 
 /// Takes the words of one more FAT sector. One that was met as padding is not read again. `InvalidData` where it is not all there, and where a word past the last sector is no padding; `Medium` and `Memory`.

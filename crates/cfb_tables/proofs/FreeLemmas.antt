@@ -7,7 +7,7 @@ use Rattle.std.proofs.lemmas.List.Sums.{sum_by-cons}
 use Rattle.std.proofs.lemmas.Bool.{cases_eq, cases_lt}
 use Rattle.cfb_format.specs.Bytes.{free_sector}
 use Rattle.cfb_format.specs.Chain.{value}
-use Rattle.cfb_tables.specs.Changes.{ListsFree, NoneFree}
+use Rattle.cfb_tables.specs.Changes.{ListsFree, NoneFree, TakesLastFirst}
 use Rattle.cfb_tables.proofs.Members.{value-past, value-set, value-set_other, value-left, value-right}
 use Rattle.cfb_format.proofs.Members.{Contains-nil, Contains-here, Contains-there, Contains-cases, none_distinct, distinct-left, distinct-right, distinct-apart, distinct-push}
 use Rattle.cfb_format.proofs.Walks.{value-below}
@@ -39,6 +39,15 @@ lists-skip n free table ne f = record {
     | inr other ↦ f.whole i (omega (arith, lt, other)) free_i
   ];
 }
+
+pub next-none : (free table : List ℕ) → TakesLastFirst 0 free table
+next-none free table = inl (λ some. absurd (omega (arith, some)))
+
+pub next-more : (n : ℕ) (free table : List ℕ) → TakesLastFirst (n + 1) (free ++ n ∷ []) table
+next-more n free table = inr (free, ap (λ (k : ℕ). free ++ k ∷ []) (let e : n ≡ n + 1 - 1 = omega arith in e))
+
+pub next-skip : (n : ℕ) (free table : List ℕ) → value table n ≢ free_sector → TakesLastFirst (n + 1) free table
+next-skip n free table ne = inl (λ some e. ne (ap (value table) (let k : n ≡ n + 1 - 1 = omega arith in k) ∙ e))
 
 -- a free number is taken
 pub lists-pop : (n : ℕ) (free table : List ℕ) (x w : ℕ) → x < length table → w ≢ free_sector → ListsFree n (free ++ x ∷ []) table → ListsFree n free (set table x w)

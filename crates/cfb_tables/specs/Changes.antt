@@ -1,5 +1,5 @@
 -- How a table of successors changes.
-use Rattle.std.specs.Prelude.{ℕ, ◌≡◌, ◌≢◌, ◌<◌, ◌≤◌, ◌⊎◌, List, ◌∷◌, ◌++◌, length, nat_eq, slice_index, Contains, IsTrue}
+use Rattle.std.specs.Prelude.{ℕ, ◌≡◌, ◌≢◌, ◌-◌, ◌<◌, ◌≤◌, ◌⊎◌, List, [], ◌∷◌, ◌++◌, length, nat_eq, slice_index, Contains, IsTrue}
 use Rattle.std.specs.List.{IsDistinct}
 use Rattle.cfb_format.specs.Bytes.{end_of_chain, free_sector, max_regular_sector, is_regular}
 use Rattle.cfb_format.specs.Chain.{value, IsChain}
@@ -29,6 +29,10 @@ pub record ListsFree (below : ℕ) (free table : List ℕ) : Type 0 where
   pub once : IsDistinct nat_eq free
   pub sound : (i : ℕ) → Contains free i → (i < below) × (value table i ≡ free_sector)
   pub whole : (i : ℕ) → i < below → value table i ≡ free_sector → Contains free i
+
+-- of the first n numbers of a table: the last of them is in use, or is the one to be taken next
+abbrev pub TakesLastFirst : ℕ → List ℕ → List ℕ → Type 0
+TakesLastFirst n free table = (0 < n → value table (n - 1) ≢ free_sector) ⊎ ((front : List ℕ) × (free ≡ front ++ (n - 1) ∷ []))
 
 -- these numbers are given back: they are free now, a chain ends at each of `ends`, which has none or one, and nothing else changed
 pub record GivesBack (ends gone old new : List ℕ) : Type 0 where

@@ -91,7 +91,8 @@ fn is_padding(word: u32, validation: Validation) -> bool
     }
 }
 
-fn are_padding(words: &[u32], validation: Validation) -> bool
+/// Whether each of these words may stand past the last sector.
+pub fn are_padding(words: &[u32], validation: Validation) -> bool
     ensures { result ≡ list_all (is_padding_in validation) words.now }
 {
     words.iter().all(|word| is_padding(*word, validation))

@@ -4,6 +4,7 @@
 pub mod consecutive;
 pub mod ends;
 pub mod fat;
+pub mod free;
 pub mod laws;
 mod lists;
 pub mod tables;

@@ -5,13 +5,14 @@ ghost use Rattle.cfb_format.specs.Bytes.{max_regular_sector, end_of_chain, free_
 ghost use Rattle.cfb_format.specs.Chain.{value, IsChain};
 ghost use Rattle.cfb_format.specs.Full.{free_count};
 ghost use Rattle.std.specs.List.{IsDistinct};
-ghost use Rattle.cfb_tables.specs.Changes.{IsNextOf, ListsFree, GivesBack};
+ghost use Rattle.cfb_tables.specs.Changes.{IsNextOf, GivesBack};
 ghost use Rattle.cfb_tables.specs.Tables.{TableState, Kept, IsKept, AreSizes, CanHold, TakesNext, IsPrepared, IsTooFew, PassesLimit, HasTaken, Added, Extended, first_or_end, wiped, tables_of, sizes_of, sizes_after, grown_sizes, numbers_needed, grown, grown_fats, grown_difats};
 ghost use Rattle.cfb_tables.specs.Room.{IsTooFewAfter};
 ghost use Rattle.cfb_tables.specs.Listed.{EndsChain, ends_of, gained};
 ghost use Rattle.cfb_tables.specs.Refused.{TableRefused, WalkRefused, LastRefused, NextRefused, ExtendRefused};
 
 use crate::ends::last_number;
+use crate::free::free_numbers;
 use crate::walk::{last_of, next_in, walk};
 use cfb_format::consts::{
     DIFAT_SECTOR, END_OF_CHAIN, FAT_SECTOR, FREE_SECTOR, MAX_REGULAR_SECTOR,
@@ -203,22 +204,6 @@ fn grow<A: Allocator>(
     let number = append(fat, DIFAT_SECTOR);
     difat_sectors.push_reserved(number);
     append(fat, END_OF_CHAIN)
-}
-
-/// The numbers that are free, in order, in a list that has room for all numbers.
-fn free_numbers<A: Allocator>(alloc: A, fat: &[u32]) -> Result<Vec<u32, A>, Error>
-    requires short { length fat.now ≤ max_regular_sector }
-    ensures ok { IfOk result (λ free. ListsFree (length fat.now) free.items fat.now) }
-    ensures room { IfOk result (λ free. length fat.now ≤ vec_capacity free) }
-    ensures err { IfErr result (TableRefused ⊥ Unit ⊥) }
-{
-    let mut free = Vec::with_capacity(alloc, fat.len())?;
-    for number in 0..fat.len() {
-        if fat[number] == FREE_SECTOR {
-            free.push_reserved(number as u32);
-        }
-    }
-    Ok(free)
 }
 
 /// The tables, and the numbers that are free, the one freed last at the end. Their list always has room for all numbers, so
