@@ -68,6 +68,7 @@ impl<'a, F: ReadMedium, A: Heap + Clone> ReadStream<'a, F, A> {
         ensures same_file { (file_of self.new).ghost_name ≡ (file_of self.old).ghost_name }
         ensures any { StreamHeedsReading IsFailed (open_of self.old) result (open_of self.new) }
         ensures most { IfOk result (λ n. n ≤ length into.new) }
+        ensures rest { IfOk result (λ n. drop n into.new ≡ drop n into.old) }
         ensures runs { IsTrue F.tells → IfOk result (λ n.
             StreamRunsBy (causes_of_reading (file_of self.old).now (file_of self.new).now) (open_of
             self.old) (read (length into.old)) (got (take n into.new)) (open_of self.new)) }

@@ -1,5 +1,5 @@
 //! A stream that is only read, by std's traits. Each call is the stream's own, and is refused as it is, with the kind of `std_kind`.
-ghost use Rattle.std.specs.Prelude.{◌≡◌, [], IfErr, IfOk, IfSome, IsTrue, OnOk, Some, false, length, take};
+ghost use Rattle.std.specs.Prelude.{◌≡◌, [], IfErr, IfOk, IfSome, IsTrue, OnOk, Some, false, length, take, drop};
 ghost use Rattle.std.specs.Borrow.{sem};
 ghost use Rattle.std.specs.Io.{ReadsAtMost, StartsWith};
 ghost use Rattle.std.specs.Io.BufRead.{DropsConsumable};
@@ -31,6 +31,7 @@ impl<'a, F: ReadMedium, A: Heap + Clone> Read for ReadStream<'a, F, A> {
 
     fn read(&mut self, into: &mut [u8]) -> io::Result<usize>
         ensures bound { ReadsAtMost result into.new }
+        ensures rest { IfOk result (λ n. drop n into.new ≡ drop n into.old) }
         ensures bytes { ReadConsumes (rest_to_read F.tells (open_of self.old))
             (rest_to_read F.tells (open_of self.new)) result into.new }
         ensures same_file { (file_of self.new).ghost_name ≡ (file_of self.old).ghost_name }

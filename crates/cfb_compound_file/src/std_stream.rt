@@ -1,6 +1,6 @@
 //! A stream that is read and written, by std's traits. Each call is the stream's own, and is refused as it is, with the kind of `std_kind`.
 //! The stream still has to be closed: a loop that uses a reader or a writer up takes `&mut stream`.
-ghost use Rattle.std.specs.Prelude.{◌≡◌, ◌+◌, ◌<◌, ◌≤◌, ◌||◌, [], IfErr, IfOk, IfSome, IsTrue, None, OnOk, Some, false, length, min, take};
+ghost use Rattle.std.specs.Prelude.{◌≡◌, ◌+◌, ◌<◌, ◌≤◌, ◌||◌, [], IfErr, IfOk, IfSome, IsTrue, None, OnOk, Some, false, length, min, take, drop};
 ghost use Rattle.std.specs.Borrow.{sem};
 ghost use Rattle.std.specs.Io.{ReadsAtMost, StartsWith, WritesAtMost};
 ghost use Rattle.std.specs.IoError.{error_kind};
@@ -35,6 +35,7 @@ impl<'a, F: Medium, A: Heap + Clone> Read for Stream<'a, F, A> {
 
     fn read(&mut self, into: &mut [u8]) -> io::Result<usize>
         ensures bound { ReadsAtMost result into.new }
+        ensures rest { IfOk result (λ n. drop n into.new ≡ drop n into.old) }
         ensures bytes { ReadConsumes (known_rest_in F.tells (open_of self.old))
             (known_rest_in F.tells (open_of self.new)) result into.new }
         ensures same_file { (file_of self.new).ghost_name ≡ (file_of self.old).ghost_name }

@@ -78,6 +78,7 @@ impl<'a, F: Medium, A: Heap + Clone> Stream<'a, F, A> {
         ensures same_file { (file_of self.new).ghost_name ≡ (file_of self.old).ghost_name }
         ensures any { StreamHeedsFlags IsFailed (open_of self.old) result (open_of self.new) }
         ensures most { IfOk result (λ n. n ≤ length into.new) }
+        ensures rest { IfOk result (λ n. drop n into.new ≡ drop n into.old) }
         ensures runs { IsTrue F.tells → IfOk result (λ n. StreamRunsOn (open_of self.old)
             (read (length into.old)) (got (take n into.new)) (open_of self.new)) }
         ensures refused { IsTrue F.tells → IfErr result (IsStreamRefused

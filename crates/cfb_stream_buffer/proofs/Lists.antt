@@ -147,6 +147,15 @@ put_last xs ys a within =
 pub read_before : (xs ys : List ℕ) (m n : ℕ) → n ≤ length ys → take n (put_mid 0 m xs ys) ≡ take n ys
 read_before xs ys m n fits = take-append-le n ys (drop m (drop 0 xs)) fits
 
+-- what lies behind what was read there stays
+pub rest_before : (xs ys : List ℕ) (m n : ℕ) → n ≤ length ys → length ys ≡ length (take m (drop 0 xs)) → drop n ys ≡ drop n (take m (drop 0 xs))
+  → drop n (put_mid 0 m xs ys) ≡ drop n xs
+rest_before xs ys m n fits len same =
+    drop-append-le n ys (drop m (drop 0 xs)) fits
+    ∙ ap (λ (zs : List ℕ). zs ++ drop m (drop 0 xs)) same
+    ∙ sym (drop-append-le n (take m (drop 0 xs)) (drop m (drop 0 xs)) (omega (arith, len)))
+    ∙ ap (λ (zs : List ℕ). drop n zs) (take-append-drop m (drop 0 xs))
+
 -- bytes laid behind bytes
 pub laid-next : (at d : ℕ) (x y c : List ℕ) → length x ≡ d → at ≤ length c → laid (at + d) y (laid at x c) ≡ laid at (x ++ y) c
 laid-next at d x y c is within =

@@ -203,7 +203,7 @@ impl<A: Allocator> StreamBuffer<A> {
 }
 
 /// Reads what lies at a place, at most `left` bytes.
-#[tactic(auto, using(crate::proofs::Lists::read_before))]
+#[tactic(auto, using(crate::proofs::Lists::read_before, crate::proofs::Lists::rest_before))]
 pub fn read_front<C: ReadContents>(
     content: &mut C,
     id: u32,
@@ -215,6 +215,7 @@ pub fn read_front<C: ReadContents>(
     requires some { 0 < left }
     requires room { 0 < length into.old }
     ensures bound { IfOk result (λ n. n ≤ length into.new) }
+    ensures rest { IfOk result (λ n. drop n into.new ≡ drop n into.old) }
     ensures most { IfOk result (λ n. n ≤ left) }
     ensures there { C.has content.new id }
     ensures any { HasSameFlags C.ReadContents content.old content.new id }

@@ -1,6 +1,6 @@
 //! What buffered streams stand on: lists of bytes in a file, each under a number. Lengths and places
 //! are in bytes.
-ghost use Rattle.std.specs.Prelude.{◌≡◌, ◌+◌, ◌<◌, ◌≤◌, ◌||◌, ◌↔◌, ℕ, Bool, IsTrue, true, false, IfOk, IfErr, OnOk, OnErr, length};
+ghost use Rattle.std.specs.Prelude.{◌≡◌, ◌+◌, ◌<◌, ◌≤◌, ◌||◌, ◌↔◌, ℕ, Bool, IsTrue, true, false, IfOk, IfErr, OnOk, OnErr, length, drop};
 ghost use Rattle.cfb_format.specs.Refused.{CountsFailure, IsMemory, IsBreak};
 ghost use Rattle.cfb_format.specs.declared.medium.MediumFault.{MediumFault as Fault};
 ghost use Rattle.cfb_stream_buffer.specs.Contents.{CanHave, Stored, TakesBytes, TakesLen, ReadsPart, WritesPart, IsMediumFault, IsRefusedRead, KeptOrFailed, Fails, KeepsFlags, SameFlags, stored_after_resize, stored_after_write};
@@ -67,6 +67,7 @@ pub trait ReadContents {
         requires there { has self.old id }
         ensures there { has self.new id }
         ensures bound { IfOk result (λ n. n ≤ length into.new) }
+        ensures rest { IfOk result (λ n. drop n into.new ≡ drop n into.old) }
         ensures any { SameFlags (setting self.old) (setting self.new) (stored self.old id) (stored self.new id) }
         ensures told { tells self.old → tells self.new }
         ensures kept { tells self.old → kept self.new ≡ kept self.old }

@@ -1,5 +1,5 @@
 //! What a window does with numbers and lists of bytes.
-ghost use Rattle.std.specs.Prelude.{◌≡◌, ◌+◌, ◌≤◌, ◌==◌, min, OnOk, OnErr, IfErr, IfSome, length, take};
+ghost use Rattle.std.specs.Prelude.{◌≡◌, ◌+◌, ◌≤◌, ◌==◌, min, OnOk, OnErr, IfErr, IfSome, length, take, drop};
 ghost use Rattle.cfb_format.specs.Refused.{IsMemory, number_of};
 ghost use Rattle.cfb_stream_window.specs.Windows.{place_at_distance};
 
@@ -10,6 +10,7 @@ use std::alloc::Allocator;
 pub fn copy_out(from: &[u8], into: &mut [u8]) -> usize
     ensures count { result ≡ min (length into.old) (length from.now) }
     ensures bytes { take result into.new ≡ take result from.now }
+    ensures rest { drop result into.new ≡ drop result into.old }
 {
     let count = into.len().min(from.len());
     into[..count].copy_from_slice(&from[..count]);

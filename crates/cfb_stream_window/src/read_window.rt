@@ -133,6 +133,7 @@ impl<A: Allocator> ReadWindow<A> {
         ensures any { HasSameFlags C.ReadContents content.old content.new id }
         ensures around { C.tells content.old → IsRead C.ReadContents content.old content.new id result }
         ensures most { IfOk result (λ n. n ≤ length into.new) }
+        ensures rest { IfOk result (λ n. drop n into.new ≡ drop n into.old) }
         ensures ok { IsReady C.ReadContents content.old id self.old → IfOk result (ReadPast into.new (C.stored content.old id) self.old (C.stored content.new id) self.new) }
         ensures refused { IsReady C.ReadContents content.old id self.old
             → IfErr result (λ e. ReadBrokeOff ⊥ (C.stored content.old id) self.old (C.stored content.new id) self.new e ⊎ Unreadable (C.stored content.old id) self.old (C.stored content.new id) self.new e) }
@@ -155,6 +156,7 @@ impl<A: Allocator> ReadWindow<A> {
         ensures there { C.has content.new id }
         ensures any { HeedsReading C.ReadContents content.old id self.old result content.new self.new }
         ensures most { IfOk result (λ n. n ≤ length into.new) }
+        ensures rest { IfOk result (λ n. drop n into.new ≡ drop n into.old) }
         ensures runs { IsOpen C.ReadContents content.old id self.old
             → IfOk result (λ n. RunsReading C.ReadContents content.old id self.old (read (length into.old)) (got (take n into.new)) content.new self.new) }
         ensures refused { IsOpen C.ReadContents content.old id self.old

@@ -162,6 +162,7 @@ impl<A: Allocator> Window<A> {
     pub(crate) fn serve(&mut self, into: &mut [u8]) -> usize
         ensures count { result ≡ min (length into.old) (length self.old.filled - self.old.cursor) }
         ensures bytes { take result into.new ≡ take result (drop self.old.cursor self.old.filled) }
+        ensures rest { drop result into.new ≡ drop result into.old }
         ensures window { self.new ≡ record self.old { cursor = self.old.cursor + result; ahead = 0 } }
     {
         let count = copy_out(self.buffer.rest(), into);
@@ -267,6 +268,7 @@ impl<A: Allocator> Window<A> {
         ensures around { C.tells content.old → IsRead C.ReadContents content.old content.new id result }
         ensures calm { self.new.pending ≡ false }
         ensures most { IfOk result (λ n. n ≤ length into.new) }
+        ensures rest { IfOk result (λ n. drop n into.new ≡ drop n into.old) }
         ensures ok { IsReady C.ReadContents content.old id self.old → IfOk result (ReadPast into.new (C.stored content.old id) self.old (C.stored content.new id) self.new) }
         ensures refused { IsReady C.ReadContents content.old id self.old
             → IfErr result (λ e. CalmBrokeOff (C.stored content.old id) self.old (C.stored content.new id) self.new e ⊎ Unreadable (C.stored content.old id) self.old (C.stored content.new id) self.new e) }

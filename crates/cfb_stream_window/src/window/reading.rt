@@ -119,6 +119,7 @@ impl<A: Allocator> Window<A> {
         ensures around { C.tells content.old → IsWritten C.ReadContents C.Contents.own content.old content.new id result }
         ensures calm { C.tells content.old → self.old.pending ≡ false → IsRead C.ReadContents content.old content.new id result }
         ensures most { IfOk result (λ n. n ≤ length into.new) }
+        ensures rest { IfOk result (λ n. drop n into.new ≡ drop n into.old) }
         ensures ok { IsReady C.ReadContents content.old id self.old → IfOk result (ReadPast into.new (C.stored content.old id) self.old (C.stored content.new id) self.new) }
         ensures settles { IsReady C.ReadContents content.old id self.old → OnOk result (IsSettled (C.stored content.old id) self.old (C.stored content.new id)) }
         ensures refused { IsReady C.ReadContents content.old id self.old
@@ -181,6 +182,7 @@ impl<A: Allocator> Window<A> {
         ensures there { C.has content.new id }
         ensures any { HeedsFlags C.ReadContents content.old id self.old result content.new self.new }
         ensures most { IfOk result (λ n. n ≤ length into.new) }
+        ensures rest { IfOk result (λ n. drop n into.new ≡ drop n into.old) }
         ensures runs { IsOpen C.ReadContents content.old id self.old
             → IfOk result (λ n. RunsOn C.ReadContents C.Contents.own content.old id self.old (read (length into.old)) (got (take n into.new)) content.new self.new) }
         ensures refused { IsOpen C.ReadContents content.old id self.old
