@@ -25,7 +25,8 @@ pub fn readable_len<F: ReadMedium, A: Heap + Clone>(
     entry: u32,
 ) -> Result<u64, Error>
     requires inside { entry < length (entries_of mini.now) }
-    ensures ok { IsTrue F.tells → TellsPlaces mini.now → IfOk result (λ n. n ≡ length (content_of mini.now (entry_at (entries_of mini.now) entry))) }
+    ensures ok { IsTrue F.tells → TellsPlaces mini.now → IfOk result (λ n.
+        n ≡ length (content_of mini.now (entry_at (entries_of mini.now) entry))) }
     ensures few { IfOk result (λ n. n ≤ len_of mini.now entry) }
     ensures err { IfErr result IsMemory }
 {
@@ -85,17 +86,24 @@ fn read_along<F: ReadMedium, A: Heap + Clone>(
     requires some { 0 < length into.old }
     requires inside { at + length into.old ≤ len }
     ensures tables { allocator.new.tables ≡ allocator.old.tables }
-    ensures kept { allocator.new.file ≡ record allocator.old.file { bytes = allocator.new.file.bytes; failures = allocator.new.file.failures } }
+    ensures kept { allocator.new.file ≡ record allocator.old.file {
+      bytes = allocator.new.file.bytes;
+      failures = allocator.new.file.failures;
+    } }
     ensures count { IfOk result (λ n. (0 < n) × (n ≤ length into.old)) }
     ensures there { IfOk result (λ n. (k : ℕ) → k < at + n → IsThereAlong allocator.old start k) }
-    ensures ok { IsTrue F.tells → IfOk result (λ n. (j : ℕ) → j < n → IsByteAlong allocator.old start (at + j) (slice_index into.new j)) }
+    ensures ok { IsTrue F.tells → IfOk result (λ n. (j : ℕ) → j < n
+        → IsByteAlong allocator.old start (at + j) (slice_index into.new j)) }
     ensures rest { IfOk result (λ n. drop n into.new ≡ drop n into.old) }
     ensures len { length into.new ≡ length into.old }
-    ensures err { IfErr result (ChangeRefused (IsCutBy (IsThereAlong allocator.old start) at) Unit ⊥ Unit) }
-    ensures cut { IsCutBy (IsThereAlong allocator.old start) at → IsErrAnd result (λ e. IsInvalidData e ⊎ IsMemory e) }
+    ensures err { IfErr result
+        (ChangeRefused (IsCutBy (IsThereAlong allocator.old start) at) Unit ⊥ Unit) }
+    ensures cut { IsCutBy (IsThereAlong allocator.old start) at
+        → IsErrAnd result (λ e. IsInvalidData e ⊎ IsMemory e) }
     ensures same { IsTrue F.tells → OnOk result (allocator.new ≡ allocator.old) }
     ensures bytes { IsTrue F.tells → allocator.new.file.bytes ≡ allocator.old.file.bytes }
-    ensures counts { IsTrue F.tells → CountsFailure F.read_faults result allocator.old.file.failures allocator.new.file.failures }
+    ensures counts { IsTrue F.tells → CountsFailure F.read_faults result
+        allocator.old.file.failures allocator.new.file.failures }
 {
     let ids = allocator.open_chain(start)?;
     let there = there_in_sectors(allocator, &ids, len);
@@ -122,14 +130,18 @@ fn read_along_minis<F: ReadMedium, A: Heap + Clone>(
     ensures kept { IsStill mini.old mini.new }
     ensures count { IfOk result (λ n. (0 < n) × (n ≤ length into.old)) }
     ensures there { IfOk result (λ n. (k : ℕ) → k < at + n → IsThereAlongMinis mini.old start k) }
-    ensures ok { IsTrue F.tells → IfOk result (λ n. (j : ℕ) → j < n → IsMiniByteAlong mini.old start (at + j) (slice_index into.new j)) }
+    ensures ok { IsTrue F.tells → IfOk result (λ n. (j : ℕ) → j < n
+        → IsMiniByteAlong mini.old start (at + j) (slice_index into.new j)) }
     ensures rest { IfOk result (λ n. drop n into.new ≡ drop n into.old) }
     ensures len { length into.new ≡ length into.old }
-    ensures err { IfErr result (ChangeRefused (IsCutBy (IsThereAlongMinis mini.old start) at) Unit ⊥ Unit) }
-    ensures cut { IsCutBy (IsThereAlongMinis mini.old start) at → IsErrAnd result (λ e. IsInvalidData e ⊎ IsMemory e) }
+    ensures err { IfErr result
+        (ChangeRefused (IsCutBy (IsThereAlongMinis mini.old start) at) Unit ⊥ Unit) }
+    ensures cut { IsCutBy (IsThereAlongMinis mini.old start) at
+        → IsErrAnd result (λ e. IsInvalidData e ⊎ IsMemory e) }
     ensures same { IsTrue F.tells → OnOk result (mini.new ≡ mini.old) }
     ensures bytes { IsTrue F.tells → bytes_of mini.new ≡ bytes_of mini.old }
-    ensures counts { IsTrue F.tells → CountsFailure F.read_faults result (table_of mini.old).file.failures (table_of mini.new).file.failures }
+    ensures counts { IsTrue F.tells → CountsFailure F.read_faults result
+        (table_of mini.old).file.failures (table_of mini.new).file.failures }
 {
     let ids = mini.mini_chain(start)?;
     let there = there_in_minis(mini, &ids, len);
@@ -154,17 +166,22 @@ fn read_inside<F: ReadMedium, A: Heap + Clone>(
     requires fits { at + length into.old ≤ len_of mini.old entry }
     ensures kept { IsStill mini.old mini.new }
     ensures count { IfOk result (λ n. (0 < n) × (n ≤ length into.old)) }
-    ensures ok { IsTrue F.tells → TellsPlaces mini.old → IfOk result (λ n. take n into.new ≡ part (content_of mini.old (entry_at (entries_of mini.old) entry)) at n) }
-    ensures within { IsTrue F.tells → TellsPlaces mini.old → IfOk result (λ n. at + n ≤ length (content_of mini.old (entry_at (entries_of mini.old) entry))) }
+    ensures ok { IsTrue F.tells → TellsPlaces mini.old → IfOk result (λ n.
+        take n into.new ≡ part (content_of mini.old (entry_at (entries_of mini.old) entry)) at n) }
+    ensures within { IsTrue F.tells → TellsPlaces mini.old → IfOk result (λ n.
+        at + n ≤ length (content_of mini.old (entry_at (entries_of mini.old) entry))) }
     ensures rest { IfOk result (λ n. drop n into.new ≡ drop n into.old) }
     ensures len { length into.new ≡ length into.old }
     ensures err { IsTrue F.tells → TellsPlaces mini.old
-        → IfErr result (ChangeRefused (length (content_of mini.old (entry_at (entries_of mini.old) entry)) ≤ at) Unit ⊥ Unit) }
-    ensures past { IsTrue F.tells → TellsPlaces mini.old → length (content_of mini.old (entry_at (entries_of mini.old) entry)) ≤ at
+        → IfErr result (ChangeRefused
+        (length (content_of mini.old (entry_at (entries_of mini.old) entry)) ≤ at) Unit ⊥ Unit) }
+    ensures past { IsTrue F.tells → TellsPlaces mini.old
+        → length (content_of mini.old (entry_at (entries_of mini.old) entry)) ≤ at
         → IsErrAnd result (λ e. IsInvalidData e ⊎ IsMemory e) }
     ensures same { IsTrue F.tells → OnOk result (mini.new ≡ mini.old) }
     ensures bytes { IsTrue F.tells → bytes_of mini.new ≡ bytes_of mini.old }
-    ensures counts { IsTrue F.tells → CountsFailure F.read_faults result (table_of mini.old).file.failures (table_of mini.new).file.failures }
+    ensures counts { IsTrue F.tells → CountsFailure F.read_faults result
+        (table_of mini.old).file.failures (table_of mini.new).file.failures }
 {
     let (start, len) = content_in(mini, entry);
     if len >= MINI_STREAM_CUTOFF as u64 {
@@ -185,17 +202,25 @@ pub fn read_content<F: ReadMedium, A: Heap + Clone>(
     requires inside { entry < length (entries_of mini.old) }
     ensures kept { IsStill mini.old mini.new }
     ensures count { IfOk result (λ n. n ≤ min (length into.old) (len_of mini.old entry - at)) }
-    ensures some { IfOk result (λ n. 0 < min (length into.old) (len_of mini.old entry - at) → 0 < n) }
-    ensures ok { IsTrue F.tells → TellsPlaces mini.old → IfOk result (λ n. take n into.new ≡ part (content_of mini.old (entry_at (entries_of mini.old) entry)) at n) }
-    ensures within { IsTrue F.tells → TellsPlaces mini.old → IfOk result (λ n. 0 < n → at + n ≤ length (content_of mini.old (entry_at (entries_of mini.old) entry))) }
+    ensures some { IfOk result (λ n.
+        0 < min (length into.old) (len_of mini.old entry - at) → 0 < n) }
+    ensures ok { IsTrue F.tells → TellsPlaces mini.old → IfOk result (λ n.
+        take n into.new ≡ part (content_of mini.old (entry_at (entries_of mini.old) entry)) at n) }
+    ensures within { IsTrue F.tells → TellsPlaces mini.old → IfOk result (λ n. 0 < n
+        → at + n ≤ length (content_of mini.old (entry_at (entries_of mini.old) entry))) }
     ensures rest { IfOk result (λ n. drop n into.new ≡ drop n into.old) }
-    ensures err { IsTrue F.tells → TellsPlaces mini.old → IfErr result (ChangeRefused
-        ((length (content_of mini.old (entry_at (entries_of mini.old) entry)) ≤ at) × (0 < min (length into.old) (len_of mini.old entry - at))) Unit ⊥ Unit) }
-    ensures past { IsTrue F.tells → TellsPlaces mini.old → length (content_of mini.old (entry_at (entries_of mini.old) entry)) ≤ at → 0 < min (length into.old) (len_of mini.old entry - at)
+    ensures err { IsTrue F.tells → TellsPlaces mini.old
+        → IfErr result (ChangeRefused
+        ((length (content_of mini.old (entry_at (entries_of mini.old) entry)) ≤ at)
+        × (0 < min (length into.old) (len_of mini.old entry - at))) Unit ⊥ Unit) }
+    ensures past { IsTrue F.tells → TellsPlaces mini.old
+        → length (content_of mini.old (entry_at (entries_of mini.old) entry)) ≤ at
+        → 0 < min (length into.old) (len_of mini.old entry - at)
         → IsErrAnd result (λ e. IsInvalidData e ⊎ IsMemory e) }
     ensures same { IsTrue F.tells → OnOk result (mini.new ≡ mini.old) }
     ensures bytes { IsTrue F.tells → bytes_of mini.new ≡ bytes_of mini.old }
-    ensures counts { IsTrue F.tells → CountsFailure F.read_faults result (table_of mini.old).file.failures (table_of mini.new).file.failures }
+    ensures counts { IsTrue F.tells → CountsFailure F.read_faults result
+        (table_of mini.old).file.failures (table_of mini.new).file.failures }
 {
     let (_, len) = content_in(mini, entry);
     if into.is_empty() || at >= len {

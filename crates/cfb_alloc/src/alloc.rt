@@ -771,8 +771,8 @@ impl<F: Medium, A: Heap + Clone> Allocator<F, A> {
         ensures count { IfOk result (λ list. vec_len list ≡ count) }
         ensures none { count ≡ 0 → self.new ≡ self.old }
         ensures filled { IsTrue F.tells → (validation : Validation)
-            → HoldsTables validation self.old → IfOk result (λ list. (i : ℕ)
-            → Contains list.items i → IsAsFilled self.new.tables.version init self.new.file.bytes i) }
+            → HoldsTables validation self.old → IfOk result (λ list. (i : ℕ) → Contains list.items i
+            → IsAsFilled self.new.tables.version init self.new.file.bytes i) }
         ensures holds { IsTrue F.tells → (validation : Validation)
             → HoldsTables validation self.old → OnOk result (HoldsTables validation self.new) }
         ensures others { IsTrue F.tells → OthersStay self.old self.new }
@@ -862,8 +862,8 @@ impl<F: Medium, A: Heap + Clone> Allocator<F, A> {
         ensures count { IfOk result (λ list. vec_len list ≡ count) }
         ensures none { count ≡ 0 → self.new ≡ self.old }
         ensures filled { IsTrue F.tells → (validation : Validation)
-            → HoldsTables validation self.old → IfOk result (λ list. (i : ℕ)
-            → Contains list.items i → IsAsFilled self.new.tables.version init self.new.file.bytes i) }
+            → HoldsTables validation self.old → IfOk result (λ list. (i : ℕ) → Contains list.items i
+            → IsAsFilled self.new.tables.version init self.new.file.bytes i) }
         ensures holds { IsTrue F.tells → (validation : Validation)
             → HoldsTables validation self.old → OnOk result (HoldsTables validation self.new) }
         ensures others { IsTrue F.tells → OthersStay self.old self.new }
@@ -905,8 +905,8 @@ impl<F: Medium, A: Heap + Clone> Allocator<F, A> {
         ensures count { IfOk result (λ list. vec_len list ≡ count) }
         ensures none { count ≡ 0 → self.new ≡ self.old }
         ensures filled { IsTrue F.tells → (validation : Validation)
-            → HoldsTables validation self.old → IfOk result (λ list. (i : ℕ)
-            → Contains list.items i → IsAsFilled self.new.tables.version init self.new.file.bytes i) }
+            → HoldsTables validation self.old → IfOk result (λ list. (i : ℕ) → Contains list.items i
+            → IsAsFilled self.new.tables.version init self.new.file.bytes i) }
         ensures holds { IsTrue F.tells → (validation : Validation)
             → HoldsTables validation self.old → OnOk result (HoldsTables validation self.new) }
         ensures others { IsTrue F.tells → OthersStay self.old self.new }

@@ -181,8 +181,8 @@ impl<'a, F: ReadMedium, A: Heap> Chain<'a, F, A> {
             (allocator_of self.old).now.file.bytes (place_in_chain (version_of self.old)
             (allocator_of self.old).now.file.bytes (ids_of self.old)) (position_of self.old) n) }
         ensures rest { IfOk result (λ n. drop n into.new ≡ drop n into.old) }
-        ensures content { IsTrue F.tells → HasAllSectors self.old → IfOk result (λ n. take n into.new
-            ≡ part (content_of self.old) (position_of self.old) n) }
+        ensures content { IsTrue F.tells → HasAllSectors self.old → IfOk result (λ n.
+            take n into.new ≡ part (content_of self.old) (position_of self.old) n) }
         ensures cut { 0 < min (length into.old) (left_of self.old)
             → (allocator_of self.old).now.file.len ≤ place_of self.old
             → IsErrAnd result IsInvalidData }

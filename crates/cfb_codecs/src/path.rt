@@ -182,7 +182,8 @@ pub fn compare_names<A: Allocator>(cases: &CaseMapper<A>, a: &str, b: &str) -> O
 
 /// The order of two names of ASCII characters: each is one unit, and its upper case is that of ASCII.
 fn compare_ascii(a: &[u8], b: &[u8]) -> Ordering
-    ensures { result ≡ ordering_then (nat_cmp (length a.now) (length b.now)) (slice_cmp nat_cmp (map to_ascii_uppercase a.now) (map to_ascii_uppercase b.now)) }
+    ensures { result ≡ ordering_then (nat_cmp (length a.now) (length b.now))
+        (slice_cmp nat_cmp (map to_ascii_uppercase a.now) (map to_ascii_uppercase b.now)) }
 {
     if a.len() != b.len() {
         return a.len().cmp(&b.len());
@@ -193,7 +194,8 @@ fn compare_ascii(a: &[u8], b: &[u8]) -> Ordering
 /// The order of as many bytes as ASCII letters in upper case.
 fn compare_upper(a: &[u8], b: &[u8]) -> Ordering
     requires { length a.now ≡ length b.now }
-    ensures { result ≡ slice_cmp nat_cmp (map to_ascii_uppercase a.now) (map to_ascii_uppercase b.now) }
+    ensures { result
+        ≡ slice_cmp nat_cmp (map to_ascii_uppercase a.now) (map to_ascii_uppercase b.now) }
 {
     for i in 0..a.len() {
         let (x, y) = (a[i].to_ascii_uppercase(), b[i].to_ascii_uppercase());

@@ -43,8 +43,10 @@ pub fn there_in_sectors<F: ReadMedium, A: Heap>(
     ids: &[u32],
     len: u64,
 ) -> u64
-    requires known { (i : ℕ) → i < length ids.now → slice_index ids.now i < length allocator.now.tables.fat }
-    ensures { HasFirst (IsThereInSectors allocator.now.tables.version ids.now allocator.now.file.len) len result }
+    requires known { (i : ℕ) → i < length ids.now
+        → slice_index ids.now i < length allocator.now.tables.fat }
+    ensures { HasFirst
+        (IsThereInSectors allocator.now.tables.version ids.now allocator.now.file.len) len result }
 {
     let sector_len = allocator.sector_len() as u64;
     let whole = allocator.file_len() / sector_len;
@@ -61,7 +63,8 @@ fn counted_in_sectors<F: ReadMedium, A: Heap>(
     ids: &[u32],
     len: u64,
 ) -> u64
-    ensures { HasFirst (IsThereInSectors allocator.now.tables.version ids.now allocator.now.file.len) len result }
+    ensures { HasFirst
+        (IsThereInSectors allocator.now.tables.version ids.now allocator.now.file.len) len result }
 {
     let sector_len = allocator.sector_len() as u64;
     let file_len = allocator.file_len();
@@ -85,16 +88,22 @@ pub fn fill_from_sectors<F: ReadMedium, A: Heap>(
     into: &mut [u8],
 ) -> Result<(), Error>
     requires bounded { at + length into.old < 2 ^ 64 }
-    requires there { (k : ℕ) → k < length into.old → IsThereInSectors allocator.old.tables.version ids.now allocator.old.file.len (at + k) }
+    requires there { (k : ℕ) → k < length into.old
+        → IsThereInSectors allocator.old.tables.version ids.now allocator.old.file.len (at + k) }
     ensures tables { allocator.new.tables ≡ allocator.old.tables }
-    ensures kept { allocator.new.file ≡ record allocator.old.file { bytes = allocator.new.file.bytes; failures = allocator.new.file.failures } }
+    ensures kept { allocator.new.file ≡ record allocator.old.file {
+      bytes = allocator.new.file.bytes;
+      failures = allocator.new.file.failures;
+    } }
     ensures got { IsTrue F.tells → OnOk result ((k : ℕ) → k < length into.new
-        → slice_index into.new k ≡ slice_index allocator.old.file.bytes (place_along allocator.old.tables.version ids.now (at + k))) }
+        → slice_index into.new k ≡ slice_index allocator.old.file.bytes
+        (place_along allocator.old.tables.version ids.now (at + k))) }
     ensures len { length into.new ≡ length into.old }
     ensures err { IfErr result IsMediumError }
     ensures same { IsTrue F.tells → OnOk result (allocator.new ≡ allocator.old) }
     ensures bytes { IsTrue F.tells → allocator.new.file.bytes ≡ allocator.old.file.bytes }
-    ensures counts { IsTrue F.tells → CountsFailure F.read_faults result allocator.old.file.failures allocator.new.file.failures }
+    ensures counts { IsTrue F.tells → CountsFailure F.read_faults result
+        allocator.old.file.failures allocator.new.file.failures }
 {
     read_along(allocator, ids, at, into)
 }
@@ -105,16 +114,22 @@ pub fn get_from_sectors<F: ReadMedium, A: Heap>(
     ids: &[u32],
     into: &mut [u8],
 ) -> Result<(), Error>
-    requires there { (k : ℕ) → k < length into.old → IsThereInSectors allocator.old.tables.version ids.now allocator.old.file.len k }
+    requires there { (k : ℕ) → k < length into.old
+        → IsThereInSectors allocator.old.tables.version ids.now allocator.old.file.len k }
     ensures tables { allocator.new.tables ≡ allocator.old.tables }
-    ensures kept { allocator.new.file ≡ record allocator.old.file { bytes = allocator.new.file.bytes; failures = allocator.new.file.failures } }
+    ensures kept { allocator.new.file ≡ record allocator.old.file {
+      bytes = allocator.new.file.bytes;
+      failures = allocator.new.file.failures;
+    } }
     ensures got { IsTrue F.tells → OnOk result ((k : ℕ) → k < length into.new
-        → slice_index into.new k ≡ slice_index allocator.old.file.bytes (place_along allocator.old.tables.version ids.now k)) }
+        → slice_index into.new k ≡ slice_index allocator.old.file.bytes
+        (place_along allocator.old.tables.version ids.now k)) }
     ensures len { length into.new ≡ length into.old }
     ensures err { IfErr result IsMediumError }
     ensures same { IsTrue F.tells → OnOk result (allocator.new ≡ allocator.old) }
     ensures bytes { IsTrue F.tells → allocator.new.file.bytes ≡ allocator.old.file.bytes }
-    ensures counts { IsTrue F.tells → CountsFailure F.read_faults result allocator.old.file.failures allocator.new.file.failures }
+    ensures counts { IsTrue F.tells → CountsFailure F.read_faults result
+        allocator.old.file.failures allocator.new.file.failures }
 {
     fill_from_sectors(allocator, ids, 0, into)
 }
@@ -126,8 +141,10 @@ pub fn put_in_sectors<F: Medium, A: Heap>(
     at: u64,
     bytes: &[u8],
 ) -> Result<(), Error>
-    requires placed { (k : ℕ) → k < length bytes.now → ((at + k) / sector_len allocator.old.tables.version < length ids.now)
-        × (slice_index ids.now ((at + k) / sector_len allocator.old.tables.version) < length allocator.old.tables.fat) }
+    requires placed { (k : ℕ) → k < length bytes.now
+        → ((at + k) / sector_len allocator.old.tables.version < length ids.now)
+        × (slice_index ids.now ((at + k) / sector_len allocator.old.tables.version)
+        < length allocator.old.tables.fat) }
     ensures tables { allocator.new.tables ≡ allocator.old.tables }
     ensures kept { allocator.new.file ≡ record allocator.old.file {
       len = allocator.new.file.len;
@@ -137,15 +154,20 @@ pub fn put_in_sectors<F: Medium, A: Heap>(
     } }
     ensures none { length bytes.now ≡ 0 → OnErr result ⊥ × (allocator.new ≡ allocator.old) }
     ensures put { IsTrue F.tells → IsDistinct nat_eq ids.now
-        → OnOk result (StandAlong (place_along allocator.old.tables.version ids.now) at bytes.now allocator.new.file.bytes) }
+        → OnOk result (StandAlong (place_along allocator.old.tables.version ids.now) at
+        bytes.now allocator.new.file.bytes) }
     ensures others { IsTrue F.tells
-        → ChangesOnlyPlaces (place_along allocator.old.tables.version ids.now) at (length bytes.now) allocator.old.file.bytes allocator.new.file.bytes }
+        → ChangesOnlyPlaces (place_along allocator.old.tables.version ids.now) at (length bytes.now)
+        allocator.old.file.bytes allocator.new.file.bytes }
     ensures spares { IsTrue F.tells → Spares ids.now allocator.old allocator.new }
-    ensures holds { IsTrue F.tells → (validation : Validation) → HoldsTables validation allocator.old → AreDisjoint ids.now (table_sectors allocator.old.tables)
+    ensures holds { IsTrue F.tells
+        → (validation : Validation) → HoldsTables validation allocator.old
+        → AreDisjoint ids.now (table_sectors allocator.old.tables)
         → OnOk result (HoldsTables validation allocator.new) }
     ensures begun { 0 < length bytes.now → allocator.new.file.begun ≡ true }
     ensures err { IfErr result IsMediumError }
-    ensures counts { IsTrue F.tells → CountsFailure F.write_faults result allocator.old.file.failures allocator.new.file.failures }
+    ensures counts { IsTrue F.tells → CountsFailure F.write_faults result
+        allocator.old.file.failures allocator.new.file.failures }
 {
     write_along(allocator, ids, at, bytes)
 }
@@ -157,8 +179,10 @@ pub fn zero_in_sectors<F: Medium, A: Heap>(
     from: u64,
     to: u64,
 ) -> Result<(), Error>
-    requires placed { (k : ℕ) → from ≤ k → k < to → (k / sector_len allocator.old.tables.version < length ids.now)
-        × (slice_index ids.now (k / sector_len allocator.old.tables.version) < length allocator.old.tables.fat) }
+    requires placed { (k : ℕ) → from ≤ k → k < to
+        → (k / sector_len allocator.old.tables.version < length ids.now)
+        × (slice_index ids.now (k / sector_len allocator.old.tables.version)
+        < length allocator.old.tables.fat) }
     ensures tables { allocator.new.tables ≡ allocator.old.tables }
     ensures kept { allocator.new.file ≡ record allocator.old.file {
       len = allocator.new.file.len;
@@ -168,15 +192,20 @@ pub fn zero_in_sectors<F: Medium, A: Heap>(
     } }
     ensures none { to ≤ from → OnErr result ⊥ × (allocator.new ≡ allocator.old) }
     ensures put { IsTrue F.tells → IsDistinct nat_eq ids.now
-        → OnOk result (StandAlong (place_along allocator.old.tables.version ids.now) from (replicate (to - from) 0) allocator.new.file.bytes) }
+        → OnOk result (StandAlong (place_along allocator.old.tables.version ids.now) from
+        (replicate (to - from) 0) allocator.new.file.bytes) }
     ensures others { IsTrue F.tells
-        → ChangesOnlyPlaces (place_along allocator.old.tables.version ids.now) from (to - from) allocator.old.file.bytes allocator.new.file.bytes }
+        → ChangesOnlyPlaces (place_along allocator.old.tables.version ids.now) from
+        (to - from) allocator.old.file.bytes allocator.new.file.bytes }
     ensures spares { IsTrue F.tells → Spares ids.now allocator.old allocator.new }
-    ensures holds { IsTrue F.tells → (validation : Validation) → HoldsTables validation allocator.old → AreDisjoint ids.now (table_sectors allocator.old.tables)
+    ensures holds { IsTrue F.tells
+        → (validation : Validation) → HoldsTables validation allocator.old
+        → AreDisjoint ids.now (table_sectors allocator.old.tables)
         → OnOk result (HoldsTables validation allocator.new) }
     ensures begun { from < to → allocator.new.file.begun ≡ true }
     ensures err { IfErr result IsMediumError }
-    ensures counts { IsTrue F.tells → CountsFailure F.write_faults result allocator.old.file.failures allocator.new.file.failures }
+    ensures counts { IsTrue F.tells → CountsFailure F.write_faults result
+        allocator.old.file.failures allocator.new.file.failures }
 {
     zero_along(allocator, ids, from, to)
 }
@@ -198,32 +227,47 @@ pub fn grow_listed_with<F: Medium, A: Heap>(
     requires chain { IsChain allocator.old.tables.fat (first_or_end ids.old.items) ids.old.items }
     requires behind { at ≤ length ids.old.items * sector_len allocator.old.tables.version }
     requires bounded { at + length bytes.now < 2 ^ 64 }
-    requires fits { at + length bytes.now ≤ (length ids.old.items + count) * sector_len allocator.old.tables.version }
+    requires fits { at + length bytes.now
+        ≤ (length ids.old.items + count) * sector_len allocator.old.tables.version }
     ensures chain { IsChain allocator.new.tables.fat (first_or_end ids.new.items) ids.new.items }
-    ensures lengthened { OnOk result (Lengthens count ids.old.items ids.new.items allocator.old.tables allocator.new.tables) }
+    ensures lengthened { OnOk result
+        (Lengthens count ids.old.items ids.new.items allocator.old.tables allocator.new.tables) }
     ensures put { IsTrue F.tells → (validation : Validation) → HoldsTables validation allocator.old
-        → OnOk result (StandAlong (place_along allocator.old.tables.version ids.new.items) at bytes.now allocator.new.file.bytes) }
-    ensures zeros { IsTrue F.tells → (validation : Validation) → HoldsTables validation allocator.old
-        → OnOk result (AreZerosAlong (place_along allocator.old.tables.version ids.new.items)
-        (max (at + length bytes.now) (length ids.old.items * sector_len allocator.old.tables.version))
+        → OnOk result (StandAlong (place_along allocator.old.tables.version ids.new.items) at
+        bytes.now allocator.new.file.bytes) }
+    ensures zeros { IsTrue F.tells
+        → (validation : Validation) → HoldsTables validation allocator.old
+        → OnOk result (AreZerosAlong (place_along allocator.old.tables.version ids.new.items) (max
+        (at + length bytes.now) (length ids.old.items * sector_len allocator.old.tables.version))
         (length ids.new.items * sector_len allocator.old.tables.version) allocator.new.file.bytes) }
     ensures kept { IsTrue F.tells → (validation : Validation) → HoldsTables validation allocator.old
         → StaysAlong (place_along allocator.old.tables.version ids.old.items) at (length bytes.now)
-        (length ids.old.items * sector_len allocator.old.tables.version) allocator.old.file.bytes allocator.new.file.bytes }
-    ensures holds { IsTrue F.tells → (validation : Validation) → HoldsTables validation allocator.old → OnOk result (HoldsTables validation allocator.new) }
-    ensures whole { IsTrue F.tells → (validation : Validation) → HoldsTables validation allocator.old → IsOfWholeSectors allocator.old → OnOk result (IsOfWholeSectors allocator.new) }
-    ensures sizes { OnOk result (AreSizes allocator.new.tables.version (sizes_of allocator.new.tables)) }
+        (length ids.old.items * sector_len allocator.old.tables.version)
+        allocator.old.file.bytes allocator.new.file.bytes }
+    ensures holds { IsTrue F.tells
+        → (validation : Validation) → HoldsTables validation allocator.old
+        → OnOk result (HoldsTables validation allocator.new) }
+    ensures whole { IsTrue F.tells
+        → (validation : Validation) → HoldsTables validation allocator.old
+        → IsOfWholeSectors allocator.old → OnOk result (IsOfWholeSectors allocator.new) }
+    ensures sizes { OnOk result
+        (AreSizes allocator.new.tables.version (sizes_of allocator.new.tables)) }
     ensures spares { IsTrue F.tells → Spares ids.old.items allocator.old allocator.new }
-    ensures header { IsTrue F.tells → (i : ℕ) → i < length allocator.old.file.bytes → IsOtherHeaderByte allocator.old.tables.version i
+    ensures header { IsTrue F.tells → (i : ℕ) → i < length allocator.old.file.bytes
+        → IsOtherHeaderByte allocator.old.tables.version i
         → slice_index allocator.new.file.bytes i ≡ slice_index allocator.old.file.bytes i }
     ensures version { allocator.new.tables.version ≡ allocator.old.tables.version }
     ensures limit { allocator.new.tables.max_sectors ≡ allocator.old.tables.max_sectors }
     ensures enough { OnOk result (IsTooFew allocator.old.tables count → ⊥) }
     ensures begun { 0 < length bytes.now → OnOk result (allocator.new.file.begun ≡ true) }
-    ensures refused { IfErr result (AfterMedium (allocator.new.file.begun ≡ true) (allocator.new ≡ allocator.old)) }
-    ensures unwritten { IsTrue F.tells → allocator.new.file.begun ≡ false → allocator.new.file.bytes ≡ allocator.old.file.bytes }
-    ensures err { IfErr result (ChangeRefused (IsUsable allocator.old.tables → ⊥) Unit (IsTooFew allocator.old.tables count) Unit) }
-    ensures counts { IsTrue F.tells → CountsFailure F.write_faults result allocator.old.file.failures allocator.new.file.failures }
+    ensures refused { IfErr result
+        (AfterMedium (allocator.new.file.begun ≡ true) (allocator.new ≡ allocator.old)) }
+    ensures unwritten { IsTrue F.tells → allocator.new.file.begun ≡ false
+        → allocator.new.file.bytes ≡ allocator.old.file.bytes }
+    ensures err { IfErr result (ChangeRefused (IsUsable allocator.old.tables → ⊥) Unit
+        (IsTooFew allocator.old.tables count) Unit) }
+    ensures counts { IsTrue F.tells → CountsFailure F.write_faults result
+        allocator.old.file.failures allocator.new.file.failures }
 {
     let sector_len = allocator.sector_len() as u64;
     let have = (ids.len() as u64).saturating_mul(sector_len);

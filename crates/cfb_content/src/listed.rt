@@ -125,7 +125,8 @@ pub fn whole_mini_chain_in<F: ReadMedium, A: Heap>(
     len: u64,
 ) -> Result<Vec<u32, A>, Error>
     ensures whole { IfOk result (λ list. IsWholeMiniChain mini.now start len list.items) }
-    ensures err { IfErr result (ChangeRefused ((list : List ℕ) → IsWholeMiniChain mini.now start len list → ⊥) Unit ⊥ ⊥) }
+    ensures err { IfErr result (ChangeRefused
+        ((list : List ℕ) → IsWholeMiniChain mini.now start len list → ⊥) Unit ⊥ ⊥) }
 {
     if len == 0 {
         list.clear();

@@ -132,8 +132,8 @@ pub(crate) fn copy_object<F: ReadMedium, W: Medium, A: Heap + Clone>(
         → OnOk result ((part : Part)
         → IsPart (content_of source.old.base) (entry_at (entries_of source.old.base) entry) part
         → LeadToEntry target.old (parent_names (names_of part)) parent
-        → BecomesTree (cases_of target.old.base) (bytes_of target.old.base) (bytes_of target.new.base)
-        (part_copied (cases_of target.old.base) part)) }
+        → BecomesTree (cases_of target.old.base) (bytes_of target.old.base)
+        (bytes_of target.new.base) (part_copied (cases_of target.old.base) part)) }
     ensures err { IsTrue F.tells → IsTrue W.tells → Holds source.old → Holds target.old
         → IsWholeAt (entries_of source.old.base) (content_of source.old.base) entry
         → TakesName target.old parent (entry_at (entries_of source.old.base) entry).name

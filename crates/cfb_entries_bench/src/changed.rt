@@ -30,7 +30,8 @@ pub fn reached(alloc: Global, entries: &Entries, mode: Validation) -> Result<usi
 
 /// The storage at these names. `NotFound` where there is none.
 fn storage_at(entries: &Entries, names: &[&str]) -> Result<u32, Error>
-    ensures { IfOk result (λ number. IsReachedStorage entries.now.cases entries.now.entries number) }
+    ensures { IfOk result (λ number.
+        IsReachedStorage entries.now.cases entries.now.entries number) }
 {
     let Some(number) = entries.find(names) else {
         return Err(Error::NotFound(Detail::text("nothing stands there")));

@@ -34,22 +34,28 @@ fn put_behind<F: Medium, A: Heap + Clone>(
     bytes: &[u8],
 ) -> Result<u32, Error>
     requires stream { IsStreamOf mini.old entry }
-    requires limit { len_of mini.old entry + length bytes.now ≤ max_stream_len (version_of mini.old) }
+    requires limit { len_of mini.old entry + length bytes.now
+        ≤ max_stream_len (version_of mini.old) }
     requires large { mini_stream_cutoff ≤ len_of mini.old entry }
     requires some { 0 < length bytes.now }
     ensures appended { IsTrue F.tells → (validation : Validation) → IsChangeable validation mini.old
         → IfOk result (λ start. Appends mini.old mini.new entry bytes.now start) }
-    ensures holds { IsTrue F.tells → (validation : Validation) → IsChangeable validation mini.old → OnOk result (HoldsMini validation mini.new) }
+    ensures holds { IsTrue F.tells → (validation : Validation) → IsChangeable validation mini.old
+        → OnOk result (HoldsMini validation mini.new) }
     ensures spares { IsTrue F.tells → SparesOthers mini.old mini.new entry }
     ensures around { KeepsAround mini.old mini.new }
     ensures tight { OnOk result (KeepsTablesTight mini.old mini.new) }
-    ensures snug_mini { IsTrue F.tells → (validation : Validation) → IsChangeable validation mini.old → IsSnugMini mini.old → OnOk result (IsSnugMini mini.new) }
-    ensures tidy { IsTrue F.tells → (validation : Validation) → IsChangeable validation mini.old → OnOk result (StaysTidy mini.old mini.new) }
+    ensures snug_mini { IsTrue F.tells
+        → (validation : Validation) → IsChangeable validation mini.old → IsSnugMini mini.old
+        → OnOk result (IsSnugMini mini.new) }
+    ensures tidy { IsTrue F.tells → (validation : Validation) → IsChangeable validation mini.old
+        → OnOk result (StaysTidy mini.old mini.new) }
     ensures refused { IfErr result (StopsOrBegun mini.old mini.new) }
     ensures err { IfErr result (ChangeRefused (IsNotChangeable mini.old) Unit
         (LacksNumbersFor mini.old entry (len_of mini.old entry + length bytes.now)) Unit) }
     ensures counts { IsTrue F.tells
-        → CountsFailure (λ f. F.read_faults f || F.write_faults f) result (table_of mini.old).file.failures (table_of mini.new).file.failures }
+        → CountsFailure (λ f. F.read_faults f || F.write_faults f) result
+        (table_of mini.old).file.failures (table_of mini.new).file.failures }
 {
     let (start, len) = content_in(mini, entry);
     let size = len + bytes.len() as u64;
@@ -70,23 +76,30 @@ fn put_at_end<F: Medium, A: Heap + Clone>(
     bytes: &[u8],
 ) -> Result<u32, Error>
     requires stream { IsStreamOf mini.old entry }
-    requires limit { len_of mini.old entry + length bytes.now ≤ max_stream_len (version_of mini.old) }
+    requires limit { len_of mini.old entry + length bytes.now
+        ≤ max_stream_len (version_of mini.old) }
     requires large { mini_stream_cutoff ≤ len_of mini.old entry + length bytes.now }
     requires some { 0 < length bytes.now }
     ensures put { IsTrue F.tells → (validation : Validation) → IsChangeable validation mini.old
         → IfOk result (λ start. PutsBehind mini.old mini.new entry bytes.now start) }
-    ensures holds { IsTrue F.tells → (validation : Validation) → IsChangeable validation mini.old → OnOk result (HoldsMini validation mini.new) }
+    ensures holds { IsTrue F.tells → (validation : Validation) → IsChangeable validation mini.old
+        → OnOk result (HoldsMini validation mini.new) }
     ensures spares { IsTrue F.tells → SparesOthers mini.old mini.new entry }
     ensures around { KeepsAround mini.old mini.new }
     ensures tight { OnOk result (KeepsTablesTight mini.old mini.new) }
-    ensures snug_mini { IsTrue F.tells → (validation : Validation) → IsChangeable validation mini.old → IsSnugMini mini.old → OnOk result (IsSnugMini mini.new) }
-    ensures tidy { IsTrue F.tells → (validation : Validation) → IsChangeable validation mini.old → OnOk result (StaysTidy mini.old mini.new) }
+    ensures snug_mini { IsTrue F.tells
+        → (validation : Validation) → IsChangeable validation mini.old → IsSnugMini mini.old
+        → OnOk result (IsSnugMini mini.new) }
+    ensures tidy { IsTrue F.tells → (validation : Validation) → IsChangeable validation mini.old
+        → OnOk result (StaysTidy mini.old mini.new) }
     ensures refused { IsTrue F.tells → IfErr result (StopsOrBegun mini.old mini.new) }
-    ensures still { OnErr result (IsStill mini.old mini.new ⊎ ((table_of mini.new).file.begun ≡ true)) }
+    ensures still { OnErr result (IsStill mini.old mini.new
+        ⊎ ((table_of mini.new).file.begun ≡ true)) }
     ensures err { IfErr result (ChangeRefused (IsTrue F.tells → IsNotChangeable mini.old) Unit
         (LacksNumbersFor mini.old entry (len_of mini.old entry + length bytes.now)) Unit) }
     ensures counts { IsTrue F.tells
-        → CountsFailure (λ f. F.read_faults f || F.write_faults f) result (table_of mini.old).file.failures (table_of mini.new).file.failures }
+        → CountsFailure (λ f. F.read_faults f || F.write_faults f) result
+        (table_of mini.old).file.failures (table_of mini.new).file.failures }
 {
     let (_, len) = content_in(mini, entry);
     if len >= MINI_STREAM_CUTOFF as u64 {
@@ -102,25 +115,33 @@ fn append_in_sectors<F: Medium, A: Heap + Clone>(
     bytes: &[u8],
 ) -> Result<(), Error>
     requires stream { IsStreamOf mini.old entry }
-    requires limit { len_of mini.old entry + length bytes.now ≤ max_stream_len (version_of mini.old) }
+    requires limit { len_of mini.old entry + length bytes.now
+        ≤ max_stream_len (version_of mini.old) }
     requires large { mini_stream_cutoff ≤ len_of mini.old entry + length bytes.now }
     requires some { 0 < length bytes.now }
-    requires enough { LacksNumbersFor mini.old entry (len_of mini.old entry + length bytes.now) → ⊥ }
+    requires enough { LacksNumbersFor mini.old entry
+        (len_of mini.old entry + length bytes.now) → ⊥ }
     ensures len { OnOk result (len_of mini.new entry ≡ len_of mini.old entry + length bytes.now) }
     ensures content { IsTrue F.tells → (validation : Validation) → IsChangeable validation mini.old
         → OnOk result (content_of mini.new (entry_at (entries_of mini.new) entry)
-        ≡ written (content_of mini.old (entry_at (entries_of mini.old) entry)) (len_of mini.old entry) bytes.now) }
+        ≡ written (content_of mini.old (entry_at (entries_of mini.old) entry))
+        (len_of mini.old entry) bytes.now) }
     ensures moves { MovesAlone mini.old mini.new entry }
     ensures spares { IsTrue F.tells → SparesOthers mini.old mini.new entry }
     ensures changed { IsTrue F.tells → OnOk result (WasChanged mini.old mini.new entry) }
     ensures tight { OnOk result (KeepsTablesTight mini.old mini.new) }
-    ensures stays_full { IsTrue F.tells → (validation : Validation) → IsChangeable validation mini.old → LeavesNoMinis mini.old entry (len_of mini.old entry + length bytes.now)
+    ensures stays_full { IsTrue F.tells
+        → (validation : Validation) → IsChangeable validation mini.old
+        → LeavesNoMinis mini.old entry (len_of mini.old entry + length bytes.now)
         → NoneFree (tables_in mini.old).fat → OnOk result (NoneFree (tables_in mini.new).fat) }
     ensures refused { IsTrue F.tells → IfErr result (StopsOrBegun mini.old mini.new) }
-    ensures still { OnErr result (IsStill mini.old mini.new ⊎ ((table_of mini.new).file.begun ≡ true)) }
-    ensures err { IfErr result (ChangeRefused (IsTrue F.tells → IsNotChangeable mini.old) Unit ⊥ Unit) }
+    ensures still { OnErr result (IsStill mini.old mini.new
+        ⊎ ((table_of mini.new).file.begun ≡ true)) }
+    ensures err { IfErr result
+        (ChangeRefused (IsTrue F.tells → IsNotChangeable mini.old) Unit ⊥ Unit) }
     ensures counts { IsTrue F.tells
-        → CountsFailure (λ f. F.read_faults f || F.write_faults f) result (table_of mini.old).file.failures (table_of mini.new).file.failures }
+        → CountsFailure (λ f. F.read_faults f || F.write_faults f) result
+        (table_of mini.old).file.failures (table_of mini.new).file.failures }
 {
     let (_, len) = content_in(mini, entry);
     if !mini.directory().is_placed() {
@@ -142,24 +163,31 @@ pub(crate) fn append_up_to<F: Medium, A: Heap + Clone>(
     requires longer { len_of mini.old entry < size }
     requires within { size ≤ len_of mini.old entry + length bytes.now }
     requires large { mini_stream_cutoff ≤ size }
-    requires limit { len_of mini.old entry + length bytes.now ≤ max_stream_len (version_of mini.old) }
+    requires limit { len_of mini.old entry + length bytes.now
+        ≤ max_stream_len (version_of mini.old) }
     requires enough { LacksNumbersFor mini.old entry size → ⊥ }
     ensures count { IfOk result (λ n. (0 < n) × (n ≤ length bytes.now)) }
     ensures len { IfOk result (λ n. len_of mini.new entry ≡ len_of mini.old entry + n) }
     ensures content { IsTrue F.tells → (validation : Validation) → IsChangeable validation mini.old
         → IfOk result (λ n. content_of mini.new (entry_at (entries_of mini.new) entry)
-        ≡ written (content_of mini.old (entry_at (entries_of mini.old) entry)) (len_of mini.old entry) (take n bytes.now)) }
+        ≡ written (content_of mini.old (entry_at (entries_of mini.old) entry))
+        (len_of mini.old entry) (take n bytes.now)) }
     ensures moves { MovesAlone mini.old mini.new entry }
     ensures spares { IsTrue F.tells → SparesOthers mini.old mini.new entry }
     ensures changed { IsTrue F.tells → OnOk result (WasChanged mini.old mini.new entry) }
     ensures tight { OnOk result (KeepsTablesTight mini.old mini.new) }
-    ensures stays_full { IsTrue F.tells → (validation : Validation) → IsChangeable validation mini.old → LeavesNoMinis mini.old entry (len_of mini.old entry + length bytes.now)
+    ensures stays_full { IsTrue F.tells
+        → (validation : Validation) → IsChangeable validation mini.old
+        → LeavesNoMinis mini.old entry (len_of mini.old entry + length bytes.now)
         → NoneFree (tables_in mini.old).fat → OnOk result (NoneFree (tables_in mini.new).fat) }
     ensures refused { IsTrue F.tells → IfErr result (StopsOrIsFull mini.old mini.new) }
-    ensures still { OnErr result (IsStill mini.old mini.new ⊎ ((table_of mini.new).file.begun ≡ true)) }
-    ensures err { IfErr result (ChangeRefused (IsTrue F.tells → IsNotChangeable mini.old) Unit ⊥ Unit) }
+    ensures still { OnErr result (IsStill mini.old mini.new
+        ⊎ ((table_of mini.new).file.begun ≡ true)) }
+    ensures err { IfErr result
+        (ChangeRefused (IsTrue F.tells → IsNotChangeable mini.old) Unit ⊥ Unit) }
     ensures counts { IsTrue F.tells
-        → CountsFailure (λ f. F.read_faults f || F.write_faults f) result (table_of mini.old).file.failures (table_of mini.new).file.failures }
+        → CountsFailure (λ f. F.read_faults f || F.write_faults f) result
+        (table_of mini.old).file.failures (table_of mini.new).file.failures }
 {
     let (_, len) = content_in(mini, entry);
     let count = (size - len) as usize;
@@ -177,25 +205,31 @@ pub(crate) fn append_long<F: Medium, A: Heap + Clone>(
     requires stream { IsStreamOf mini.old entry }
     requires some { 0 < length bytes.now }
     requires large { mini_stream_cutoff ≤ len_of mini.old entry }
-    requires limit { len_of mini.old entry + length bytes.now ≤ max_stream_len (version_of mini.old) }
+    requires limit { len_of mini.old entry + length bytes.now
+        ≤ max_stream_len (version_of mini.old) }
     ensures count { IfOk result (λ n. (0 < n) × (n ≤ length bytes.now)) }
     ensures len { IfOk result (λ n. len_of mini.new entry ≡ len_of mini.old entry + n) }
     ensures content { IsTrue F.tells → (validation : Validation) → IsChangeable validation mini.old
         → IfOk result (λ n. content_of mini.new (entry_at (entries_of mini.new) entry)
-        ≡ written (content_of mini.old (entry_at (entries_of mini.old) entry)) (len_of mini.old entry) (take n bytes.now)) }
+        ≡ written (content_of mini.old (entry_at (entries_of mini.old) entry))
+        (len_of mini.old entry) (take n bytes.now)) }
     ensures moves { MovesAlone mini.old mini.new entry }
     ensures spares { IsTrue F.tells → SparesOthers mini.old mini.new entry }
     ensures changed { IsTrue F.tells → OnOk result (WasChanged mini.old mini.new entry) }
     ensures tight { OnOk result (KeepsTablesTight mini.old mini.new) }
-    ensures stays_full { IsTrue F.tells → (validation : Validation) → IsChangeable validation mini.old
+    ensures stays_full { IsTrue F.tells
+        → (validation : Validation) → IsChangeable validation mini.old
         → NoneFree (tables_in mini.old).fat → OnOk result (NoneFree (tables_in mini.new).fat) }
-    ensures refused { IsTrue F.tells → (validation : Validation) → HoldsMini validation mini.old → IfErr result (StopsOrIsFull mini.old mini.new) }
-    ensures still { OnErr result (IsStill mini.old mini.new ⊎ ((table_of mini.new).file.begun ≡ true)) }
+    ensures refused { IsTrue F.tells → (validation : Validation) → HoldsMini validation mini.old
+        → IfErr result (StopsOrIsFull mini.old mini.new) }
+    ensures still { OnErr result (IsStill mini.old mini.new
+        ⊎ ((table_of mini.new).file.begun ≡ true)) }
     ensures err { IfErr result (ChangeRefused (IsTrue F.tells → IsNotChangeable mini.old) Unit
         ((validation : Validation) → HoldsMini validation mini.old
         → IsTooLongFor mini.old entry (len_of mini.old entry + 1)) Unit) }
     ensures counts { IsTrue F.tells
-        → CountsFailure (λ f. F.read_faults f || F.write_faults f) result (table_of mini.old).file.failures (table_of mini.new).file.failures }
+        → CountsFailure (λ f. F.read_faults f || F.write_faults f) result
+        (table_of mini.old).file.failures (table_of mini.new).file.failures }
 {
     let (_, len) = content_in(mini, entry);
     let wanted = len + bytes.len() as u64;
@@ -217,23 +251,31 @@ pub(crate) fn append_long_all<F: Medium, A: Heap + Clone>(
     requires stream { IsStreamOf mini.old entry }
     requires some { 0 < length bytes.now }
     requires large { mini_stream_cutoff ≤ len_of mini.old entry + length bytes.now }
-    requires limit { len_of mini.old entry + length bytes.now ≤ max_stream_len (version_of mini.old) }
+    requires limit { len_of mini.old entry + length bytes.now
+        ≤ max_stream_len (version_of mini.old) }
     ensures len { OnOk result (len_of mini.new entry ≡ len_of mini.old entry + length bytes.now) }
     ensures content { IsTrue F.tells → (validation : Validation) → IsChangeable validation mini.old
         → OnOk result (content_of mini.new (entry_at (entries_of mini.new) entry)
-        ≡ written (content_of mini.old (entry_at (entries_of mini.old) entry)) (len_of mini.old entry) bytes.now) }
+        ≡ written (content_of mini.old (entry_at (entries_of mini.old) entry))
+        (len_of mini.old entry) bytes.now) }
     ensures moves { MovesAlone mini.old mini.new entry }
     ensures spares { IsTrue F.tells → SparesOthers mini.old mini.new entry }
     ensures changed { IsTrue F.tells → OnOk result (WasChanged mini.old mini.new entry) }
     ensures tight { OnOk result (KeepsTablesTight mini.old mini.new) }
-    ensures stays_full { IsTrue F.tells → (validation : Validation) → IsChangeable validation mini.old → LeavesNoMinis mini.old entry (len_of mini.old entry + length bytes.now)
+    ensures stays_full { IsTrue F.tells
+        → (validation : Validation) → IsChangeable validation mini.old
+        → LeavesNoMinis mini.old entry (len_of mini.old entry + length bytes.now)
         → NoneFree (tables_in mini.old).fat → OnOk result (NoneFree (tables_in mini.new).fat) }
-    ensures refused { IsTrue F.tells → (validation : Validation) → HoldsMini validation mini.old → IfErr result (StopsOrIsFull mini.old mini.new) }
-    ensures still { OnErr result (IsStill mini.old mini.new ⊎ ((table_of mini.new).file.begun ≡ true)) }
+    ensures refused { IsTrue F.tells → (validation : Validation) → HoldsMini validation mini.old
+        → IfErr result (StopsOrIsFull mini.old mini.new) }
+    ensures still { OnErr result (IsStill mini.old mini.new
+        ⊎ ((table_of mini.new).file.begun ≡ true)) }
     ensures err { IfErr result (ChangeRefused (IsTrue F.tells → IsNotChangeable mini.old) Unit
-        ((validation : Validation) → HoldsMini validation mini.old → IsTooLongFor mini.old entry (len_of mini.old entry + length bytes.now)) Unit) }
+        ((validation : Validation) → HoldsMini validation mini.old
+        → IsTooLongFor mini.old entry (len_of mini.old entry + length bytes.now)) Unit) }
     ensures counts { IsTrue F.tells
-        → CountsFailure (λ f. F.read_faults f || F.write_faults f) result (table_of mini.old).file.failures (table_of mini.new).file.failures }
+        → CountsFailure (λ f. F.read_faults f || F.write_faults f) result
+        (table_of mini.old).file.failures (table_of mini.new).file.failures }
 {
     let (_, len) = content_in(mini, entry);
     let wanted = len + bytes.len() as u64;

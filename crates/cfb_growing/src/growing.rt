@@ -36,8 +36,8 @@ pub(crate) fn len_in_sectors<F: ReadMedium, A: Heap + Clone>(
     requires longer { len_of mini.now entry < wanted }
     ensures within { IfOk result (λ len. (len_of mini.now entry ≤ len) × (len ≤ wanted)) }
     ensures enough { IfOk result (λ len. LacksNumbersFor mini.now entry len → ⊥) }
-    ensures none { IfOk result (λ len. len ≡ len_of mini.now entry
-        → (size : ℕ) → len_of mini.now entry < size → size ≤ wanted → LacksNumbersFor mini.now entry size) }
+    ensures none { IfOk result (λ len. len ≡ len_of mini.now entry → (size : ℕ)
+        → len_of mini.now entry < size → size ≤ wanted → LacksNumbersFor mini.now entry size) }
     ensures err { IfErr result (ChangeRefused (IsNotChangeable mini.now) Unit ⊥ ⊥) }
 {
     let (start, len) = content_in(mini, entry);
@@ -61,8 +61,8 @@ pub(crate) fn len_once_moved<F: ReadMedium, A: Heap + Clone>(
     requires small { len_of mini.now entry < mini_stream_cutoff }
     ensures within { IfOk result (λ len. 0 < len → (mini_stream_cutoff ≤ len) × (len ≤ wanted)) }
     ensures enough { IfOk result (λ len. 0 < len → LacksNumbersFor mini.now entry len → ⊥) }
-    ensures none { IfOk result (λ len. len ≡ 0
-        → (size : ℕ) → mini_stream_cutoff ≤ size → size ≤ wanted → LacksNumbersFor mini.now entry size) }
+    ensures none { IfOk result (λ len. len ≡ 0 → (size : ℕ) → mini_stream_cutoff ≤ size
+        → size ≤ wanted → LacksNumbersFor mini.now entry size) }
     ensures err { IfErr result (ChangeRefused (IsNotChangeable mini.now) Unit ⊥ ⊥) }
 {
     let cutoff = MINI_STREAM_CUTOFF as u64;
@@ -91,9 +91,11 @@ fn len_in_minis<F: ReadMedium, A: Heap + Clone>(
     requires small { len_of mini.now entry < mini_stream_cutoff }
     requires longer { len_of mini.now entry < wanted }
     ensures within { IfOk result (λ len. (len_of mini.now entry ≤ len) × (len ≤ wanted)) }
-    ensures enough { IfOk result (λ len. (validation : Validation) → HoldsMini validation mini.now → LacksNumbersFor mini.now entry len → ⊥) }
+    ensures enough { IfOk result (λ len. (validation : Validation) → HoldsMini validation mini.now
+        → LacksNumbersFor mini.now entry len → ⊥) }
     ensures none { IfOk result (λ len. len ≡ len_of mini.now entry
-        → (size : ℕ) → len_of mini.now entry < size → size ≤ wanted → size < mini_stream_cutoff → LacksNumbersFor mini.now entry size) }
+        → (size : ℕ) → len_of mini.now entry < size → size ≤ wanted → size < mini_stream_cutoff
+        → LacksNumbersFor mini.now entry size) }
     ensures err { IfErr result (ChangeRefused (IsNotChangeable mini.now) Unit ⊥ ⊥) }
 {
     let (start, len) = content_in(mini, entry);
@@ -116,9 +118,10 @@ fn grown_len<F: ReadMedium, A: Heap + Clone>(
     requires stream { IsStreamOf mini.now entry }
     requires longer { len_of mini.now entry < wanted }
     ensures within { IfOk result (λ len. (len_of mini.now entry ≤ len) × (len ≤ wanted)) }
-    ensures enough { IfOk result (λ len. (validation : Validation) → HoldsMini validation mini.now → LacksNumbersFor mini.now entry len → ⊥) }
-    ensures none { IfOk result (λ len. len ≡ len_of mini.now entry
-        → (size : ℕ) → len_of mini.now entry < size → size ≤ wanted → LacksNumbersFor mini.now entry size) }
+    ensures enough { IfOk result (λ len. (validation : Validation) → HoldsMini validation mini.now
+        → LacksNumbersFor mini.now entry len → ⊥) }
+    ensures none { IfOk result (λ len. len ≡ len_of mini.now entry → (size : ℕ)
+        → len_of mini.now entry < size → size ≤ wanted → LacksNumbersFor mini.now entry size) }
     ensures err { IfErr result (ChangeRefused (IsNotChangeable mini.now) Unit ⊥ ⊥) }
 {
     let (_, len) = content_in(mini, entry);
@@ -134,7 +137,8 @@ fn grown_len<F: ReadMedium, A: Heap + Clone>(
 
 /// How many mini sectors there can be more: those that are free, and those up to their limit.
 fn minis_left<F: ReadMedium, A: Heap>(mini: &MiniAllocator<F, A>) -> usize
-    ensures left { result ≡ free_count mini.now.minifat + (max_mini_sectors (version_of mini.now) - length mini.now.minifat) }
+    ensures left { result ≡ free_count mini.now.minifat
+        + (max_mini_sectors (version_of mini.now) - length mini.now.minifat) }
     ensures within { length mini.now.minifat ≤ mini.now.max_mini_sectors }
 {
     let limit = max_len(mini.version()) as usize;
@@ -161,10 +165,13 @@ fn take_minis_left<F: Medium, A: Heap + Clone>(
     ensures around { KeepsAround mini.old mini.new }
     ensures full { OnOk result (IsFullOfMiniSectors (parts_of mini.new)) }
     ensures begun { OnOk result ((mini.new ≡ mini.old) ⊎ ((table_of mini.new).file.begun ≡ true)) }
-    ensures refused { (validation : Validation) → HoldsMini validation mini.old → IfErr result (StopsOrIsFull mini.old mini.new) }
-    ensures still { OnErr result (IsStill mini.old mini.new ⊎ ((table_of mini.new).file.begun ≡ true)) }
+    ensures refused { (validation : Validation) → HoldsMini validation mini.old
+        → IfErr result (StopsOrIsFull mini.old mini.new) }
+    ensures still { OnErr result (IsStill mini.old mini.new
+        ⊎ ((table_of mini.new).file.begun ≡ true)) }
     ensures err { IfErr result (ChangeRefused (IsNotChangeable mini.old) Unit Unit Unit) }
-    ensures counts { IsTrue F.tells → CountsFailure F.write_faults result (table_of mini.old).file.failures (table_of mini.new).file.failures }
+    ensures counts { IsTrue F.tells → CountsFailure F.write_faults result
+        (table_of mini.old).file.failures (table_of mini.new).file.failures }
 {
     let left = minis_left(mini);
     if left == 0 {
@@ -186,10 +193,13 @@ fn take_sectors_left<F: Medium, A: Heap + Clone>(
     ensures around { KeepsAround mini.old mini.new }
     ensures full { OnOk result (AreFullTables (tables_in mini.new)) }
     ensures begun { OnOk result ((mini.new ≡ mini.old) ⊎ ((table_of mini.new).file.begun ≡ true)) }
-    ensures refused { (validation : Validation) → HoldsMini validation mini.old → IfErr result (StopsOrIsFull mini.old mini.new) }
-    ensures still { OnErr result (IsStill mini.old mini.new ⊎ ((table_of mini.new).file.begun ≡ true)) }
+    ensures refused { (validation : Validation) → HoldsMini validation mini.old
+        → IfErr result (StopsOrIsFull mini.old mini.new) }
+    ensures still { OnErr result (IsStill mini.old mini.new
+        ⊎ ((table_of mini.new).file.begun ≡ true)) }
     ensures err { IfErr result (ChangeRefused (IsNotChangeable mini.old) Unit Unit Unit) }
-    ensures counts { IsTrue F.tells → CountsFailure F.write_faults result (table_of mini.old).file.failures (table_of mini.new).file.failures }
+    ensures counts { IsTrue F.tells → CountsFailure F.write_faults result
+        (table_of mini.old).file.failures (table_of mini.new).file.failures }
 {
     let allocator = mini.allocator_mut();
     let rest = allocator.takable(needed);
@@ -208,12 +218,16 @@ pub(crate) fn take_the_rest<F: Medium, A: Heap + Clone>(
     requires stuck { LacksNumbersFor mini.old entry wanted }
     ensures spares { IsTrue F.tells → SparesOthers mini.old mini.new entry }
     ensures around { KeepsAround mini.old mini.new }
-    ensures full { OnOk result (IsFullOfMiniSectors (parts_of mini.new) ⊎ AreFullTables (tables_in mini.new)) }
+    ensures full { OnOk result (IsFullOfMiniSectors (parts_of mini.new)
+        ⊎ AreFullTables (tables_in mini.new)) }
     ensures begun { OnOk result ((mini.new ≡ mini.old) ⊎ ((table_of mini.new).file.begun ≡ true)) }
-    ensures refused { (validation : Validation) → HoldsMini validation mini.old → IfErr result (StopsOrIsFull mini.old mini.new) }
-    ensures still { OnErr result (IsStill mini.old mini.new ⊎ ((table_of mini.new).file.begun ≡ true)) }
+    ensures refused { (validation : Validation) → HoldsMini validation mini.old
+        → IfErr result (StopsOrIsFull mini.old mini.new) }
+    ensures still { OnErr result (IsStill mini.old mini.new
+        ⊎ ((table_of mini.new).file.begun ≡ true)) }
     ensures err { IfErr result (ChangeRefused (IsNotChangeable mini.old) Unit Unit Unit) }
-    ensures counts { IsTrue F.tells → CountsFailure F.write_faults result (table_of mini.old).file.failures (table_of mini.new).file.failures }
+    ensures counts { IsTrue F.tells → CountsFailure F.write_faults result
+        (table_of mini.old).file.failures (table_of mini.new).file.failures }
 {
     if wanted < MINI_STREAM_CUTOFF as u64 {
         let count = wanted.div_ceil(MINI_SECTOR_LEN as u64) as usize;
@@ -237,19 +251,25 @@ pub fn grow_content<F: Medium, A: Heap + Clone>(
     requires stream { IsStreamOf mini.old entry }
     requires longer { len_of mini.old entry < wanted }
     requires limit { wanted ≤ max_stream_len (version_of mini.old) }
-    ensures len { IfOk result (λ len. (len_of mini.new entry ≡ len) × (len_of mini.old entry < len) × (len ≤ wanted)) }
-    ensures content { IsTrue F.tells → OnOk result (ResizesContent mini.old mini.new entry (len_of mini.new entry)) }
+    ensures len { IfOk result (λ len.
+        (len_of mini.new entry ≡ len) × (len_of mini.old entry < len) × (len ≤ wanted)) }
+    ensures content { IsTrue F.tells
+        → OnOk result (ResizesContent mini.old mini.new entry (len_of mini.new entry)) }
     ensures moves { MovesAlone mini.old mini.new entry }
     ensures spares { IsTrue F.tells → SparesOthers mini.old mini.new entry }
     ensures changed { IsTrue F.tells → OnOk result (WasChanged mini.old mini.new entry) }
     ensures tight { OnOk result (KeepsTablesTight mini.old mini.new) }
     ensures begun { OnOk result ((table_of mini.new).file.begun ≡ true) }
-    ensures refused { IsTrue F.tells → (validation : Validation) → HoldsMini validation mini.old → IfErr result (StopsOrIsFull mini.old mini.new) }
-    ensures still { OnErr result (IsStill mini.old mini.new ⊎ ((table_of mini.new).file.begun ≡ true)) }
+    ensures refused { IsTrue F.tells → (validation : Validation) → HoldsMini validation mini.old
+        → IfErr result (StopsOrIsFull mini.old mini.new) }
+    ensures still { OnErr result (IsStill mini.old mini.new
+        ⊎ ((table_of mini.new).file.begun ≡ true)) }
     ensures err { IfErr result (ChangeRefused (IsTrue F.tells → IsNotChangeable mini.old) Unit
-        ((validation : Validation) → HoldsMini validation mini.old → IsTooLongFor mini.old entry (len_of mini.old entry + 1)) Unit) }
+        ((validation : Validation) → HoldsMini validation mini.old
+        → IsTooLongFor mini.old entry (len_of mini.old entry + 1)) Unit) }
     ensures counts { IsTrue F.tells
-        → CountsFailure (λ f. F.read_faults f || F.write_faults f) result (table_of mini.old).file.failures (table_of mini.new).file.failures }
+        → CountsFailure (λ f. F.read_faults f || F.write_faults f) result
+        (table_of mini.old).file.failures (table_of mini.new).file.failures }
 {
     let (_, len) = content_in(mini, entry);
     if !mini.directory().is_placed() {
@@ -286,12 +306,16 @@ pub(crate) fn grow_to<F: Medium, A: Heap + Clone>(
     ensures changed { IsTrue F.tells → OnOk result (WasChanged mini.old mini.new entry) }
     ensures tight { OnOk result (KeepsTablesTight mini.old mini.new) }
     ensures begun { OnOk result ((table_of mini.new).file.begun ≡ true) }
-    ensures refused { IsTrue F.tells → (validation : Validation) → HoldsMini validation mini.old → IfErr result (StopsOrIsFull mini.old mini.new) }
-    ensures still { OnErr result (IsStill mini.old mini.new ⊎ ((table_of mini.new).file.begun ≡ true)) }
+    ensures refused { IsTrue F.tells → (validation : Validation) → HoldsMini validation mini.old
+        → IfErr result (StopsOrIsFull mini.old mini.new) }
+    ensures still { OnErr result (IsStill mini.old mini.new
+        ⊎ ((table_of mini.new).file.begun ≡ true)) }
     ensures err { IfErr result (ChangeRefused (IsTrue F.tells → IsNotChangeable mini.old) Unit
-        ((validation : Validation) → HoldsMini validation mini.old → IsTooLongFor mini.old entry wanted) Unit) }
+        ((validation : Validation) → HoldsMini validation mini.old
+        → IsTooLongFor mini.old entry wanted) Unit) }
     ensures counts { IsTrue F.tells
-        → CountsFailure (λ f. F.read_faults f || F.write_faults f) result (table_of mini.old).file.failures (table_of mini.new).file.failures }
+        → CountsFailure (λ f. F.read_faults f || F.write_faults f) result
+        (table_of mini.old).file.failures (table_of mini.new).file.failures }
 {
     if !mini.directory().is_placed() {
         return Err(unplaced(entry));

@@ -42,25 +42,32 @@ fn append_content<F: Medium, A: Heap + Clone>(
 ) -> Result<usize, Error>
     requires stream { IsStreamOf mini.old entry }
     requires some { 0 < length bytes.now }
-    requires limit { len_of mini.old entry + length bytes.now ≤ max_stream_len (version_of mini.old) }
+    requires limit { len_of mini.old entry + length bytes.now
+        ≤ max_stream_len (version_of mini.old) }
     ensures count { IfOk result (λ n. (0 < n) × (n ≤ length bytes.now)) }
     ensures len { IfOk result (λ n. len_of mini.new entry ≡ len_of mini.old entry + n) }
     ensures content { IsTrue F.tells → (validation : Validation) → IsChangeable validation mini.old
         → IfOk result (λ n. content_of mini.new (entry_at (entries_of mini.new) entry)
-        ≡ written (content_of mini.old (entry_at (entries_of mini.old) entry)) (len_of mini.old entry) (take n bytes.now)) }
+        ≡ written (content_of mini.old (entry_at (entries_of mini.old) entry))
+        (len_of mini.old entry) (take n bytes.now)) }
     ensures moves { MovesAlone mini.old mini.new entry }
     ensures spares { IsTrue F.tells → SparesOthers mini.old mini.new entry }
     ensures changed { IsTrue F.tells → OnOk result (WasChanged mini.old mini.new entry) }
     ensures tight { OnOk result (KeepsTablesTight mini.old mini.new) }
-    ensures stays_full { IsTrue F.tells → (validation : Validation) → IsChangeable validation mini.old → LeavesNoMinis mini.old entry (len_of mini.old entry + length bytes.now)
+    ensures stays_full { IsTrue F.tells
+        → (validation : Validation) → IsChangeable validation mini.old
+        → LeavesNoMinis mini.old entry (len_of mini.old entry + length bytes.now)
         → NoneFree (tables_in mini.old).fat → OnOk result (NoneFree (tables_in mini.new).fat) }
-    ensures refused { IsTrue F.tells → (validation : Validation) → HoldsMini validation mini.old → IfErr result (StopsOrIsFull mini.old mini.new) }
-    ensures still { OnErr result (IsStill mini.old mini.new ⊎ ((table_of mini.new).file.begun ≡ true)) }
+    ensures refused { IsTrue F.tells → (validation : Validation) → HoldsMini validation mini.old
+        → IfErr result (StopsOrIsFull mini.old mini.new) }
+    ensures still { OnErr result (IsStill mini.old mini.new
+        ⊎ ((table_of mini.new).file.begun ≡ true)) }
     ensures err { IfErr result (ChangeRefused (IsTrue F.tells → IsNotChangeable mini.old) Unit
         ((validation : Validation) → HoldsMini validation mini.old
         → IsTooLongFor mini.old entry (len_of mini.old entry + 1)) Unit) }
     ensures counts { IsTrue F.tells
-        → CountsFailure (λ f. F.read_faults f || F.write_faults f) result (table_of mini.old).file.failures (table_of mini.new).file.failures }
+        → CountsFailure (λ f. F.read_faults f || F.write_faults f) result
+        (table_of mini.old).file.failures (table_of mini.new).file.failures }
 {
     let (_, len) = content_in(mini, entry);
     if len >= MINI_STREAM_CUTOFF as u64 {
@@ -101,23 +108,27 @@ pub fn put_content<F: Medium, A: Heap + Clone>(
     ensures none { length bytes.now ≡ 0 → OnErr result ⊥ × (mini.new ≡ mini.old) }
     ensures len { IfOk result (λ n. len_of mini.new entry ≡ max (len_of mini.old entry) (at + n)) }
     ensures content { IsTrue F.tells → (validation : Validation) → IsChangeable validation mini.old
-        → IfOk result (λ n. content_of mini.new (entry_at (entries_of mini.new) entry)
-        ≡ written (content_of mini.old (entry_at (entries_of mini.old) entry)) at (take n bytes.now)) }
+        → IfOk result (λ n. content_of mini.new (entry_at (entries_of mini.new) entry) ≡ written
+        (content_of mini.old (entry_at (entries_of mini.old) entry)) at (take n bytes.now)) }
     ensures moves { MovesAlone mini.old mini.new entry }
     ensures spares { IsTrue F.tells → SparesOthers mini.old mini.new entry }
     ensures changed { IsTrue F.tells → OnOk result (WasChanged mini.old mini.new entry) }
     ensures tight { OnOk result (KeepsTablesTight mini.old mini.new) }
-    ensures stays_full { IsTrue F.tells → (validation : Validation) → IsChangeable validation mini.old → LeavesNoMinis mini.old entry (at + length bytes.now)
+    ensures stays_full { IsTrue F.tells → (validation : Validation)
+        → IsChangeable validation mini.old → LeavesNoMinis mini.old entry (at + length bytes.now)
         → NoneFree (tables_in mini.old).fat → OnOk result (NoneFree (tables_in mini.new).fat) }
     ensures within { (at < len_of mini.old entry) ⊎ (length bytes.now ≡ 0)
         → ChangesFileAlone mini.old mini.new }
-    ensures refused { IsTrue F.tells → (validation : Validation) → HoldsMini validation mini.old → IfErr result (StopsOrIsFull mini.old mini.new) }
-    ensures still { OnErr result (IsStill mini.old mini.new ⊎ ((table_of mini.new).file.begun ≡ true)) }
+    ensures refused { IsTrue F.tells → (validation : Validation) → HoldsMini validation mini.old
+        → IfErr result (StopsOrIsFull mini.old mini.new) }
+    ensures still { OnErr result (IsStill mini.old mini.new
+        ⊎ ((table_of mini.new).file.begun ≡ true)) }
     ensures err { IfErr result (ChangeRefused (IsTrue F.tells → IsNotChangeable mini.old) Unit
         ((len_of mini.old entry ≤ at) × ((validation : Validation) → HoldsMini validation mini.old
         → IsTooLongFor mini.old entry (len_of mini.old entry + 1))) Unit) }
     ensures counts { IsTrue F.tells
-        → CountsFailure (λ f. F.read_faults f || F.write_faults f) result (table_of mini.old).file.failures (table_of mini.new).file.failures }
+        → CountsFailure (λ f. F.read_faults f || F.write_faults f) result
+        (table_of mini.old).file.failures (table_of mini.new).file.failures }
 {
     if bytes.is_empty() {
         return Ok(0);
@@ -141,24 +152,32 @@ pub fn append_all<F: Medium, A: Heap + Clone>(
     bytes: &[u8],
 ) -> Result<(), Error>
     requires stream { IsStreamOf mini.old entry }
-    requires limit { len_of mini.old entry + length bytes.now ≤ max_stream_len (version_of mini.old) }
+    requires limit { len_of mini.old entry + length bytes.now
+        ≤ max_stream_len (version_of mini.old) }
     ensures len { OnOk result (len_of mini.new entry ≡ len_of mini.old entry + length bytes.now) }
     ensures none { length bytes.now ≡ 0 → OnErr result ⊥ × (mini.new ≡ mini.old) }
     ensures content { IsTrue F.tells → (validation : Validation) → IsChangeable validation mini.old
         → OnOk result (content_of mini.new (entry_at (entries_of mini.new) entry)
-        ≡ written (content_of mini.old (entry_at (entries_of mini.old) entry)) (len_of mini.old entry) bytes.now) }
+        ≡ written (content_of mini.old (entry_at (entries_of mini.old) entry))
+        (len_of mini.old entry) bytes.now) }
     ensures moves { MovesAlone mini.old mini.new entry }
     ensures spares { IsTrue F.tells → SparesOthers mini.old mini.new entry }
     ensures changed { IsTrue F.tells → OnOk result (WasChanged mini.old mini.new entry) }
     ensures tight { OnOk result (KeepsTablesTight mini.old mini.new) }
-    ensures stays_full { IsTrue F.tells → (validation : Validation) → IsChangeable validation mini.old → LeavesNoMinis mini.old entry (len_of mini.old entry + length bytes.now)
+    ensures stays_full { IsTrue F.tells
+        → (validation : Validation) → IsChangeable validation mini.old
+        → LeavesNoMinis mini.old entry (len_of mini.old entry + length bytes.now)
         → NoneFree (tables_in mini.old).fat → OnOk result (NoneFree (tables_in mini.new).fat) }
-    ensures refused { IsTrue F.tells → (validation : Validation) → HoldsMini validation mini.old → IfErr result (StopsOrIsFull mini.old mini.new) }
-    ensures still { OnErr result (IsStill mini.old mini.new ⊎ ((table_of mini.new).file.begun ≡ true)) }
+    ensures refused { IsTrue F.tells → (validation : Validation) → HoldsMini validation mini.old
+        → IfErr result (StopsOrIsFull mini.old mini.new) }
+    ensures still { OnErr result (IsStill mini.old mini.new
+        ⊎ ((table_of mini.new).file.begun ≡ true)) }
     ensures err { IfErr result (ChangeRefused (IsTrue F.tells → IsNotChangeable mini.old) Unit
-        ((validation : Validation) → HoldsMini validation mini.old → IsTooLongFor mini.old entry (len_of mini.old entry + length bytes.now)) Unit) }
+        ((validation : Validation) → HoldsMini validation mini.old
+        → IsTooLongFor mini.old entry (len_of mini.old entry + length bytes.now)) Unit) }
     ensures counts { IsTrue F.tells
-        → CountsFailure (λ f. F.read_faults f || F.write_faults f) result (table_of mini.old).file.failures (table_of mini.new).file.failures }
+        → CountsFailure (λ f. F.read_faults f || F.write_faults f) result
+        (table_of mini.old).file.failures (table_of mini.new).file.failures }
 {
     if bytes.is_empty() {
         return Ok(());

@@ -48,7 +48,8 @@ pub fn storage_at<F: ReadMedium, A: Heap>(
     mini: &MiniAllocator<F, A>,
     names: &[&str],
 ) -> Result<u32, Error>
-    ensures { IfOk result (λ number. IsReachedStorage (cases_of mini.now) (entries_of mini.now) number) }
+    ensures { IfOk result (λ number.
+        IsReachedStorage (cases_of mini.now) (entries_of mini.now) number) }
 {
     let Some(number) = mini.stream_id_for_name_chain(names) else {
         return Err(Error::NotFound(Detail::text("nothing stands there")));

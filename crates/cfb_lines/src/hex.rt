@@ -8,7 +8,8 @@ use std::alloc::Allocator;
 
 /// The value of a digit, in lower case.
 fn digit_value(byte: u8) -> Option<u8>
-    ensures { MatchOption result ((d : ℕ) → d < 16 → hex_digit d ≢ byte) (λ d. (d < 16) × (hex_digit d ≡ byte)) }
+    ensures { MatchOption result ((d : ℕ) → d < 16 → hex_digit d ≢ byte)
+        (λ d. (d < 16) × (hex_digit d ≡ byte)) }
 {
     match byte {
         b'0'..=b'9' => Some(byte - b'0'),
@@ -20,7 +21,8 @@ fn digit_value(byte: u8) -> Option<u8>
 /// The byte of the first two digits.
 fn first_byte(digits: &[u8]) -> Option<u8>
     requires { 2 ≤ length digits.now }
-    ensures { MatchOption result ((bytes : List ℕ) → IsHex digits.now bytes → ⊥) (λ b. (b < 256) × (digits.now ≡ hex_pair b ++ drop 2 digits.now)) }
+    ensures { MatchOption result ((bytes : List ℕ) → IsHex digits.now bytes → ⊥)
+        (λ b. (b < 256) × (digits.now ≡ hex_pair b ++ drop 2 digits.now)) }
 {
     let Some(high) = digit_value(digits[0]) else {
         return None;

@@ -21,8 +21,8 @@ use std::io::SeekFrom;
 
 /// The word of a line, the path, and the field behind it, if there is one.
 fn fields_of(line: &str) -> Option<(Word, &str, Option<&str>)>
-    ensures { MatchOption result
-        ((w : TheWord) (path : List ℕ) (rest : List (List ℕ)) → slice_split (λ b. b == 9) line.now ≡ spelling w ∷ path ∷ rest → length rest ≤ 1 → ⊥)
+    ensures { MatchOption result ((w : TheWord) (path : List ℕ) (rest : List (List ℕ))
+        → slice_split (λ b. b == 9) line.now ≡ spelling w ∷ path ∷ rest → length rest ≤ 1 → ⊥)
         (λ f. slice_split (λ b. b == 9) line.now ≡ spelling f.0 ∷ f.1.now ∷ last_fields f.2) }
 {
     let (word, behind) = cut(line);
@@ -112,7 +112,8 @@ fn on_stream<A: Heap + Clone>(
     first: Option<StreamOp<A>>,
     last: StreamOp<A>,
 ) -> Result<Command<A>, LinesError>
-    ensures ok { IfOk result (λ c. command_of c ≡ rules.on_stream (opening_of how) (chars (string_bytes path)) (map stream_call_of (option_to_list first ++ last ∷ []))) }
+    ensures ok { IfOk result (λ c. command_of c ≡ rules.on_stream (opening_of how)
+        (chars (string_bytes path)) (map stream_call_of (option_to_list first ++ last ∷ []))) }
     ensures memory { IfErr result (λ e. e ≡ LinesError.Memory) }
 {
     let mut ops = Vec::new(alloc.clone()?);
@@ -130,8 +131,10 @@ fn command_with<A: Heap + Clone>(
     path: &str,
     last: Option<&str>,
 ) -> Result<Command<A>, LinesError>
-    ensures found { IfOk result (λ c. Says word (chars path.entry.now) (last_fields last.entry) (command_of c)) }
-    ensures wrong { IfErr result (WrongIf ((c : Ordered) → Says word (chars path.entry.now) (last_fields last.entry) c → ⊥)) }
+    ensures found { IfOk result (λ c.
+        Says word (chars path.entry.now) (last_fields last.entry) (command_of c)) }
+    ensures wrong { IfErr result (WrongIf ((c : Ordered)
+        → Says word (chars path.entry.now) (last_fields last.entry) c → ⊥)) }
 {
     let path = String::from_str(alloc.clone()?, path)?;
     match word {
@@ -184,7 +187,8 @@ pub fn commands_in<A: Heap + Clone>(
     input: &[u8],
 ) -> Result<Vec<Command<A>, A>, LinesError>
     ensures found { IfOk result (λ v. IsScript input.now (map command_of v.items)) }
-    ensures wrong { IfErr result (WrongIf ((commands : List Ordered) → IsScript input.now commands → ⊥)) }
+    ensures wrong { IfErr result
+        (WrongIf ((commands : List Ordered) → IsScript input.now commands → ⊥)) }
 {
     let Ok(text) = str::from_utf8(input) else {
         return Err(LinesError::WrongWords);

@@ -248,7 +248,8 @@ impl<'a, F: Medium, A: Heap> MiniChain<'a, F, A> {
             }) }
         ensures there { IfOk result (λ n. 0 < n → HasMiniSectorAt self.old (position_of self.old)) }
         ensures cut { 0 < min (length from.now) (left_of self.old)
-            → (HasMiniSectorAt self.old (position_of self.old) → ⊥) → IsErrAnd result IsInvalidData }
+            → (HasMiniSectorAt self.old (position_of self.old) → ⊥)
+            → IsErrAnd result IsInvalidData }
         ensures err { IfErr result (ChangeRefused (HasMiniSectorAt self.old (position_of self.old)
             → ⊥) ⊥ ⊥ Unit) }
         ensures places { IsTrue F.tells
@@ -341,13 +342,13 @@ impl<'a, F: Medium, A: Heap> MiniChain<'a, F, A> {
         ensures position { position_of self.new ≡ position_of self.old }
         ensures none { offset % mini_sector_len ≡ 0
             → OnErr result ⊥ × (state_of self.new ≡ state_of self.old) }
-        ensures ok { IsTrue F.tells
-            → 0 < offset % mini_sector_len → OnOk result ((table_of (state_of self.new)).file
+        ensures ok { IsTrue F.tells → 0 < offset % mini_sector_len
+            → OnOk result ((table_of (state_of self.new)).file
             ≡ record (table_of (state_of self.old)).file {
-              bytes = written (file_bytes_of self.old)
-                  (place_at self.old offset) (replicate (mini_sector_len - offset % mini_sector_len) 0);
-              len = max (table_of (state_of self.old)).file.len (place_at self.old offset
-                  + (mini_sector_len - offset % mini_sector_len));
+              bytes = written (file_bytes_of self.old) (place_at self.old offset)
+                  (replicate (mini_sector_len - offset % mini_sector_len) 0);
+              len = max (table_of (state_of self.old)).file.len
+                  (place_at self.old offset + (mini_sector_len - offset % mini_sector_len));
               begun = true;
             }) }
         ensures cut { 0 < offset % mini_sector_len
@@ -481,8 +482,8 @@ impl<'a, F: Medium, A: Heap> MiniChain<'a, F, A> {
             × (start_sector_of self.new ≡ start_sector_of self.old))) }
         ensures err { IfErr result (ChangeRefused (IsNotHeld (state_of self.old)) Unit
             (IsTooFewFor (state_of self.old) (missing_of self.old (length from.now))) Unit) }
-        ensures needed { missing_of self.old (length from.now) ≡ 0
-            → IfErr result (ChangeRefused (HasMiniSectorAt self.old (position_of self.old) → ⊥) ⊥ ⊥ Unit) }
+        ensures needed { missing_of self.old (length from.now) ≡ 0 → IfErr result
+            (ChangeRefused (HasMiniSectorAt self.old (position_of self.old) → ⊥) ⊥ ⊥ Unit) }
         ensures counts { IsTrue F.tells
             → CountsFailure F.write_faults result (table_of (state_of self.old)).file.failures
             (table_of (state_of self.new)).file.failures }

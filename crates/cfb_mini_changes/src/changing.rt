@@ -417,7 +417,8 @@ fn grow_sectors<F: Medium, A: Heap>(
         (mini_of directory.new table.now minifat_sectors.new.items (Some stream.new.items))) }
     ensures whole { IsTrue F.tells → (validation : Validation) → HoldsMini validation
         (mini_of directory.old table.now minifat_sectors.old.items (Some stream.old.items))
-        → IsOfWholeSectors directory.old.table → OnOk result (IsOfWholeSectors directory.new.table) }
+        → IsOfWholeSectors directory.old.table
+        → OnOk result (IsOfWholeSectors directory.new.table) }
     ensures spares { IsTrue F.tells
         → Spares (system_sectors (mini_of directory.old table.now minifat_sectors.old.items
         (Some stream.old.items))) directory.old.table directory.new.table }
@@ -503,7 +504,8 @@ pub fn extend_listed<F: Medium, A: Heap>(
         (mini_of directory.new table.new minifat_sectors.new.items (Some stream.new.items)) m) }
     ensures whole { IsTrue F.tells → (validation : Validation) → HoldsMini validation
         (mini_of directory.old table.old minifat_sectors.old.items (Some stream.old.items))
-        → IsOfWholeSectors directory.old.table → OnOk result (IsOfWholeSectors directory.new.table) }
+        → IsOfWholeSectors directory.old.table
+        → OnOk result (IsOfWholeSectors directory.new.table) }
     ensures spares { IsTrue F.tells
         → Spares (system_sectors (mini_of directory.old table.old minifat_sectors.old.items
         (Some stream.old.items))) directory.old.table directory.new.table }
@@ -870,8 +872,8 @@ pub fn cut_listed<F: Medium, A: Heap>(
         (mini_of directory.old table.old minifat_sectors.old.items (Some stream.old.items))
         (mini_of directory.new table.new minifat_sectors.new.items (Some stream.new.items))) }
     ensures kept { IfErr result (AfterMedium Unit (ids.new.items ≡ ids.old.items)) }
-    ensures err { IfErr result (ChangeRefused (IsNotHeld
-        (mini_of directory.old table.old minifat_sectors.old.items (Some stream.old.items))) ⊥ ⊥ Unit) }
+    ensures err { IfErr result (ChangeRefused (IsNotHeld (mini_of directory.old table.old
+        minifat_sectors.old.items (Some stream.old.items))) ⊥ ⊥ Unit) }
     ensures counts { IsTrue F.tells → CountsFailure
         F.write_faults result directory.old.table.file.failures directory.new.table.file.failures }
 {

@@ -369,8 +369,9 @@ pub fn write_piece<F: Medium, A: Heap>(
               + offset + length from.now);
           begun = true;
         }) }
-    ensures missing { (HasMini allocator.old.tables.version stream.now (length allocator.old.tables.fat) mini
-        → ⊥) → IsErrAnd result IsInvalidData × (allocator.new ≡ allocator.old) }
+    ensures missing { (HasMini allocator.old.tables.version stream.now
+        (length allocator.old.tables.fat) mini → ⊥)
+        → IsErrAnd result IsInvalidData × (allocator.new ≡ allocator.old) }
     ensures there { HasMini allocator.old.tables.version stream.now
         (length allocator.old.tables.fat) mini
         → IfErr result IsMediumError × (allocator.new.file.begun ≡ true) }

@@ -189,7 +189,8 @@ impl<A: Allocator> MiniTable<A> {
         requires prepared { IsPreparedMini self.old count }
         requires room { count ≤ vec_capacity list.old }
         requires empty { list.old.items ≡ [] }
-        ensures taken { TakesMini self.old.limit self.old.minifat self.new.minifat [] list.new.items }
+        ensures taken { TakesMini self.old.limit
+            self.old.minifat self.new.minifat [] list.new.items }
         ensures chain { IsChain self.new.minifat (first_or_end list.new.items) list.new.items }
         ensures count { vec_len list.new ≡ count }
         ensures rest { self.new ≡ record self.old { minifat = self.new.minifat } }

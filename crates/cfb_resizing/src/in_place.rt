@@ -48,26 +48,41 @@ fn lengthen_in_sectors<F: Medium, A: Heap + Clone>(
 ) -> Result<(), Error>
     requires chain { IsChain allocator.old.tables.fat (first_or_end ids.old.items) ids.old.items }
     ensures chain { IsChain allocator.new.tables.fat (first_or_end ids.new.items) ids.new.items }
-    ensures lengthened { OnOk result (Lengthens (rounded_up size (sector_len allocator.old.tables.version) - length ids.old.items) ids.old.items ids.new.items
-        allocator.old.tables allocator.new.tables) }
-    ensures padded { IsTrue F.tells → (validation : Validation) → HoldsTables validation allocator.old
-        → ((k : ℕ) → k < len → IsThereInSectors allocator.old.tables.version ids.old.items allocator.old.file.len k)
-        → OnOk result (IsPaddedAlong len size (place_along allocator.old.tables.version ids.old.items) (place_along allocator.old.tables.version ids.new.items)
+    ensures lengthened { OnOk result (Lengthens
+        (rounded_up size (sector_len allocator.old.tables.version) - length ids.old.items)
+        ids.old.items ids.new.items allocator.old.tables allocator.new.tables) }
+    ensures padded { IsTrue F.tells
+        → (validation : Validation) → HoldsTables validation allocator.old → ((k : ℕ) → k < len
+        → IsThereInSectors allocator.old.tables.version ids.old.items allocator.old.file.len k)
+        → OnOk result (IsPaddedAlong len size
+        (place_along allocator.old.tables.version ids.old.items)
+        (place_along allocator.old.tables.version ids.new.items)
         allocator.old.file.bytes allocator.new.file.bytes) }
-    ensures holds { IsTrue F.tells → (validation : Validation) → HoldsTables validation allocator.old → OnOk result (HoldsTables validation allocator.new) }
-    ensures whole { IsTrue F.tells → (validation : Validation) → HoldsTables validation allocator.old → IsOfWholeSectors allocator.old → OnOk result (IsOfWholeSectors allocator.new) }
-    ensures sizes { OnOk result (AreSizes allocator.new.tables.version (sizes_of allocator.new.tables)) }
+    ensures holds { IsTrue F.tells
+        → (validation : Validation) → HoldsTables validation allocator.old
+        → OnOk result (HoldsTables validation allocator.new) }
+    ensures whole { IsTrue F.tells
+        → (validation : Validation) → HoldsTables validation allocator.old
+        → IsOfWholeSectors allocator.old → OnOk result (IsOfWholeSectors allocator.new) }
+    ensures sizes { OnOk result
+        (AreSizes allocator.new.tables.version (sizes_of allocator.new.tables)) }
     ensures spares { IsTrue F.tells → Spares ids.old.items allocator.old allocator.new }
-    ensures header { IsTrue F.tells → (i : ℕ) → i < length allocator.old.file.bytes → IsOtherHeaderByte allocator.old.tables.version i
+    ensures header { IsTrue F.tells → (i : ℕ) → i < length allocator.old.file.bytes
+        → IsOtherHeaderByte allocator.old.tables.version i
         → slice_index allocator.new.file.bytes i ≡ slice_index allocator.old.file.bytes i }
     ensures version { allocator.new.tables.version ≡ allocator.old.tables.version }
     ensures limit { allocator.new.tables.max_sectors ≡ allocator.old.tables.max_sectors }
-    ensures enough { OnOk result (IsTooFew allocator.old.tables (rounded_up size (sector_len allocator.old.tables.version) - length ids.old.items) → ⊥) }
-    ensures refused { IfErr result (AfterMedium (allocator.new.file.begun ≡ true) (allocator.new ≡ allocator.old)) }
-    ensures unwritten { IsTrue F.tells → allocator.new.file.begun ≡ false → allocator.new.file.bytes ≡ allocator.old.file.bytes }
+    ensures enough { OnOk result (IsTooFew allocator.old.tables
+        (rounded_up size (sector_len allocator.old.tables.version) - length ids.old.items) → ⊥) }
+    ensures refused { IfErr result
+        (AfterMedium (allocator.new.file.begun ≡ true) (allocator.new ≡ allocator.old)) }
+    ensures unwritten { IsTrue F.tells → allocator.new.file.begun ≡ false
+        → allocator.new.file.bytes ≡ allocator.old.file.bytes }
     ensures err { IfErr result (ChangeRefused (IsUsable allocator.old.tables → ⊥) Unit
-        (IsTooFew allocator.old.tables (rounded_up size (sector_len allocator.old.tables.version) - length ids.old.items)) Unit) }
-    ensures counts { IsTrue F.tells → CountsFailure F.write_faults result allocator.old.file.failures allocator.new.file.failures }
+        (IsTooFew allocator.old.tables
+        (rounded_up size (sector_len allocator.old.tables.version) - length ids.old.items)) Unit) }
+    ensures counts { IsTrue F.tells → CountsFailure F.write_faults result
+        allocator.old.file.failures allocator.new.file.failures }
 {
     let sector_len = allocator.sector_len() as u64;
     let have = ids.len();
@@ -90,15 +105,18 @@ pub(crate) fn grow_in_sectors<F: Medium, A: Heap + Clone>(
     requires limit { size ≤ max_stream_len (version_of mini.old) }
     requires large { mini_stream_cutoff ≤ len_of mini.old entry }
     requires longer { len_of mini.old entry < size }
-    ensures turned { IsTrue F.tells → IfOk result (λ start. TurnsSoundly mini.old mini.new entry size start) }
+    ensures turned { IsTrue F.tells
+        → IfOk result (λ start. TurnsSoundly mini.old mini.new entry size start) }
     ensures spares { IsTrue F.tells → SparesOthers mini.old mini.new entry }
     ensures around { KeepsAround mini.old mini.new }
     ensures tight { OnOk result (KeepsTablesTight mini.old mini.new) }
     ensures enough { OnOk result (LacksNumbersFor mini.old entry size → ⊥) }
     ensures refused { IfErr result (StopsOrBegun mini.old mini.new) }
-    ensures err { IfErr result (ChangeRefused (IsNotChangeable mini.old) Unit (LacksNumbersFor mini.old entry size) Unit) }
+    ensures err { IfErr result (ChangeRefused (IsNotChangeable mini.old) Unit
+        (LacksNumbersFor mini.old entry size) Unit) }
     ensures counts { IsTrue F.tells
-        → CountsFailure (λ f. F.read_faults f || F.write_faults f) result (table_of mini.old).file.failures (table_of mini.new).file.failures }
+        → CountsFailure (λ f. F.read_faults f || F.write_faults f) result
+        (table_of mini.old).file.failures (table_of mini.new).file.failures }
 {
     let (start, len) = content_in(mini, entry);
     let allocator = mini.allocator_mut();
@@ -119,16 +137,21 @@ pub(crate) fn cut_in_sectors<F: Medium, A: Heap + Clone>(
     requires limit { size ≤ max_stream_len (version_of mini.old) }
     requires large { mini_stream_cutoff ≤ size }
     requires shorter { size < len_of mini.old entry }
-    ensures turned { IsTrue F.tells → IfOk result (λ start. TurnsSoundly mini.old mini.new entry size start) }
+    ensures turned { IsTrue F.tells
+        → IfOk result (λ start. TurnsSoundly mini.old mini.new entry size start) }
     ensures spares { IsTrue F.tells → SparesOthers mini.old mini.new entry }
     ensures around { KeepsAround mini.old mini.new }
-    ensures few { IfOk result (λ start. (list : List ℕ) → IsChain (tables_in mini.new).fat start list → length list ≡ rounded_up size (sector_len (version_of mini.old))) }
+    ensures few { IfOk result (λ start. (list : List ℕ)
+        → IsChain (tables_in mini.new).fat start list
+        → length list ≡ rounded_up size (sector_len (version_of mini.old))) }
     ensures tight { OnOk result (KeepsTablesTight mini.old mini.new) }
     ensures enough { OnOk result (LacksNumbersFor mini.old entry size → ⊥) }
     ensures refused { IfErr result (StopsOrBegun mini.old mini.new) }
-    ensures err { IfErr result (ChangeRefused (IsNotChangeable mini.old) Unit (LacksNumbersFor mini.old entry size) Unit) }
+    ensures err { IfErr result (ChangeRefused (IsNotChangeable mini.old) Unit
+        (LacksNumbersFor mini.old entry size) Unit) }
     ensures counts { IsTrue F.tells
-        → CountsFailure (λ f. F.read_faults f || F.write_faults f) result (table_of mini.old).file.failures (table_of mini.new).file.failures }
+        → CountsFailure (λ f. F.read_faults f || F.write_faults f) result
+        (table_of mini.old).file.failures (table_of mini.new).file.failures }
 {
     let (start, len) = content_in(mini, entry);
     let wanted = size.div_ceil(mini.sector_len() as u64) as usize;
@@ -173,24 +196,36 @@ fn lengthen_in_minis<F: Medium, A: Heap + Clone>(
     ensures chain { IsChain mini.new.minifat (first_or_end ids.new.items) ids.new.items }
     ensures listed { ids.new.items ≡ ids.old.items ++ gained ids.old.items ids.new.items }
     ensures count { OnOk result (length (gained ids.old.items ids.new.items) ≡ lacking) }
-    ensures taken { 0 < lacking → OnOk result (TakesMini mini.old.max_mini_sectors mini.old.minifat mini.new.minifat (ends_of ids.old.items) (gained ids.old.items ids.new.items)) }
+    ensures taken { 0 < lacking
+        → OnOk result (TakesMini mini.old.max_mini_sectors mini.old.minifat mini.new.minifat
+        (ends_of ids.old.items) (gained ids.old.items ids.new.items)) }
     ensures grown { 0 < lacking → OnOk result (GrowsFor lacking mini.old mini.new) }
-    ensures none { lacking ≡ 0 → (ids.new.items ≡ ids.old.items) × KeepsSystem mini.old mini.new × KeepsMini mini.old mini.new }
+    ensures none { lacking ≡ 0 → (ids.new.items ≡ ids.old.items) × KeepsSystem mini.old mini.new
+        × KeepsMini mini.old mini.new }
     ensures padded { IsTrue F.tells → (validation : Validation) → HoldsMini validation mini.old
         → ((k : ℕ) → k < len → IsThereInMinis mini.old ids.old.items k)
-        → OnOk result (IsPaddedAlong len size (mini_place_along mini.old ids.old.items) (mini_place_along mini.new ids.new.items) (bytes_of mini.old) (bytes_of mini.new)) }
-    ensures holds { IsTrue F.tells → (validation : Validation) → HoldsMini validation mini.old → OnOk result (HoldsMini validation mini.new) }
-    ensures whole { IsTrue F.tells → (validation : Validation) → HoldsMini validation mini.old → IsOfWholeSectors (table_of mini.old) → OnOk result (IsOfWholeSectors (table_of mini.new)) }
-    ensures spares { IsTrue F.tells → Spares (system_sectors mini.old) (table_of mini.old) (table_of mini.new) }
-    ensures mini_spares { IsTrue F.tells → (validation : Validation) → HoldsMini validation mini.old → SparesMini ids.old.items mini.old mini.new }
+        → OnOk result (IsPaddedAlong len size (mini_place_along mini.old ids.old.items)
+        (mini_place_along mini.new ids.new.items) (bytes_of mini.old) (bytes_of mini.new)) }
+    ensures holds { IsTrue F.tells → (validation : Validation) → HoldsMini validation mini.old
+        → OnOk result (HoldsMini validation mini.new) }
+    ensures whole { IsTrue F.tells → (validation : Validation) → HoldsMini validation mini.old
+        → IsOfWholeSectors (table_of mini.old)
+        → OnOk result (IsOfWholeSectors (table_of mini.new)) }
+    ensures spares { IsTrue F.tells
+        → Spares (system_sectors mini.old) (table_of mini.old) (table_of mini.new) }
+    ensures mini_spares { IsTrue F.tells → (validation : Validation) → HoldsMini validation mini.old
+        → SparesMini ids.old.items mini.old mini.new }
     ensures header { IsTrue F.tells → OnOk result (KeepsHeader mini.old mini.new) }
     ensures around { KeepsAround mini.old mini.new }
     ensures tight { OnOk result (KeepsTablesTight mini.old mini.new) }
-    ensures snug_mini { IsTrue F.tells → (validation : Validation) → HoldsMini validation mini.old → IsSnugMini mini.old → OnOk result (IsSnugMini mini.new) }
+    ensures snug_mini { IsTrue F.tells → (validation : Validation) → HoldsMini validation mini.old
+        → IsSnugMini mini.old → OnOk result (IsSnugMini mini.new) }
     ensures refused { IfErr result (StopsOrBegun mini.old mini.new) }
-    ensures unwritten { IsTrue F.tells → (table_of mini.new).file.begun ≡ false → bytes_of mini.new ≡ bytes_of mini.old }
+    ensures unwritten { IsTrue F.tells → (table_of mini.new).file.begun ≡ false
+        → bytes_of mini.new ≡ bytes_of mini.old }
     ensures err { IfErr result (ChangeRefused (IsNotHeld mini.old) Unit ⊥ Unit) }
-    ensures counts { IsTrue F.tells → CountsFailure F.write_faults result (table_of mini.old).file.failures (table_of mini.new).file.failures }
+    ensures counts { IsTrue F.tells → CountsFailure F.write_faults result
+        (table_of mini.old).file.failures (table_of mini.new).file.failures }
 {
     let room = (ids.len() as u64).saturating_mul(MINI_SECTOR_LEN as u64);
     mini.extend_mini_listed(ids, lacking)?;
@@ -208,15 +243,18 @@ pub(crate) fn grow_in_minis<F: Medium, A: Heap + Clone>(
     requires limit { size ≤ max_stream_len (version_of mini.old) }
     requires small { size < mini_stream_cutoff }
     requires longer { len_of mini.old entry < size }
-    ensures turned { IsTrue F.tells → IfOk result (λ start. TurnsSoundly mini.old mini.new entry size start) }
+    ensures turned { IsTrue F.tells
+        → IfOk result (λ start. TurnsSoundly mini.old mini.new entry size start) }
     ensures spares { IsTrue F.tells → SparesOthers mini.old mini.new entry }
     ensures around { KeepsAround mini.old mini.new }
     ensures tight { OnOk result (KeepsTablesTight mini.old mini.new) }
     ensures enough { OnOk result (LacksNumbersFor mini.old entry size → ⊥) }
     ensures refused { IfErr result (StopsOrBegun mini.old mini.new) }
-    ensures err { IfErr result (ChangeRefused (IsNotChangeable mini.old) Unit (LacksNumbersFor mini.old entry size) Unit) }
+    ensures err { IfErr result (ChangeRefused (IsNotChangeable mini.old) Unit
+        (LacksNumbersFor mini.old entry size) Unit) }
     ensures counts { IsTrue F.tells
-        → CountsFailure (λ f. F.read_faults f || F.write_faults f) result (table_of mini.old).file.failures (table_of mini.new).file.failures }
+        → CountsFailure (λ f. F.read_faults f || F.write_faults f) result
+        (table_of mini.old).file.failures (table_of mini.new).file.failures }
 {
     let (start, len) = content_in(mini, entry);
     let mut ids = whole_mini_chain(mini, start, len)?;
@@ -240,19 +278,24 @@ pub(crate) fn cut_in_minis<F: Medium, A: Heap + Clone>(
     requires limit { size ≤ max_stream_len (version_of mini.old) }
     requires small { len_of mini.old entry < mini_stream_cutoff }
     requires shorter { size < len_of mini.old entry }
-    ensures turned { IsTrue F.tells → IfOk result (λ start. TurnsSoundly mini.old mini.new entry size start) }
+    ensures turned { IsTrue F.tells
+        → IfOk result (λ start. TurnsSoundly mini.old mini.new entry size start) }
     ensures spares { IsTrue F.tells → SparesOthers mini.old mini.new entry }
     ensures around { KeepsAround mini.old mini.new }
     ensures empty { size ≡ 0 → IfOk result (λ start. start ≡ end_of_chain) }
     ensures first { IfErr result (AfterMedium Unit (mini.new ≡ mini.old)) }
     ensures takes_none { length (tables_in mini.new).fat ≡ length (tables_in mini.old).fat }
-    ensures few { IfOk result (λ start. (list : List ℕ) → IsChain mini.new.minifat start list → length list ≡ rounded_up size mini_sector_len) }
+    ensures few { IfOk result (λ start. (list : List ℕ) → IsChain mini.new.minifat start list
+        → length list ≡ rounded_up size mini_sector_len) }
     ensures tight { OnOk result (KeepsTablesTight mini.old mini.new) }
-    ensures enough { (validation : Validation) → HoldsMini validation mini.old → OnOk result (LacksNumbersFor mini.old entry size → ⊥) }
+    ensures enough { (validation : Validation) → HoldsMini validation mini.old
+        → OnOk result (LacksNumbersFor mini.old entry size → ⊥) }
     ensures refused { IfErr result (StopsOrBegun mini.old mini.new) }
-    ensures err { IfErr result (ChangeRefused (IsNotChangeable mini.old) Unit (LacksNumbersFor mini.old entry size) Unit) }
+    ensures err { IfErr result (ChangeRefused (IsNotChangeable mini.old) Unit
+        (LacksNumbersFor mini.old entry size) Unit) }
     ensures counts { IsTrue F.tells
-        → CountsFailure (λ f. F.read_faults f || F.write_faults f) result (table_of mini.old).file.failures (table_of mini.new).file.failures }
+        → CountsFailure (λ f. F.read_faults f || F.write_faults f) result
+        (table_of mini.old).file.failures (table_of mini.new).file.failures }
 {
     let (start, len) = content_in(mini, entry);
     let mut ids = whole_mini_chain(mini, start, len)?;

@@ -42,12 +42,14 @@ fn read_listed<F: ReadMedium, A: Heap>(
     requires there { place_in allocator.old ids.now at + length into.old ≤ allocator.old.file.len }
     ensures kept { OnlyReads allocator.old allocator.new }
     ensures count { IfOk result (λ n. n ≡ length into.old) }
-    ensures ok { IsTrue F.tells → IfOk result (λ n. take n into.new ≡ part allocator.old.file.bytes (place_in allocator.old ids.now at) n) }
+    ensures ok { IsTrue F.tells → IfOk result (λ n.
+        take n into.new ≡ part allocator.old.file.bytes (place_in allocator.old ids.now at) n) }
     ensures rest { IfOk result (λ n. drop n into.new ≡ drop n into.old) }
     ensures err { IfErr result IsMediumError }
     ensures same { IsTrue F.tells → OnOk result (allocator.new ≡ allocator.old) }
     ensures bytes { IsTrue F.tells → allocator.new.file.bytes ≡ allocator.old.file.bytes }
-    ensures counts { IsTrue F.tells → CountsFailure F.read_faults result allocator.old.file.failures allocator.new.file.failures }
+    ensures counts { IsTrue F.tells → CountsFailure F.read_faults result
+        allocator.old.file.failures allocator.new.file.failures }
 {
     let len = allocator.file_len();
     let _fact = len;
@@ -69,15 +71,20 @@ pub fn read_run<F: ReadMedium, A: Heap>(
     requires some { 0 < length into.old }
     requires listed { IsListed allocator.old ids.now at }
     ensures kept { OnlyReads allocator.old allocator.new }
-    ensures count { IfOk result (λ n. IsReadAtOnce allocator.old.tables.version ids.now allocator.old.file.len at (length into.old) n) }
+    ensures count { IfOk result (λ n. IsReadAtOnce allocator.old.tables.version
+        ids.now allocator.old.file.len at (length into.old) n) }
     ensures some { IfOk result (λ n. (0 < n) × (n ≤ length into.old)) }
-    ensures ok { IsTrue F.tells → IfOk result (λ n. take n into.new ≡ part allocator.old.file.bytes (place_in allocator.old ids.now at) n) }
+    ensures ok { IsTrue F.tells → IfOk result (λ n.
+        take n into.new ≡ part allocator.old.file.bytes (place_in allocator.old ids.now at) n) }
     ensures rest { IfOk result (λ n. drop n into.new ≡ drop n into.old) }
-    ensures cut { allocator.old.file.len ≤ place_in allocator.old ids.now at → IsErrAnd result IsInvalidData × (allocator.new ≡ allocator.old) }
-    ensures there { place_in allocator.old ids.now at < allocator.old.file.len → IfErr result IsMediumError }
+    ensures cut { allocator.old.file.len ≤ place_in allocator.old ids.now at
+        → IsErrAnd result IsInvalidData × (allocator.new ≡ allocator.old) }
+    ensures there { place_in allocator.old ids.now at < allocator.old.file.len
+        → IfErr result IsMediumError }
     ensures same { IsTrue F.tells → OnOk result (allocator.new ≡ allocator.old) }
     ensures bytes { IsTrue F.tells → allocator.new.file.bytes ≡ allocator.old.file.bytes }
-    ensures counts { IsTrue F.tells → CountsFailure F.read_faults result allocator.old.file.failures allocator.new.file.failures }
+    ensures counts { IsTrue F.tells → CountsFailure F.read_faults result
+        allocator.old.file.failures allocator.new.file.failures }
 {
     let version = allocator.version();
     let start = place_of(version, ids, at);
@@ -100,15 +107,18 @@ pub fn read_along<F: ReadMedium, A: Heap>(
     into: &mut [u8],
 ) -> Result<(), Error>
     requires bounded { at + length into.old < 2 ^ 64 }
-    requires there { (k : ℕ) → k < length into.old → IsThereInSectors allocator.old.tables.version ids.now allocator.old.file.len (at + k) }
+    requires there { (k : ℕ) → k < length into.old
+        → IsThereInSectors allocator.old.tables.version ids.now allocator.old.file.len (at + k) }
     ensures kept { OnlyReads allocator.old allocator.new }
-    ensures got { IsTrue F.tells → OnOk result ((k : ℕ) → k < length into.new
-        → slice_index into.new k ≡ slice_index allocator.old.file.bytes (place_in allocator.old ids.now (at + k))) }
+    ensures got { IsTrue F.tells
+        → OnOk result ((k : ℕ) → k < length into.new → slice_index into.new k
+        ≡ slice_index allocator.old.file.bytes (place_in allocator.old ids.now (at + k))) }
     ensures len { length into.new ≡ length into.old }
     ensures err { IfErr result IsMediumError }
     ensures same { IsTrue F.tells → OnOk result (allocator.new ≡ allocator.old) }
     ensures bytes { IsTrue F.tells → allocator.new.file.bytes ≡ allocator.old.file.bytes }
-    ensures counts { IsTrue F.tells → CountsFailure F.read_faults result allocator.old.file.failures allocator.new.file.failures }
+    ensures counts { IsTrue F.tells → CountsFailure F.read_faults result
+        allocator.old.file.failures allocator.new.file.failures }
 {
     let mut done = 0;
     while done < into.len() {

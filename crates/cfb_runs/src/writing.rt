@@ -41,7 +41,8 @@ fn put_run<F: Medium, A: Heap>(
     requires some { 0 < length from.now }
     requires short { offset < sector_len allocator.old.tables.version }
     requires listed { index < length ids.now }
-    requires run { IsRun allocator.old.tables.version ids.now (byte_in allocator.old index offset) (length from.now) }
+    requires run { IsRun allocator.old.tables.version ids.now
+        (byte_in allocator.old index offset) (length from.now) }
     requires known { (k : ℕ) → k < length from.now
         → IsKnown allocator.old ids.now (byte_in allocator.old index offset + k) }
     ensures kept { OnlyWrites allocator.old allocator.new }
@@ -56,14 +57,17 @@ fn put_run<F: Medium, A: Heap>(
         (place_in allocator.old ids.now (byte_in allocator.old index offset) + length from.now))
         (λ _. allocator.new.file.len ≡ allocator.old.file.len) }
     ensures others { IsTrue F.tells
-        → ChangesOnlyBytes (place_in allocator.old ids.now (byte_in allocator.old index offset)) (length from.now)
-        allocator.old.file.bytes allocator.new.file.bytes }
+        → ChangesOnlyBytes (place_in allocator.old ids.now (byte_in allocator.old index offset))
+        (length from.now) allocator.old.file.bytes allocator.new.file.bytes }
     ensures spares { IsTrue F.tells → Spares ids.now allocator.old allocator.new }
-    ensures holds { IsTrue F.tells → (validation : Validation) → HoldsTables validation allocator.old → AreDisjoint ids.now (table_sectors allocator.old.tables)
+    ensures holds { IsTrue F.tells
+        → (validation : Validation) → HoldsTables validation allocator.old
+        → AreDisjoint ids.now (table_sectors allocator.old.tables)
         → OnOk result (HoldsTables validation allocator.new) }
     ensures begun { allocator.new.file.begun ≡ true }
     ensures err { IfErr result IsMediumError }
-    ensures counts { IsTrue F.tells → CountsFailure F.write_faults result allocator.old.file.failures allocator.new.file.failures }
+    ensures counts { IsTrue F.tells → CountsFailure F.write_faults result
+        allocator.old.file.failures allocator.new.file.failures }
 {
     let len = allocator.file_len();
     let _fact = len;
@@ -89,7 +93,8 @@ fn write_from<F: Medium, A: Heap>(
     ensures count { IfOk result (λ n. IsLongestRun allocator.old.tables.version ids.now
         (byte_in allocator.old index offset) (length from.now) n) }
     ensures some { IfOk result (λ n. (0 < n) × (n ≤ length from.now)) }
-    ensures next { IfOk result (λ n. index + (offset + n) / sector_len allocator.old.tables.version ≤ length ids.now) }
+    ensures next { IfOk result (λ n.
+        index + (offset + n) / sector_len allocator.old.tables.version ≤ length ids.now) }
     ensures ok { IsTrue F.tells → IfOk result (λ n. allocator.new.file ≡ record allocator.old.file {
       bytes = written allocator.old.file.bytes
           (place_in allocator.old ids.now (byte_in allocator.old index offset)) (take n from.now);
@@ -100,14 +105,18 @@ fn write_from<F: Medium, A: Heap>(
     ensures len { MatchResult result (λ n. allocator.new.file.len ≡ max allocator.old.file.len
         (place_in allocator.old ids.now (byte_in allocator.old index offset) + n))
         (λ _. allocator.new.file.len ≡ allocator.old.file.len) }
-    ensures others { IsTrue F.tells → ChangesOnlyRun allocator.old.tables.version ids.now (byte_in allocator.old index offset)
+    ensures others { IsTrue F.tells
+        → ChangesOnlyRun allocator.old.tables.version ids.now (byte_in allocator.old index offset)
         (length from.now) allocator.old.file.bytes allocator.new.file.bytes }
     ensures spares { IsTrue F.tells → Spares ids.now allocator.old allocator.new }
-    ensures holds { IsTrue F.tells → (validation : Validation) → HoldsTables validation allocator.old → AreDisjoint ids.now (table_sectors allocator.old.tables)
+    ensures holds { IsTrue F.tells
+        → (validation : Validation) → HoldsTables validation allocator.old
+        → AreDisjoint ids.now (table_sectors allocator.old.tables)
         → OnOk result (HoldsTables validation allocator.new) }
     ensures begun { allocator.new.file.begun ≡ true }
     ensures err { IfErr result IsMediumError }
-    ensures counts { IsTrue F.tells → CountsFailure F.write_faults result allocator.old.file.failures allocator.new.file.failures }
+    ensures counts { IsTrue F.tells → CountsFailure F.write_faults result
+        allocator.old.file.failures allocator.new.file.failures }
 {
     let run = run_from(allocator.version(), ids, index, offset, from.len());
     put_run(allocator, ids, index, offset, &from[..run])?;
@@ -128,22 +137,29 @@ pub fn write_run<F: Medium, A: Heap>(
     requires known { (k : ℕ) → k < length from.now → IsListed allocator.old ids.now (at + k)
         → IsKnown allocator.old ids.now (at + k) }
     ensures kept { OnlyWrites allocator.old allocator.new }
-    ensures count { IfOk result (λ n. IsLongestRun allocator.old.tables.version ids.now at (length from.now) n) }
+    ensures count { IfOk result (λ n.
+        IsLongestRun allocator.old.tables.version ids.now at (length from.now) n) }
     ensures some { IfOk result (λ n. (0 < n) × (n ≤ length from.now)) }
     ensures ok { IsTrue F.tells → IfOk result (λ n. allocator.new.file ≡ record allocator.old.file {
-      bytes = written allocator.old.file.bytes (place_in allocator.old ids.now at) (take n from.now);
+      bytes = written allocator.old.file.bytes
+          (place_in allocator.old ids.now at) (take n from.now);
       len = max allocator.old.file.len (place_in allocator.old ids.now at + n);
       begun = true;
     }) }
-    ensures len { MatchResult result (λ n. allocator.new.file.len ≡ max allocator.old.file.len (place_in allocator.old ids.now at + n))
+    ensures len { MatchResult result (λ n.
+        allocator.new.file.len ≡ max allocator.old.file.len (place_in allocator.old ids.now at + n))
         (λ _. allocator.new.file.len ≡ allocator.old.file.len) }
-    ensures others { IsTrue F.tells → ChangesOnlyRun allocator.old.tables.version ids.now at (length from.now) allocator.old.file.bytes allocator.new.file.bytes }
+    ensures others { IsTrue F.tells → ChangesOnlyRun allocator.old.tables.version ids.now at
+        (length from.now) allocator.old.file.bytes allocator.new.file.bytes }
     ensures spares { IsTrue F.tells → Spares ids.now allocator.old allocator.new }
-    ensures holds { IsTrue F.tells → (validation : Validation) → HoldsTables validation allocator.old → AreDisjoint ids.now (table_sectors allocator.old.tables)
+    ensures holds { IsTrue F.tells
+        → (validation : Validation) → HoldsTables validation allocator.old
+        → AreDisjoint ids.now (table_sectors allocator.old.tables)
         → OnOk result (HoldsTables validation allocator.new) }
     ensures begun { allocator.new.file.begun ≡ true }
     ensures err { IfErr result IsMediumError }
-    ensures counts { IsTrue F.tells → CountsFailure F.write_faults result allocator.old.file.failures allocator.new.file.failures }
+    ensures counts { IsTrue F.tells → CountsFailure F.write_faults result
+        allocator.old.file.failures allocator.new.file.failures }
 {
     let sector_len = allocator.sector_len();
     let index = (at / sector_len as u64) as usize;
@@ -164,18 +180,21 @@ pub fn write_along<F: Medium, A: Heap>(
         × (IsKnown allocator.old ids.now (at + k)) }
     ensures kept { OnlyWrites allocator.old allocator.new }
     ensures none { length bytes.now ≡ 0 → OnErr result ⊥ × (allocator.new ≡ allocator.old) }
-    ensures put { IsTrue F.tells → IsDistinct nat_eq ids.now
-        → OnOk result (StandAlong (place_in allocator.old ids.now) at bytes.now allocator.new.file.bytes) }
-    ensures others { IsTrue F.tells
-        → ChangesOnlyPlaces (place_in allocator.old ids.now) at (length bytes.now) allocator.old.file.bytes allocator.new.file.bytes }
-    ensures stops { IsTrue F.tells
-        → IfErr result (λ _. StopsAlong allocator.old.tables.version ids.now at bytes.now allocator.old.file.bytes allocator.new.file.bytes) }
+    ensures put { IsTrue F.tells → IsDistinct nat_eq ids.now → OnOk result
+        (StandAlong (place_in allocator.old ids.now) at bytes.now allocator.new.file.bytes) }
+    ensures others { IsTrue F.tells → ChangesOnlyPlaces (place_in allocator.old ids.now) at
+        (length bytes.now) allocator.old.file.bytes allocator.new.file.bytes }
+    ensures stops { IsTrue F.tells → IfErr result (λ _. StopsAlong allocator.old.tables.version
+        ids.now at bytes.now allocator.old.file.bytes allocator.new.file.bytes) }
     ensures spares { IsTrue F.tells → Spares ids.now allocator.old allocator.new }
-    ensures holds { IsTrue F.tells → (validation : Validation) → HoldsTables validation allocator.old → AreDisjoint ids.now (table_sectors allocator.old.tables)
+    ensures holds { IsTrue F.tells
+        → (validation : Validation) → HoldsTables validation allocator.old
+        → AreDisjoint ids.now (table_sectors allocator.old.tables)
         → OnOk result (HoldsTables validation allocator.new) }
     ensures begun { 0 < length bytes.now → allocator.new.file.begun ≡ true }
     ensures err { IfErr result IsMediumError }
-    ensures counts { IsTrue F.tells → CountsFailure F.write_faults result allocator.old.file.failures allocator.new.file.failures }
+    ensures counts { IsTrue F.tells → CountsFailure F.write_faults result
+        allocator.old.file.failures allocator.new.file.failures }
 {
     let sector_len = allocator.sector_len();
     let mut index = (at / sector_len as u64) as usize;
@@ -205,22 +224,28 @@ pub fn zero_run<F: Medium, A: Heap>(
     requires known { (k : ℕ) → k < count → IsListed allocator.old ids.now (at + k)
         → IsKnown allocator.old ids.now (at + k) }
     ensures kept { OnlyWrites allocator.old allocator.new }
-    ensures count { IfOk result (λ n. IsLongestRun allocator.old.tables.version ids.now at count n) }
+    ensures count { IfOk result (λ n.
+        IsLongestRun allocator.old.tables.version ids.now at count n) }
     ensures some { IfOk result (λ n. (0 < n) × (n ≤ count)) }
     ensures ok { IsTrue F.tells → IfOk result (λ n. allocator.new.file ≡ record allocator.old.file {
       bytes = written allocator.old.file.bytes (place_in allocator.old ids.now at) (replicate n 0);
       len = max allocator.old.file.len (place_in allocator.old ids.now at + n);
       begun = true;
     }) }
-    ensures len { MatchResult result (λ n. allocator.new.file.len ≡ max allocator.old.file.len (place_in allocator.old ids.now at + n))
+    ensures len { MatchResult result (λ n.
+        allocator.new.file.len ≡ max allocator.old.file.len (place_in allocator.old ids.now at + n))
         (λ _. allocator.new.file.len ≡ allocator.old.file.len) }
-    ensures others { IsTrue F.tells → ChangesOnlyRun allocator.old.tables.version ids.now at count allocator.old.file.bytes allocator.new.file.bytes }
+    ensures others { IsTrue F.tells → ChangesOnlyRun allocator.old.tables.version ids.now at count
+        allocator.old.file.bytes allocator.new.file.bytes }
     ensures spares { IsTrue F.tells → Spares ids.now allocator.old allocator.new }
-    ensures holds { IsTrue F.tells → (validation : Validation) → HoldsTables validation allocator.old → AreDisjoint ids.now (table_sectors allocator.old.tables)
+    ensures holds { IsTrue F.tells
+        → (validation : Validation) → HoldsTables validation allocator.old
+        → AreDisjoint ids.now (table_sectors allocator.old.tables)
         → OnOk result (HoldsTables validation allocator.new) }
     ensures begun { allocator.new.file.begun ≡ true }
     ensures err { IfErr result IsMediumError }
-    ensures counts { IsTrue F.tells → CountsFailure F.write_faults result allocator.old.file.failures allocator.new.file.failures }
+    ensures counts { IsTrue F.tells → CountsFailure F.write_faults result
+        allocator.old.file.failures allocator.new.file.failures }
 {
     let bytes = zeros(count);
     let done = write_run(allocator, ids, at, bytes)?;
@@ -240,17 +265,21 @@ pub fn zero_along<F: Medium, A: Heap>(
     ensures kept { OnlyWrites allocator.old allocator.new }
     ensures none { to ≤ from → OnErr result ⊥ × (allocator.new ≡ allocator.old) }
     ensures put { IsTrue F.tells → IsDistinct nat_eq ids.now
-        → OnOk result (StandAlong (place_in allocator.old ids.now) from (replicate (to - from) 0) allocator.new.file.bytes) }
-    ensures others { IsTrue F.tells
-        → ChangesOnlyPlaces (place_in allocator.old ids.now) from (to - from) allocator.old.file.bytes allocator.new.file.bytes }
-    ensures stops { IsTrue F.tells
-        → IfErr result (λ _. StopsAlong allocator.old.tables.version ids.now from (replicate (to - from) 0) allocator.old.file.bytes allocator.new.file.bytes) }
+        → OnOk result (StandAlong (place_in allocator.old ids.now) from
+        (replicate (to - from) 0) allocator.new.file.bytes) }
+    ensures others { IsTrue F.tells → ChangesOnlyPlaces (place_in allocator.old ids.now) from
+        (to - from) allocator.old.file.bytes allocator.new.file.bytes }
+    ensures stops { IsTrue F.tells → IfErr result (λ _. StopsAlong allocator.old.tables.version
+        ids.now from (replicate (to - from) 0) allocator.old.file.bytes allocator.new.file.bytes) }
     ensures spares { IsTrue F.tells → Spares ids.now allocator.old allocator.new }
-    ensures holds { IsTrue F.tells → (validation : Validation) → HoldsTables validation allocator.old → AreDisjoint ids.now (table_sectors allocator.old.tables)
+    ensures holds { IsTrue F.tells
+        → (validation : Validation) → HoldsTables validation allocator.old
+        → AreDisjoint ids.now (table_sectors allocator.old.tables)
         → OnOk result (HoldsTables validation allocator.new) }
     ensures begun { from < to → allocator.new.file.begun ≡ true }
     ensures err { IfErr result IsMediumError }
-    ensures counts { IsTrue F.tells → CountsFailure F.write_faults result allocator.old.file.failures allocator.new.file.failures }
+    ensures counts { IsTrue F.tells → CountsFailure F.write_faults result
+        allocator.old.file.failures allocator.new.file.failures }
 {
     let mut at = from;
     while at < to {

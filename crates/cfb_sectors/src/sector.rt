@@ -469,14 +469,13 @@ impl<F: Medium> Sectors<F> {
     /// has changed but the sector's, and past the old end.
     pub fn init_sector(&mut self, sector: u32, init: SectorInit) -> Result<(), Error>
         requires room { sector < 0xFFFFFFFA }
-        ensures ok { IsTrue F.tells
-            → OnOk result (self.new ≡ record self.old {
-              bytes = written self.old.bytes
-                  (place_in_sector self.old sector 0) (init_bytes self.old.version init);
-              len = max self.old.len (place_in_sector self.old sector (sector_len self.old.version));
-              num_sectors = max self.old.num_sectors (sector + 1);
-              begun = true;
-            }) }
+        ensures ok { IsTrue F.tells → OnOk result (self.new ≡ record self.old {
+          bytes = written self.old.bytes (place_in_sector self.old sector 0)
+              (init_bytes self.old.version init);
+          len = max self.old.len (place_in_sector self.old sector (sector_len self.old.version));
+          num_sectors = max self.old.num_sectors (sector + 1);
+          begun = true;
+        }) }
         ensures past { self.old.num_sectors < sector
             → IsErrAnd result IsInvalidData × (self.new ≡ self.old) }
         ensures inside { sector ≤ self.old.num_sectors → IfErr result IsMediumError × (self.new
@@ -517,10 +516,19 @@ impl<F: Medium> Sectors<F> {
           len = max self.old.len (at + sector_len self.old.version);
           begun = true;
         }) }
-        ensures kept { self.new ≡ record self.old { len = self.new.len; bytes = self.new.bytes; failures = self.new.failures; begun = true } }
-        ensures len { MatchResult result (λ _. self.new.len ≡ max self.old.len (at + sector_len self.old.version)) (λ e. IsMediumError e × (self.new.len ≡ self.old.len)) }
-        ensures others { IsTrue F.tells → ChangesOnlyBytes at (sector_len self.old.version) self.old.bytes self.new.bytes }
-        ensures counts { IsTrue F.tells → CountsFailure F.write_faults result self.old.failures self.new.failures }
+        ensures kept { self.new ≡ record self.old {
+          len = self.new.len;
+          bytes = self.new.bytes;
+          failures = self.new.failures;
+          begun = true;
+        } }
+        ensures len { MatchResult result
+            (λ _. self.new.len ≡ max self.old.len (at + sector_len self.old.version))
+            (λ e. IsMediumError e × (self.new.len ≡ self.old.len)) }
+        ensures others { IsTrue F.tells
+            → ChangesOnlyBytes at (sector_len self.old.version) self.old.bytes self.new.bytes }
+        ensures counts { IsTrue F.tells
+            → CountsFailure F.write_faults result self.old.failures self.new.failures }
     {
         match init {
             SectorInit::Zero => self.write_at(at, zero_sector(self.version())),

@@ -149,7 +149,7 @@ read_before xs ys m n fits = take-append-le n ys (drop m (drop 0 xs)) fits
 
 -- what lies behind what was read there stays
 pub rest_before : (xs ys : List ℕ) (m n : ℕ) → n ≤ length ys → length ys ≡ length (take m (drop 0 xs)) → drop n ys ≡ drop n (take m (drop 0 xs))
-  → drop n (put_mid 0 m xs ys) ≡ drop n xs
+    → drop n (put_mid 0 m xs ys) ≡ drop n xs
 rest_before xs ys m n fits len same =
     drop-append-le n ys (drop m (drop 0 xs)) fits
     ∙ ap (λ (zs : List ℕ). zs ++ drop m (drop 0 xs)) same

@@ -32,7 +32,12 @@ impl<A: Allocator> Model for StreamBuffer<A> {
 
     ghost Value = { Buffered };
 
-    ghost view = { λ b. record { filled = take b.filled (bytes_in b.memory); cursor = b.cursor; room = room_in b.memory; bound = b.bound } };
+    ghost view = { λ b. record {
+      filled = take b.filled (bytes_in b.memory);
+      cursor = b.cursor;
+      room = room_in b.memory;
+      bound = b.bound;
+    } };
 
     ghost invariant = { λ b. BufferStands b.cursor
         b.filled (length (bytes_in b.memory)) (room_in b.memory) b.bound };
@@ -41,7 +46,8 @@ impl<A: Allocator> Model for StreamBuffer<A> {
 impl<A: Allocator> StreamBuffer<A> {
     /// An empty buffer with room for `LEAST_ROOM` bytes.
     pub fn new(alloc: A, limit: usize) -> Result<StreamBuffer<A>, AllocError>
-        ensures { IfOk result (λ b. b ≡ record { filled = []; cursor = 0; room = 1024; bound = max 1024 limit }) }
+        ensures { IfOk result (λ b.
+            b ≡ record { filled = []; cursor = 0; room = 1024; bound = max 1024 limit }) }
     {
         let mut memory = Vec::with_capacity(alloc, LEAST_ROOM)?;
         fill_up(&mut memory, LEAST_ROOM);
@@ -135,7 +141,10 @@ impl<A: Allocator> StreamBuffer<A> {
 
     /// Holds no more than its first bytes.
     pub fn truncate(&mut self, len: usize)
-        ensures { self.new ≡ record self.old { filled = take len self.old.filled; cursor = min self.old.cursor len } }
+        ensures { self.new ≡ record self.old {
+          filled = take len self.old.filled;
+          cursor = min self.old.cursor len;
+        } }
     {
         self.filled = self.filled.min(len);
         self.cursor = self.cursor.min(len);
@@ -143,7 +152,9 @@ impl<A: Allocator> StreamBuffer<A> {
 
     /// Has four times as much room, but not more than the bound.
     pub fn grow(&mut self) -> Result<(), AllocError>
-        ensures ok { OnOk result (self.new ≡ record self.old { room = max self.old.room (min (4 * self.old.room) self.old.bound) }) }
+        ensures ok { OnOk result (self.new ≡ record self.old {
+          room = max self.old.room (min (4 * self.old.room) self.old.bound);
+        }) }
         ensures refused { OnErr result (self.new ≡ self.old) }
     {
         let wanted = self.room().saturating_mul(GROWTH_FACTOR).min(self.bound);
@@ -152,7 +163,8 @@ impl<A: Allocator> StreamBuffer<A> {
 
     /// Has room for so many bytes that are left to read, but not more than the bound.
     pub fn grow_for(&mut self, left: u64) -> Result<(), AllocError>
-        ensures ok { OnOk result (self.new ≡ record self.old { room = max self.old.room (min left self.old.bound) }) }
+        ensures ok { OnOk result (self.new
+            ≡ record self.old { room = max self.old.room (min left self.old.bound) }) }
         ensures refused { OnErr result (self.new ≡ self.old) }
     {
         let wanted = (left as usize).min(self.bound);
@@ -188,9 +200,12 @@ impl<A: Allocator> StreamBuffer<A> {
         ensures emptied { OnErr result (self.new ≡ emptied self.old) }
         ensures there { C.has content.new id }
         ensures any { HasSameFlags C.ReadContents content.old content.new id }
-        ensures around { C.tells content.old → IsRead C.ReadContents content.old content.new id result }
-        ensures ok { C.tells content.old → at < (C.stored content.old id).size → OnOk result (RefilledFrom (C.stored content.old id).content at self.new) }
-        ensures refused { C.tells content.old → at < (C.stored content.old id).size → IfErr result (IsRefusedRead (C.stored content.old id) at) }
+        ensures around { C.tells content.old
+            → IsRead C.ReadContents content.old content.new id result }
+        ensures ok { C.tells content.old → at < (C.stored content.old id).size
+            → OnOk result (RefilledFrom (C.stored content.old id).content at self.new) }
+        ensures refused { C.tells content.old → at < (C.stored content.old id).size
+            → IfErr result (IsRefusedRead (C.stored content.old id) at) }
     {
         let Some(memory) = &mut self.memory else {
             unreachable!()
@@ -220,8 +235,10 @@ pub fn read_front<C: ReadContents>(
     ensures there { C.has content.new id }
     ensures any { HasSameFlags C.ReadContents content.old content.new id }
     ensures around { C.tells content.old → IsRead C.ReadContents content.old content.new id result }
-    ensures ok { C.tells content.old → at < (C.stored content.old id).size → IfOk result (ReadsPart (C.stored content.old id).content at into.new) }
-    ensures refused { C.tells content.old → at < (C.stored content.old id).size → IfErr result (IsRefusedRead (C.stored content.old id) at) }
+    ensures ok { C.tells content.old → at < (C.stored content.old id).size
+        → IfOk result (ReadsPart (C.stored content.old id).content at into.new) }
+    ensures refused { C.tells content.old → at < (C.stored content.old id).size
+        → IfErr result (IsRefusedRead (C.stored content.old id) at) }
 {
     let most = into.len().min(left as usize);
     content.read_at(id, at, &mut into[..most])
@@ -285,7 +302,8 @@ fn put_into<A: Allocator>(memory: &mut Option<Vec<u8, A>>, at: usize, bytes: &[u
 
 fn lay_over(memory: &mut [u8], at: usize, bytes: &[u8])
     requires { at + length bytes.now ≤ length memory.old }
-    ensures { memory.new ≡ take at memory.old ++ (bytes.now ++ drop (length bytes.now) (drop at memory.old)) }
+    ensures { memory.new
+        ≡ take at memory.old ++ (bytes.now ++ drop (length bytes.now) (drop at memory.old)) }
 {
     memory[at..at + bytes.len()].copy_from_slice(bytes);
 }

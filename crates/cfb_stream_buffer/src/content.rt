@@ -68,13 +68,17 @@ pub trait ReadContents {
         ensures there { has self.new id }
         ensures bound { IfOk result (λ n. n ≤ length into.new) }
         ensures rest { IfOk result (λ n. drop n into.new ≡ drop n into.old) }
-        ensures any { SameFlags (setting self.old) (setting self.new) (stored self.old id) (stored self.new id) }
+        ensures any { SameFlags (setting self.old) (setting self.new)
+            (stored self.old id) (stored self.new id) }
         ensures told { tells self.old → tells self.new }
         ensures kept { tells self.old → kept self.new ≡ kept self.old }
         ensures same { tells self.old → stored self.new id ≡ stored self.old id }
-        ensures counts { tells self.old → CountsFailure read_faults result (failures self.old) (failures self.new) }
-        ensures ok { tells self.old → at < (stored self.old id).size → 0 < length into.old → IfOk result (ReadsPart (stored self.old id).content at into.new) }
-        ensures refused { tells self.old → at < (stored self.old id).size → 0 < length into.old → IfErr result (IsRefusedRead (stored self.old id) at) };
+        ensures counts { tells self.old
+            → CountsFailure read_faults result (failures self.old) (failures self.new) }
+        ensures ok { tells self.old → at < (stored self.old id).size → 0 < length into.old
+            → IfOk result (ReadsPart (stored self.old id).content at into.new) }
+        ensures refused { tells self.old → at < (stored self.old id).size → 0 < length into.old
+            → IfErr result (IsRefusedRead (stored self.old id) at) };
 }
 
 /// Lists of bytes in a file that are read and written. A call that writes does what it says in a sound
@@ -103,8 +107,10 @@ pub trait Contents: ReadContents {
         requires there { Self.has self.old id }
         ensures there { Self.has self.new id }
         ensures told { Self.tells self.old → Self.tells self.new }
-        ensures others { Self.tells self.old → (first : Self) → keeps id first self.old → keeps id first self.new }
-        ensures tight { Self.tells self.old → (first : Self) → tight first self.old → tight first self.new }
+        ensures others { Self.tells self.old
+            → (first : Self) → keeps id first self.old → keeps id first self.new }
+        ensures tight { Self.tells self.old
+            → (first : Self) → tight first self.old → tight first self.new }
         ensures failures { Self.tells self.old → Self.failures self.new ≡ Self.failures self.old }
         ensures full { is_full self.old → is_full self.new }
         ensures too_long { (len : ℕ) → is_too_long self.old id len → is_too_long self.new id len }
@@ -118,20 +124,29 @@ pub trait Contents: ReadContents {
     fn write_at(&mut self, id: u32, at: u64, bytes: &[u8]) -> Result<usize, Error>
         requires there { Self.has self.old id }
         ensures there { Self.has self.new id }
-        ensures any { KeepsFlags (Self.setting self.old) (Self.setting self.new) (Self.stored self.old id) (Self.stored self.new id) result }
+        ensures any { KeepsFlags (Self.setting self.old) (Self.setting self.new)
+            (Self.stored self.old id) (Self.stored self.new id) result }
         ensures bound { IfOk result (λ n. n ≤ length bytes.now) }
         ensures told { Self.tells self.old → Self.tells self.new }
-        ensures others { Self.tells self.old → (first : Self) → keeps id first self.old → keeps id first self.new }
+        ensures others { Self.tells self.old
+            → (first : Self) → keeps id first self.old → keeps id first self.new }
         ensures tight { Self.tells self.old → tight self.old self.new }
-        ensures inside { Self.tells self.old → at + length bytes.now ≤ (Self.stored self.old id).size
+        ensures inside { Self.tells self.old
+            → at + length bytes.now ≤ (Self.stored self.old id).size
             → (first : Self) → tight first self.old → tight first self.new }
         ensures same_len { at + length bytes.now ≤ (Self.stored self.old id).size
             → OnOk result ((Self.stored self.new id).size ≡ (Self.stored self.old id).size) }
-        ensures counts { Self.tells self.old → CountsFailure (λ f. Self.read_faults f || write_faults f) result (Self.failures self.old) (Self.failures self.new) }
-        ensures ok { Self.tells self.old → TakesBytes (Self.stored self.old id) at (length bytes.now) → 0 < length bytes.now
-            → IfOk result (WritesPart (Self.stored self.old id) at bytes.now (Self.stored self.new id)) }
-        ensures refused { Self.tells self.old → TakesBytes (Self.stored self.old id) at (length bytes.now) → 0 < length bytes.now
-            → IfErr result (λ e. IsBreak ((Self.stored self.old id).size ≤ at × is_full self.new) e × KeptOrFailed (Self.stored self.old id) (Self.stored self.new id)) }
+        ensures counts { Self.tells self.old
+            → CountsFailure (λ f. Self.read_faults f || write_faults f) result
+            (Self.failures self.old) (Self.failures self.new) }
+        ensures ok { Self.tells self.old
+            → TakesBytes (Self.stored self.old id) at (length bytes.now) → 0 < length bytes.now
+            → IfOk result (WritesPart (Self.stored self.old id) at bytes.now
+            (Self.stored self.new id)) }
+        ensures refused { Self.tells self.old
+            → TakesBytes (Self.stored self.old id) at (length bytes.now) → 0 < length bytes.now
+            → IfErr result (λ e. IsBreak ((Self.stored self.old id).size ≤ at × is_full self.new) e
+            × KeptOrFailed (Self.stored self.old id) (Self.stored self.new id)) }
         ensures foreseen { Self.tells self.old
             → TakesBytes (Self.stored self.old id) at (length bytes.now) → 0 < length bytes.now
             → IfErr result (λ e. e ≡ Error.Full
@@ -145,16 +160,25 @@ pub trait Contents: ReadContents {
     fn append(&mut self, id: u32, bytes: &[u8]) -> Result<(), Error>
         requires there { Self.has self.old id }
         ensures there { Self.has self.new id }
-        ensures any { KeepsFlags (Self.setting self.old) (Self.setting self.new) (Self.stored self.old id) (Self.stored self.new id) result }
+        ensures any { KeepsFlags (Self.setting self.old) (Self.setting self.new)
+            (Self.stored self.old id) (Self.stored self.new id) result }
         ensures told { Self.tells self.old → Self.tells self.new }
-        ensures others { Self.tells self.old → (first : Self) → keeps id first self.old → keeps id first self.new }
+        ensures others { Self.tells self.old
+            → (first : Self) → keeps id first self.old → keeps id first self.new }
         ensures tight { Self.tells self.old → tight self.old self.new }
-        ensures len { OnOk result ((Self.stored self.new id).size ≡ (Self.stored self.old id).size + length bytes.now) }
-        ensures counts { Self.tells self.old → CountsFailure (λ f. Self.read_faults f || write_faults f) result (Self.failures self.old) (Self.failures self.new) }
-        ensures ok { Self.tells self.old → TakesBytes (Self.stored self.old id) (Self.stored self.old id).size (length bytes.now)
-            → OnOk result (Self.stored self.new id ≡ stored_after_write (Self.stored self.old id) (Self.stored self.old id).size bytes.now) }
-        ensures refused { Self.tells self.old → TakesBytes (Self.stored self.old id) (Self.stored self.old id).size (length bytes.now)
-            → IfErr result (λ e. IsBreak (is_full self.new) e × KeptOrFailed (Self.stored self.old id) (Self.stored self.new id)) }
+        ensures len { OnOk result ((Self.stored self.new id).size
+            ≡ (Self.stored self.old id).size + length bytes.now) }
+        ensures counts { Self.tells self.old
+            → CountsFailure (λ f. Self.read_faults f || write_faults f) result
+            (Self.failures self.old) (Self.failures self.new) }
+        ensures ok { Self.tells self.old
+            → TakesBytes (Self.stored self.old id) (Self.stored self.old id).size (length bytes.now)
+            → OnOk result (Self.stored self.new id ≡ stored_after_write (Self.stored self.old id)
+            (Self.stored self.old id).size bytes.now) }
+        ensures refused { Self.tells self.old
+            → TakesBytes (Self.stored self.old id) (Self.stored self.old id).size (length bytes.now)
+            → IfErr result (λ e. IsBreak (is_full self.new) e
+            × KeptOrFailed (Self.stored self.old id) (Self.stored self.new id)) }
         ensures foreseen { Self.tells self.old
             → TakesBytes (Self.stored self.old id) (Self.stored self.old id).size (length bytes.now)
             → IfErr result (λ e. e ≡ Error.Full
@@ -179,15 +203,22 @@ pub trait Contents: ReadContents {
     fn resize(&mut self, id: u32, len: u64) -> Result<(), Error>
         requires there { Self.has self.old id }
         ensures there { Self.has self.new id }
-        ensures any { KeepsFlags (Self.setting self.old) (Self.setting self.new) (Self.stored self.old id) (Self.stored self.new id) result }
+        ensures any { KeepsFlags (Self.setting self.old) (Self.setting self.new)
+            (Self.stored self.old id) (Self.stored self.new id) result }
         ensures told { Self.tells self.old → Self.tells self.new }
-        ensures others { Self.tells self.old → (first : Self) → keeps id first self.old → keeps id first self.new }
+        ensures others { Self.tells self.old
+            → (first : Self) → keeps id first self.old → keeps id first self.new }
         ensures tight { Self.tells self.old → tight self.old self.new }
         ensures len { OnOk result ((Self.stored self.new id).size ≡ len) }
-        ensures counts { Self.tells self.old → CountsFailure (λ f. Self.read_faults f || write_faults f) result (Self.failures self.old) (Self.failures self.new) }
-        ensures ok { Self.tells self.old → TakesLen (Self.stored self.old id) len → OnOk result (Self.stored self.new id ≡ stored_after_resize (Self.stored self.old id) len) }
+        ensures counts { Self.tells self.old
+            → CountsFailure (λ f. Self.read_faults f || write_faults f) result
+            (Self.failures self.old) (Self.failures self.new) }
+        ensures ok { Self.tells self.old → TakesLen (Self.stored self.old id) len
+            → OnOk result (Self.stored self.new id
+            ≡ stored_after_resize (Self.stored self.old id) len) }
         ensures refused { Self.tells self.old → TakesLen (Self.stored self.old id) len
-            → IfErr result (λ e. IsBreak (is_too_long self.new id len) e × KeptOrFailed (Self.stored self.old id) (Self.stored self.new id)) }
+            → IfErr result (λ e. IsBreak (is_too_long self.new id len) e
+            × KeptOrFailed (Self.stored self.old id) (Self.stored self.new id)) }
         ensures stays { Self.tells self.old → (Self.stored self.new id).failed ≡ false
             → OnErr result (Self.kept self.new ≡ Self.kept self.old) }
         ensures foreseen { Self.tells self.old → TakesLen (Self.stored self.old id) len
@@ -197,21 +228,31 @@ pub trait Contents: ReadContents {
     fn flush(&mut self, id: u32) -> Result<(), Error>
         requires there { Self.has self.old id }
         ensures there { Self.has self.new id }
-        ensures any { KeepsFlags (Self.setting self.old) (Self.setting self.new) (Self.stored self.old id) (Self.stored self.new id) result }
+        ensures any { KeepsFlags (Self.setting self.old) (Self.setting self.new)
+            (Self.stored self.old id) (Self.stored self.new id) result }
         ensures told { Self.tells self.old → Self.tells self.new }
-        ensures others { Self.tells self.old → (first : Self) → keeps id first self.old → keeps id first self.new }
-        ensures tight { Self.tells self.old → (first : Self) → tight first self.old → tight first self.new }
-        ensures counts { Self.tells self.old → CountsFailure (λ f. Self.read_faults f || write_faults f) result (Self.failures self.old) (Self.failures self.new) }
-        ensures ok { Self.tells self.old → (Self.stored self.old id).failed ≡ false → OnOk result (Self.stored self.new id ≡ Self.stored self.old id) }
-        ensures refused { Self.tells self.old → (Self.stored self.old id).failed ≡ false → IfErr result (λ e. IsMediumFault e × Fails (Self.stored self.old id) (Self.stored self.new id)) }
+        ensures others { Self.tells self.old
+            → (first : Self) → keeps id first self.old → keeps id first self.new }
+        ensures tight { Self.tells self.old
+            → (first : Self) → tight first self.old → tight first self.new }
+        ensures counts { Self.tells self.old
+            → CountsFailure (λ f. Self.read_faults f || write_faults f) result
+            (Self.failures self.old) (Self.failures self.new) }
+        ensures ok { Self.tells self.old → (Self.stored self.old id).failed ≡ false
+            → OnOk result (Self.stored self.new id ≡ Self.stored self.old id) }
+        ensures refused { Self.tells self.old → (Self.stored self.old id).failed ≡ false
+            → IfErr result (λ e. IsMediumFault e
+            × Fails (Self.stored self.old id) (Self.stored self.new id)) }
         ensures ended { OnErr result ((Self.stored self.new id).failed ≡ true) }
         ensures kept { Self.tells self.old → (Self.stored self.new id).failed ≡ false
             → Self.kept self.new ≡ Self.kept self.old };
 
     /// Reading is no change.
-    ghost reads_keep: { (id : ℕ) (first old new : Self) → Self.kept new ≡ Self.kept old → keeps id first old → keeps id first new };
+    ghost reads_keep: { (id : ℕ) (first old new : Self) → Self.kept new ≡ Self.kept old
+        → keeps id first old → keeps id first new };
 
-    ghost reads_are_tight: { (first old new : Self) → Self.kept new ≡ Self.kept old → tight first old → tight first new };
+    ghost reads_are_tight: { (first old new : Self) → Self.kept new ≡ Self.kept old
+        → tight first old → tight first new };
 
     /// Nor is no call at all.
     ghost still_is_tight: { (s : Self) → tight s s };

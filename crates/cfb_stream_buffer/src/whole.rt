@@ -14,11 +14,14 @@ pub fn give_up<C: Contents>(content: &mut C, id: u32, is_lost: bool)
     ensures there { C.has content.new id }
     ensures setting { C.setting content.new ≡ C.setting content.old }
     ensures told { C.tells content.old → C.tells content.new }
-    ensures others { C.tells content.old → (first : C) → C.keeps id first content.old → C.keeps id first content.new }
-    ensures tight { C.tells content.old → (first : C) → C.tight first content.old → C.tight first content.new }
+    ensures others { C.tells content.old → (first : C) → C.keeps id first content.old
+        → C.keeps id first content.new }
+    ensures tight { C.tells content.old → (first : C) → C.tight first content.old
+        → C.tight first content.new }
     ensures failures { C.tells content.old → C.failures content.new ≡ C.failures content.old }
     ensures full { C.is_full content.old → C.is_full content.new }
-    ensures too_long { (len : ℕ) → C.is_too_long content.old id len → C.is_too_long content.new id len }
+    ensures too_long { (len : ℕ) → C.is_too_long content.old id len
+        → C.is_too_long content.new id len }
     ensures lost { is_lost ≡ true → Fails (C.stored content.old id) (C.stored content.new id) }
     ensures kept { is_lost ≡ false → content.new ≡ content.old }
 {
@@ -41,9 +44,15 @@ pub fn read_into<C: ReadContents, A: Allocator>(
     ensures there { C.has content.new id }
     ensures any { HasSameFlags C.ReadContents content.old content.new id }
     ensures around { C.tells content.old → IsRead C.ReadContents content.old content.new id result }
-    ensures ok { C.tells content.old → at + (length into.old.items - start) ≤ length (C.stored content.old id).content → length (C.stored content.old id).content ≤ (C.stored content.old id).size
-        → OnOk result (into.new.items ≡ take start into.old.items ++ take (length into.old.items - start) (drop at (C.stored content.old id).content)) }
-    ensures refused { C.tells content.old → at + (length into.old.items - start) ≤ length (C.stored content.old id).content → length (C.stored content.old id).content ≤ (C.stored content.old id).size → IfErr result (IsBreak ⊥) }
+    ensures ok { C.tells content.old
+        → at + (length into.old.items - start) ≤ length (C.stored content.old id).content
+        → length (C.stored content.old id).content ≤ (C.stored content.old id).size
+        → OnOk result (into.new.items ≡ take start into.old.items
+        ++ take (length into.old.items - start) (drop at (C.stored content.old id).content)) }
+    ensures refused { C.tells content.old
+        → at + (length into.old.items - start) ≤ length (C.stored content.old id).content
+        → length (C.stored content.old id).content ≤ (C.stored content.old id).size
+        → IfErr result (IsBreak ⊥) }
     ensures len { OnOk result (length into.new.items ≡ length into.old.items) }
     ensures first { OnOk result (take start into.new.items ≡ take start into.old.items) }
     ensures cut { OnErr result (into.new.items ≡ take start into.old.items) }
@@ -72,9 +81,15 @@ fn read_tail<C: ReadContents>(
     ensures there { C.has content.new id }
     ensures any { HasSameFlags C.ReadContents content.old content.new id }
     ensures around { C.tells content.old → IsRead C.ReadContents content.old content.new id result }
-    ensures ok { C.tells content.old → at + (length into.old - start) ≤ length (C.stored content.old id).content → length (C.stored content.old id).content ≤ (C.stored content.old id).size
-        → OnOk result (into.new ≡ take start into.old ++ take (length into.old - start) (drop at (C.stored content.old id).content)) }
-    ensures refused { C.tells content.old → at + (length into.old - start) ≤ length (C.stored content.old id).content → length (C.stored content.old id).content ≤ (C.stored content.old id).size → IfErr result (IsBreak ⊥) }
+    ensures ok { C.tells content.old
+        → at + (length into.old - start) ≤ length (C.stored content.old id).content
+        → length (C.stored content.old id).content ≤ (C.stored content.old id).size
+        → OnOk result (into.new ≡ take start into.old
+        ++ take (length into.old - start) (drop at (C.stored content.old id).content)) }
+    ensures refused { C.tells content.old
+        → at + (length into.old - start) ≤ length (C.stored content.old id).content
+        → length (C.stored content.old id).content ≤ (C.stored content.old id).size
+        → IfErr result (IsBreak ⊥) }
     ensures first { take start into.new ≡ take start into.old }
 {
     read_whole(content, id, at, &mut into[start..])
@@ -93,9 +108,15 @@ fn read_whole<C: ReadContents>(
     ensures there { C.has content.new id }
     ensures any { HasSameFlags C.ReadContents content.old content.new id }
     ensures around { C.tells content.old → IsRead C.ReadContents content.old content.new id result }
-    ensures ok { C.tells content.old → at + length into.old ≤ length (C.stored content.old id).content → length (C.stored content.old id).content ≤ (C.stored content.old id).size
-        → OnOk result (into.new ≡ take (length into.old) (drop at (C.stored content.old id).content)) }
-    ensures refused { C.tells content.old → at + length into.old ≤ length (C.stored content.old id).content → length (C.stored content.old id).content ≤ (C.stored content.old id).size → IfErr result (IsBreak ⊥) }
+    ensures ok { C.tells content.old
+        → at + length into.old ≤ length (C.stored content.old id).content
+        → length (C.stored content.old id).content ≤ (C.stored content.old id).size
+        → OnOk result (into.new
+        ≡ take (length into.old) (drop at (C.stored content.old id).content)) }
+    ensures refused { C.tells content.old
+        → at + length into.old ≤ length (C.stored content.old id).content
+        → length (C.stored content.old id).content ≤ (C.stored content.old id).size
+        → IfErr result (IsBreak ⊥) }
 {
     let mut done = 0;
     while done < into.len() {
@@ -122,12 +143,19 @@ pub fn write_all<C: Contents>(content: &mut C, id: u32, at: u64, bytes: &[u8]) -
     ensures tight { C.tells content.old → C.tight content.old content.new }
     ensures within { C.tells content.old → at + length bytes.now ≤ (C.stored content.old id).size
         → (first : C) → C.tight first content.old → C.tight first content.new }
-    ensures counts { C.tells content.old → CountsFailure (λ f. C.read_faults f || C.write_faults f) result
+    ensures counts { C.tells content.old
+        → CountsFailure (λ f. C.read_faults f || C.write_faults f) result
         (C.failures content.old) (C.failures content.new) }
-    ensures ok { C.tells content.old → TakesBytes (C.stored content.old id) at (length bytes.now) → length (C.stored content.old id).content ≡ (C.stored content.old id).size
-        → OnOk result (C.stored content.new id ≡ stored_after_write (C.stored content.old id) at bytes.now) }
-    ensures refused { C.tells content.old → TakesBytes (C.stored content.old id) at (length bytes.now) → length (C.stored content.old id).content ≡ (C.stored content.old id).size
-        → IfErr result (λ e. IsBreak (((C.stored content.old id).size < at + length bytes.now) × C.is_full content.new) e × SameLimits (C.stored content.old id) (C.stored content.new id)) }
+    ensures ok { C.tells content.old → TakesBytes (C.stored content.old id) at (length bytes.now)
+        → length (C.stored content.old id).content ≡ (C.stored content.old id).size
+        → OnOk result (C.stored content.new id
+        ≡ stored_after_write (C.stored content.old id) at bytes.now) }
+    ensures refused { C.tells content.old
+        → TakesBytes (C.stored content.old id) at (length bytes.now)
+        → length (C.stored content.old id).content ≡ (C.stored content.old id).size
+        → IfErr result (λ e.
+        IsBreak (((C.stored content.old id).size < at + length bytes.now) × C.is_full content.new) e
+        × SameLimits (C.stored content.old id) (C.stored content.new id)) }
     ensures foreseen { C.tells content.old
         → TakesBytes (C.stored content.old id) at (length bytes.now)
         → length (C.stored content.old id).content ≡ (C.stored content.old id).size
@@ -145,19 +173,26 @@ pub fn write_all<C: Contents>(content: &mut C, id: u32, at: u64, bytes: &[u8]) -
 fn write_inside<C: Contents>(content: &mut C, id: u32, at: u64, bytes: &[u8]) -> Result<(), Error>
     requires there { C.has content.old id }
     requires bound { at + length bytes.now < 2 ^ 64 }
-    requires inside { 0 < length bytes.now → at + length bytes.now ≤ (C.stored content.old id).size }
+    requires inside { 0 < length bytes.now
+        → at + length bytes.now ≤ (C.stored content.old id).size }
     ensures there { C.has content.new id }
     ensures any { HasKeptFlags C.ReadContents content.old content.new id result }
     ensures told { C.tells content.old → C.tells content.new }
     ensures others { C.tells content.old → (first : C) → C.keeps id first content.old
         → C.keeps id first content.new }
-    ensures tight { C.tells content.old → (first : C) → C.tight first content.old → C.tight first content.new }
-    ensures counts { C.tells content.old → CountsFailure (λ f. C.read_faults f || C.write_faults f) result
+    ensures tight { C.tells content.old → (first : C) → C.tight first content.old
+        → C.tight first content.new }
+    ensures counts { C.tells content.old
+        → CountsFailure (λ f. C.read_faults f || C.write_faults f) result
         (C.failures content.old) (C.failures content.new) }
-    ensures ok { C.tells content.old → TakesBytes (C.stored content.old id) at (length bytes.now) → at ≤ length (C.stored content.old id).content
-        → OnOk result (C.stored content.new id ≡ stored_after_write (C.stored content.old id) at bytes.now) }
-    ensures refused { C.tells content.old → TakesBytes (C.stored content.old id) at (length bytes.now) → at ≤ length (C.stored content.old id).content
-        → IfErr result (λ e. IsBreak ⊥ e × SameLimits (C.stored content.old id) (C.stored content.new id)) }
+    ensures ok { C.tells content.old → TakesBytes (C.stored content.old id) at (length bytes.now)
+        → at ≤ length (C.stored content.old id).content
+        → OnOk result (C.stored content.new id
+        ≡ stored_after_write (C.stored content.old id) at bytes.now) }
+    ensures refused { C.tells content.old
+        → TakesBytes (C.stored content.old id) at (length bytes.now)
+        → at ≤ length (C.stored content.old id).content → IfErr result (λ e.
+        IsBreak ⊥ e × SameLimits (C.stored content.old id) (C.stored content.new id)) }
 {
     let mut done = 0;
     while done < bytes.len() {

@@ -41,8 +41,10 @@ impl<A: Allocator> ReadWindow<A> {
     ) -> Result<ReadWindow<A>, Error>
         requires there { C.has content.now id }
         ensures value { IfOk result (λ w. w ≡ window_opened (C.stored content.now id).size limit) }
-        ensures begins { IfOk result (λ w. state_of (C.stored content.now id) w ≡ opened (C.stored content.now id).size (C.stored content.now id).content) }
-        ensures is_open { C.tells content.now → IsFitting (C.stored content.now id) → IfOk result (λ w. IsOpen C.ReadContents content.now id w) }
+        ensures begins { IfOk result (λ w. state_of (C.stored content.now id) w
+            ≡ opened (C.stored content.now id).size (C.stored content.now id).content) }
+        ensures is_open { C.tells content.now → IsFitting (C.stored content.now id)
+            → IfOk result (λ w. IsOpen C.ReadContents content.now id w) }
         ensures refused { IfErr result IsMemory }
     {
         let window = Window::open(alloc, content, id, limit)?;
@@ -52,7 +54,8 @@ impl<A: Allocator> ReadWindow<A> {
     /// The length of the stream.
     pub fn len(&self) -> u64
         ensures value { result ≡ self.now.size }
-        ensures runs { (s : Stored) → StreamStep (stream_setting_of s) (state_of s self.now) ask_len (offset result) (state_of s self.now) }
+        ensures runs { (s : Stored) → StreamStep (stream_setting_of s) (state_of s self.now) ask_len
+            (offset result) (state_of s self.now) }
     {
         self.window.len()
     }
@@ -60,7 +63,8 @@ impl<A: Allocator> ReadWindow<A> {
     /// Whether the stream is empty.
     pub fn is_empty(&self) -> bool
         ensures value { result ≡ (self.now.size == 0) }
-        ensures runs { (s : Stored) → StreamStep (stream_setting_of s) (state_of s self.now) ask_is_empty (answered result) (state_of s self.now) }
+        ensures runs { (s : Stored) → StreamStep (stream_setting_of s)
+            (state_of s self.now) ask_is_empty (answered result) (state_of s self.now) }
     {
         self.window.is_empty()
     }
@@ -68,7 +72,8 @@ impl<A: Allocator> ReadWindow<A> {
     /// The place of the next byte.
     pub fn position(&self) -> u64
         ensures value { result ≡ self.now.base + self.now.cursor }
-        ensures runs { (s : Stored) → StreamStep (stream_setting_of s) (state_of s self.now) ask_position (offset result) (state_of s self.now) }
+        ensures runs { (s : Stored) → StreamStep (stream_setting_of s)
+            (state_of s self.now) ask_position (offset result) (state_of s self.now) }
         ensures inside { self.now.base + self.now.cursor ≤ self.now.size }
         ensures filled { self.now.base + length self.now.filled ≤ self.now.size }
         ensures behind { self.now.cursor ≤ length self.now.filled }
@@ -79,8 +84,12 @@ impl<A: Allocator> ReadWindow<A> {
 
     /// Goes on by `amount` bytes, but by no more than were lent by `fill` and still count as lent.
     pub fn consume(&mut self, amount: usize)
-        ensures value { self.new ≡ record self.old { cursor = self.old.cursor + min amount self.old.ahead; ahead = self.old.ahead - min amount self.old.ahead } }
-        ensures runs { (s : Stored) → StreamStep (stream_setting_of s) (state_of s self.old) (consume amount) ready (state_of s self.new) }
+        ensures value { self.new ≡ record self.old {
+          cursor = self.old.cursor + min amount self.old.ahead;
+          ahead = self.old.ahead - min amount self.old.ahead;
+        } }
+        ensures runs { (s : Stored) → StreamStep (stream_setting_of s) (state_of s self.old)
+            (consume amount) ready (state_of s self.new) }
         ensures agrees { (s : Stored) → LiesOver s self.old → LiesOver s self.new }
     {
         self.window.consume(amount);
@@ -99,17 +108,23 @@ impl<A: Allocator> ReadWindow<A> {
         requires behind { self.old.base + self.old.cursor < self.old.size }
         ensures there { C.has content.new id }
         ensures any { HasSameFlags C.ReadContents content.old content.new id }
-        ensures around { C.tells content.old → IsRead C.ReadContents content.old content.new id result }
-        ensures ok { IsReady C.ReadContents content.old id self.old → OnOk result (Carries (C.stored content.old id) self.old (C.stored content.new id) self.new) }
-        ensures some { IsReady C.ReadContents content.old id self.old → OnOk result (self.new.cursor < length self.new.filled) }
+        ensures around { C.tells content.old
+            → IsRead C.ReadContents content.old content.new id result }
+        ensures ok { IsReady C.ReadContents content.old id self.old → OnOk result
+            (Carries (C.stored content.old id) self.old (C.stored content.new id) self.new) }
+        ensures some { IsReady C.ReadContents content.old id self.old
+            → OnOk result (self.new.cursor < length self.new.filled) }
         ensures held { self.old.cursor < length self.old.filled → content.new ≡ content.old }
         ensures stays { self.old.cursor < length self.old.filled → self.new ≡ self.old }
-        ensures refused { IsReady C.ReadContents content.old id self.old
-            → IfErr result (λ e. ReadBrokeOff ⊥ (C.stored content.old id) self.old (C.stored content.new id) self.new e ⊎ Unreadable (C.stored content.old id) self.old (C.stored content.new id) self.new e) }
-        ensures grown { self.new.room < min (self.old.size - (self.old.base + self.old.cursor)) self.old.bound
+        ensures refused { IsReady C.ReadContents content.old id self.old → IfErr result (λ e.
+            ReadBrokeOff ⊥ (C.stored content.old id) self.old (C.stored content.new id) self.new e
+            ⊎ Unreadable (C.stored content.old id) self.old (C.stored content.new id) self.new e) }
+        ensures grown { self.new.room
+            < min (self.old.size - (self.old.base + self.old.cursor)) self.old.bound
             → content.new ≡ content.old }
         ensures bound { self.new.bound ≡ self.old.bound }
-        ensures lean { self.new.room ≤ max self.old.room (min (self.old.size - (self.old.base + self.old.cursor)) self.old.bound) }
+        ensures lean { self.new.room ≤ max self.old.room
+            (min (self.old.size - (self.old.base + self.old.cursor)) self.old.bound) }
     {
         if self.window.has_rest() {
             return Ok(());
@@ -131,12 +146,15 @@ impl<A: Allocator> ReadWindow<A> {
         requires some { 0 < length into.old }
         ensures there { C.has content.new id }
         ensures any { HasSameFlags C.ReadContents content.old content.new id }
-        ensures around { C.tells content.old → IsRead C.ReadContents content.old content.new id result }
+        ensures around { C.tells content.old
+            → IsRead C.ReadContents content.old content.new id result }
         ensures most { IfOk result (λ n. n ≤ length into.new) }
         ensures rest { IfOk result (λ n. drop n into.new ≡ drop n into.old) }
-        ensures ok { IsReady C.ReadContents content.old id self.old → IfOk result (ReadPast into.new (C.stored content.old id) self.old (C.stored content.new id) self.new) }
-        ensures refused { IsReady C.ReadContents content.old id self.old
-            → IfErr result (λ e. ReadBrokeOff ⊥ (C.stored content.old id) self.old (C.stored content.new id) self.new e ⊎ Unreadable (C.stored content.old id) self.old (C.stored content.new id) self.new e) }
+        ensures ok { IsReady C.ReadContents content.old id self.old → IfOk result (ReadPast into.new
+            (C.stored content.old id) self.old (C.stored content.new id) self.new) }
+        ensures refused { IsReady C.ReadContents content.old id self.old → IfErr result (λ e.
+            ReadBrokeOff ⊥ (C.stored content.old id) self.old (C.stored content.new id) self.new e
+            ⊎ Unreadable (C.stored content.old id) self.old (C.stored content.new id) self.new e) }
         ensures room { self.new.room ≡ self.old.room }
         ensures bound { self.new.bound ≡ self.old.bound }
     {
@@ -154,22 +172,29 @@ impl<A: Allocator> ReadWindow<A> {
     ) -> Result<usize, Error>
         requires there { C.has content.old id }
         ensures there { C.has content.new id }
-        ensures any { HeedsReading C.ReadContents content.old id self.old result content.new self.new }
+        ensures any { HeedsReading C.ReadContents
+            content.old id self.old result content.new self.new }
         ensures most { IfOk result (λ n. n ≤ length into.new) }
         ensures rest { IfOk result (λ n. drop n into.new ≡ drop n into.old) }
         ensures runs { IsOpen C.ReadContents content.old id self.old
-            → IfOk result (λ n. RunsReading C.ReadContents content.old id self.old (read (length into.old)) (got (take n into.new)) content.new self.new) }
+            → IfOk result (λ n. RunsReading C.ReadContents content.old id self.old
+            (read (length into.old)) (got (take n into.new)) content.new self.new) }
         ensures refused { IsOpen C.ReadContents content.old id self.old
-            → IfErr result (IsRefusedReading C.ReadContents content.old id self.old (read (length into.old)) content.new self.new) }
-        ensures goes_on { IsOpen C.ReadContents content.old id self.old → GoesOn C.ReadContents content.old content.new id self.new }
+            → IfErr result (IsRefusedReading C.ReadContents content.old id self.old
+            (read (length into.old)) content.new self.new) }
+        ensures goes_on { IsOpen C.ReadContents content.old id self.old
+            → GoesOn C.ReadContents content.old content.new id self.new }
         ensures none { length into.old ≡ 0 → content.new ≡ content.old }
         ensures held { StandsInside self.old → content.new ≡ content.old }
         ensures grown { length into.old < 65536
-            → self.new.room < min (self.old.size - (self.old.base + self.old.cursor)) self.old.bound → content.new ≡ content.old }
+            → self.new.room < min (self.old.size - (self.old.base + self.old.cursor)) self.old.bound
+            → content.new ≡ content.old }
         ensures straight { 65536 ≤ length into.old → self.new.room ≡ self.old.room }
         ensures bound { self.new.bound ≡ self.old.bound }
-        ensures lean { self.new.room ≤ max self.old.room (min (self.old.size - (self.old.base + self.old.cursor)) self.old.bound) }
-        ensures around { C.tells content.old → IsRead C.ReadContents content.old content.new id result }
+        ensures lean { self.new.room ≤ max self.old.room
+            (min (self.old.size - (self.old.base + self.old.cursor)) self.old.bound) }
+        ensures around { C.tells content.old
+            → IsRead C.ReadContents content.old content.new id result }
     {
         if content.is_failed(id) {
             return Err(Error::Failed);
@@ -195,18 +220,25 @@ impl<A: Allocator> ReadWindow<A> {
     pub fn fill<C: ReadContents>(&mut self, content: &mut C, id: u32) -> Result<(), Error>
         requires there { C.has content.old id }
         ensures there { C.has content.new id }
-        ensures any { HeedsReading C.ReadContents content.old id self.old result content.new self.new }
+        ensures any { HeedsReading C.ReadContents
+            content.old id self.old result content.new self.new }
         ensures runs { IsOpen C.ReadContents content.old id self.old
-            → OnOk result (RunsReading C.ReadContents content.old id self.old fill_buf (got (drop self.new.cursor self.new.filled)) content.new self.new) }
+            → OnOk result (RunsReading C.ReadContents content.old id self.old fill_buf
+            (got (drop self.new.cursor self.new.filled)) content.new self.new) }
         ensures refused { IsOpen C.ReadContents content.old id self.old
-            → IfErr result (IsRefusedReading C.ReadContents content.old id self.old fill_buf content.new self.new) }
-        ensures goes_on { IsOpen C.ReadContents content.old id self.old → GoesOn C.ReadContents content.old content.new id self.new }
+            → IfErr result (IsRefusedReading C.ReadContents
+            content.old id self.old fill_buf content.new self.new) }
+        ensures goes_on { IsOpen C.ReadContents content.old id self.old
+            → GoesOn C.ReadContents content.old content.new id self.new }
         ensures held { StandsInside self.old → content.new ≡ content.old }
-        ensures grown { self.new.room < min (self.old.size - (self.old.base + self.old.cursor)) self.old.bound
+        ensures grown { self.new.room
+            < min (self.old.size - (self.old.base + self.old.cursor)) self.old.bound
             → content.new ≡ content.old }
         ensures bound { self.new.bound ≡ self.old.bound }
-        ensures lean { self.new.room ≤ max self.old.room (min (self.old.size - (self.old.base + self.old.cursor)) self.old.bound) }
-        ensures around { C.tells content.old → IsRead C.ReadContents content.old content.new id result }
+        ensures lean { self.new.room ≤ max self.old.room
+            (min (self.old.size - (self.old.base + self.old.cursor)) self.old.bound) }
+        ensures around { C.tells content.old
+            → IsRead C.ReadContents content.old content.new id result }
     {
         if content.is_failed(id) {
             return Err(Error::Failed);
@@ -228,15 +260,22 @@ impl<A: Allocator> ReadWindow<A> {
         to: SeekFrom,
     ) -> Result<u64, Error>
         requires there { C.has content.now id }
-        ensures any { HeedsReading C.ReadContents content.now id self.old result content.now self.new }
+        ensures any { HeedsReading C.ReadContents
+            content.now id self.old result content.now self.new }
         ensures runs { IsOpen C.ReadContents content.now id self.old
-            → IfOk result (λ at. RunsReading C.ReadContents content.now id self.old (seek (whence_of to)) (offset at) content.now self.new) }
+            → IfOk result (λ at. RunsReading C.ReadContents content.now id self.old
+            (seek (whence_of to)) (offset at) content.now self.new) }
         ensures refused { IsOpen C.ReadContents content.now id self.old
-            → IfErr result (IsRefusedReading C.ReadContents content.now id self.old (seek (whence_of to)) content.now self.new) }
-        ensures kinds { IfErr result (HasReason (record no_error { failed = ⊤; invalid_input = ⊤ })) }
-        ensures goes_on { IsOpen C.ReadContents content.now id self.old → GoesOn C.ReadContents content.now content.now id self.new }
-        ensures sure { (C.stored content.now id).failed ≡ false → OnErr result (target_of self.old.size (self.old.base + self.old.cursor) to ≡ None) }
-        ensures stays { (at : ℕ) → target_of self.old.size (self.old.base + self.old.cursor) to ≡ Some at
+            → IfErr result (IsRefusedReading C.ReadContents content.now id self.old
+            (seek (whence_of to)) content.now self.new) }
+        ensures kinds { IfErr result
+            (HasReason (record no_error { failed = ⊤; invalid_input = ⊤ })) }
+        ensures goes_on { IsOpen C.ReadContents content.now id self.old
+            → GoesOn C.ReadContents content.now content.now id self.new }
+        ensures sure { (C.stored content.now id).failed ≡ false
+            → OnErr result (target_of self.old.size (self.old.base + self.old.cursor) to ≡ None) }
+        ensures stays { (at : ℕ)
+            → target_of self.old.size (self.old.base + self.old.cursor) to ≡ Some at
             → self.old.base ≤ at → at ≤ self.old.base + length self.old.filled
             → (self.new.base ≡ self.old.base) × (self.new.filled ≡ self.old.filled) }
         ensures bound { self.new.bound ≡ self.old.bound }
@@ -278,18 +317,25 @@ impl<A: Allocator> ReadWindow<A> {
     ) -> Result<usize, Error>
         requires there { C.has content.old id }
         ensures there { C.has content.new id }
-        ensures any { HeedsReading C.ReadContents content.old id self.old result content.new self.new }
+        ensures any { HeedsReading C.ReadContents
+            content.old id self.old result content.new self.new }
         ensures appends { IfOk result (λ n. (length into.new.items ≡ length into.old.items + n)
             × (into.new.items ≡ into.old.items ++ drop (length into.old.items) into.new.items)) }
         ensures nothing { OnErr result (into.new.items ≡ into.old.items) }
         ensures runs { IsOpen C.ReadContents content.old id self.old
-            → OnOk result (RunsReading C.ReadContents content.old id self.old read_to_end (got (drop (length into.old.items) into.new.items)) content.new self.new) }
-        ensures refused { IsOpen C.ReadContents content.old id self.old → IfErr result (IsRefusedReading C.ReadContents content.old id self.old read_to_end content.new self.new) }
-        ensures goes_on { IsOpen C.ReadContents content.old id self.old → GoesOn C.ReadContents content.old content.new id self.new }
-        ensures held { self.old.base + length self.old.filled ≡ self.old.size → content.new ≡ content.old }
+            → OnOk result (RunsReading C.ReadContents content.old id self.old read_to_end
+            (got (drop (length into.old.items) into.new.items)) content.new self.new) }
+        ensures refused { IsOpen C.ReadContents content.old id self.old
+            → IfErr result (IsRefusedReading C.ReadContents
+            content.old id self.old read_to_end content.new self.new) }
+        ensures goes_on { IsOpen C.ReadContents content.old id self.old
+            → GoesOn C.ReadContents content.old content.new id self.new }
+        ensures held { self.old.base + length self.old.filled ≡ self.old.size
+            → content.new ≡ content.old }
         ensures bound { self.new.bound ≡ self.old.bound }
         ensures room { self.new.room ≡ self.old.room }
-        ensures around { C.tells content.old → IsRead C.ReadContents content.old content.new id result }
+        ensures around { C.tells content.old
+            → IsRead C.ReadContents content.old content.new id result }
     {
         if content.is_failed(id) {
             return Err(Error::Failed);

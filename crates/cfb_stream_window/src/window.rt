@@ -42,9 +42,19 @@ impl<A: Allocator> Model for Window<A> {
 
     ghost Value = { WindowState };
 
-    ghost view = { λ w. record { filled = w.buffer.filled; cursor = w.buffer.cursor; room = w.buffer.room; bound = w.buffer.bound; base = w.base; size = w.size; ahead = w.ahead; pending = w.pending } };
+    ghost view = { λ w. record {
+      filled = w.buffer.filled;
+      cursor = w.buffer.cursor;
+      room = w.buffer.room;
+      bound = w.buffer.bound;
+      base = w.base;
+      size = w.size;
+      ahead = w.ahead;
+      pending = w.pending;
+    } };
 
-    ghost invariant = { λ w. WindowStands (length w.buffer.filled) w.buffer.cursor w.base w.size w.ahead };
+    ghost invariant = { λ w.
+        WindowStands (length w.buffer.filled) w.buffer.cursor w.base w.size w.ahead };
 }
 
 impl<A: Allocator> Window<A> {
@@ -58,8 +68,10 @@ impl<A: Allocator> Window<A> {
     ) -> Result<Window<A>, Error>
         requires there { C.has content.now id }
         ensures value { IfOk result (λ w. w ≡ window_opened (C.stored content.now id).size limit) }
-        ensures begins { IfOk result (λ w. state_of (C.stored content.now id) w ≡ opened (C.stored content.now id).size (C.stored content.now id).content) }
-        ensures is_open { C.tells content.now → IsFitting (C.stored content.now id) → IfOk result (λ w. IsOpen C.ReadContents content.now id w) }
+        ensures begins { IfOk result (λ w. state_of (C.stored content.now id) w
+            ≡ opened (C.stored content.now id).size (C.stored content.now id).content) }
+        ensures is_open { C.tells content.now → IsFitting (C.stored content.now id)
+            → IfOk result (λ w. IsOpen C.ReadContents content.now id w) }
         ensures refused { IfErr result IsMemory }
     {
         let Ok(buffer) = StreamBuffer::new(alloc, limit) else {
@@ -75,8 +87,10 @@ impl<A: Allocator> Window<A> {
         requires unfilled { buffer.filled ≡ [] }
         requires start { buffer.cursor ≡ 0 }
         ensures value { result ≡ window_over (C.stored content.now id).size buffer }
-        ensures begins { state_of (C.stored content.now id) result ≡ opened (C.stored content.now id).size (C.stored content.now id).content }
-        ensures is_open { C.tells content.now → IsFitting (C.stored content.now id) → IsOpen C.ReadContents content.now id result }
+        ensures begins { state_of (C.stored content.now id) result
+            ≡ opened (C.stored content.now id).size (C.stored content.now id).content }
+        ensures is_open { C.tells content.now → IsFitting (C.stored content.now id)
+            → IsOpen C.ReadContents content.now id result }
     {
         Window {
             buffer,
@@ -90,7 +104,8 @@ impl<A: Allocator> Window<A> {
     /// The length of the stream.
     pub fn len(&self) -> u64
         ensures value { result ≡ self.now.size }
-        ensures runs { (s : Stored) → StreamStep (stream_setting_of s) (state_of s self.now) ask_len (offset result) (state_of s self.now) }
+        ensures runs { (s : Stored) → StreamStep (stream_setting_of s) (state_of s self.now) ask_len
+            (offset result) (state_of s self.now) }
     {
         self.size
     }
@@ -98,7 +113,8 @@ impl<A: Allocator> Window<A> {
     /// Whether the stream is empty.
     pub fn is_empty(&self) -> bool
         ensures value { result ≡ (self.now.size == 0) }
-        ensures runs { (s : Stored) → StreamStep (stream_setting_of s) (state_of s self.now) ask_is_empty (answered result) (state_of s self.now) }
+        ensures runs { (s : Stored) → StreamStep (stream_setting_of s)
+            (state_of s self.now) ask_is_empty (answered result) (state_of s self.now) }
     {
         self.size == 0
     }
@@ -106,7 +122,8 @@ impl<A: Allocator> Window<A> {
     /// The place of the next byte.
     pub fn position(&self) -> u64
         ensures value { result ≡ self.now.base + self.now.cursor }
-        ensures runs { (s : Stored) → StreamStep (stream_setting_of s) (state_of s self.now) ask_position (offset result) (state_of s self.now) }
+        ensures runs { (s : Stored) → StreamStep (stream_setting_of s)
+            (state_of s self.now) ask_position (offset result) (state_of s self.now) }
         ensures inside { self.now.base + self.now.cursor ≤ self.now.size }
         ensures filled { self.now.base + length self.now.filled ≤ self.now.size }
         ensures behind { self.now.cursor ≤ length self.now.filled }
@@ -121,15 +138,22 @@ impl<A: Allocator> Window<A> {
     /// never refused, also on a file that has failed.
     #[tactic(auto, using(crate::proofs::Asking::consumed_step))]
     pub fn consume(&mut self, amount: usize)
-        ensures value { self.new ≡ record self.old { cursor = self.old.cursor + min amount self.old.ahead; ahead = self.old.ahead - min amount self.old.ahead } }
-        ensures runs { (s : Stored) → StreamStep (stream_setting_of s) (state_of s self.old) (consume amount) ready (state_of s self.new) }
+        ensures value { self.new ≡ record self.old {
+          cursor = self.old.cursor + min amount self.old.ahead;
+          ahead = self.old.ahead - min amount self.old.ahead;
+        } }
+        ensures runs { (s : Stored) → StreamStep (stream_setting_of s) (state_of s self.old)
+            (consume amount) ready (state_of s self.new) }
         ensures agrees { (s : Stored) → LiesOver s self.old → LiesOver s self.new }
     {
         self.use_up(amount);
     }
 
     fn use_up(&mut self, amount: usize)
-        ensures { self.new ≡ record self.old { cursor = self.old.cursor + min amount self.old.ahead; ahead = self.old.ahead - min amount self.old.ahead } }
+        ensures { self.new ≡ record self.old {
+          cursor = self.old.cursor + min amount self.old.ahead;
+          ahead = self.old.ahead - min amount self.old.ahead;
+        } }
     {
         let taken = amount.min(self.ahead);
         let to = self.buffer.cursor() + taken;
@@ -163,7 +187,8 @@ impl<A: Allocator> Window<A> {
         ensures count { result ≡ min (length into.old) (length self.old.filled - self.old.cursor) }
         ensures bytes { take result into.new ≡ take result (drop self.old.cursor self.old.filled) }
         ensures rest { drop result into.new ≡ drop result into.old }
-        ensures window { self.new ≡ record self.old { cursor = self.old.cursor + result; ahead = 0 } }
+        ensures window { self.new
+            ≡ record self.old { cursor = self.old.cursor + result; ahead = 0 } }
     {
         let count = copy_out(self.buffer.rest(), into);
         let to = self.buffer.cursor() + count;
@@ -184,8 +209,10 @@ impl<A: Allocator> Window<A> {
     /// Has as much room as there are bytes left, as far as it may.
     fn grow_for_rest(&mut self) -> Result<(), Error>
         ensures ok { OnOk result (self.new ≡ record self.old { room = self.new.room }) }
-        ensures room { OnOk result (self.new.room ≡ max self.old.room (min (self.old.size - (self.old.base + self.old.cursor)) self.old.bound)) }
-        ensures enough { OnOk result (min (self.old.size - (self.old.base + self.old.cursor)) self.old.bound ≤ self.new.room) }
+        ensures room { OnOk result (self.new.room ≡ max self.old.room
+            (min (self.old.size - (self.old.base + self.old.cursor)) self.old.bound)) }
+        ensures enough { OnOk result (min
+            (self.old.size - (self.old.base + self.old.cursor)) self.old.bound ≤ self.new.room) }
         ensures more { self.old.room ≤ self.new.room }
         ensures refused { OnErr result (self.new ≡ self.old) }
         ensures memory { IfErr result IsMemory }
@@ -215,17 +242,23 @@ impl<A: Allocator> Window<A> {
         requires unread { self.old.ahead ≡ 0 }
         ensures there { C.has content.new id }
         ensures any { HasSameFlags C.ReadContents content.old content.new id }
-        ensures around { C.tells content.old → IsRead C.ReadContents content.old content.new id result }
+        ensures around { C.tells content.old
+            → IsRead C.ReadContents content.old content.new id result }
         ensures calm { self.new.pending ≡ false }
-        ensures ok { IsReady C.ReadContents content.old id self.old → OnOk result (Carries (C.stored content.old id) self.old (C.stored content.new id) self.new) }
-        ensures some { IsReady C.ReadContents content.old id self.old → OnOk result (self.new.cursor < length self.new.filled) }
-        ensures refused { IsReady C.ReadContents content.old id self.old
-            → IfErr result (λ e. CalmBrokeOff (C.stored content.old id) self.old (C.stored content.new id) self.new e ⊎ Unreadable (C.stored content.old id) self.old (C.stored content.new id) self.new e) }
+        ensures ok { IsReady C.ReadContents content.old id self.old → OnOk result
+            (Carries (C.stored content.old id) self.old (C.stored content.new id) self.new) }
+        ensures some { IsReady C.ReadContents content.old id self.old
+            → OnOk result (self.new.cursor < length self.new.filled) }
+        ensures refused { IsReady C.ReadContents content.old id self.old → IfErr result (λ e.
+            CalmBrokeOff (C.stored content.old id) self.old (C.stored content.new id) self.new e
+            ⊎ Unreadable (C.stored content.old id) self.old (C.stored content.new id) self.new e) }
         ensures room { self.old.room ≤ self.new.room }
-        ensures grown { self.new.room < min (self.old.size - (self.old.base + self.old.cursor)) self.old.bound
+        ensures grown { self.new.room
+            < min (self.old.size - (self.old.base + self.old.cursor)) self.old.bound
             → content.new ≡ content.old }
         ensures bound { self.new.bound ≡ self.old.bound }
-        ensures lean { self.new.room ≤ max self.old.room (min (self.old.size - (self.old.base + self.old.cursor)) self.old.bound) }
+        ensures lean { self.new.room ≤ max self.old.room
+            (min (self.old.size - (self.old.base + self.old.cursor)) self.old.bound) }
     {
         self.grow_for_rest()?;
         self.let_go();
@@ -239,10 +272,14 @@ impl<A: Allocator> Window<A> {
         requires behind { self.old.base < self.old.size }
         ensures there { C.has content.new id }
         ensures any { HasSameFlags C.ReadContents content.old content.new id }
-        ensures around { C.tells content.old → IsRead C.ReadContents content.old content.new id result }
-        ensures ok { C.tells content.old → self.old.base < (C.stored content.old id).size → OnOk result (IsLoaded (C.stored content.old id).content self.old self.new) }
-        ensures refused { C.tells content.old → self.old.base < (C.stored content.old id).size → IfErr result (IsRefusedRead (C.stored content.old id) self.old.base) }
-        ensures window { self.new ≡ record self.old { filled = self.new.filled; cursor = 0; ahead = 0 } }
+        ensures around { C.tells content.old
+            → IsRead C.ReadContents content.old content.new id result }
+        ensures ok { C.tells content.old → self.old.base < (C.stored content.old id).size
+            → OnOk result (IsLoaded (C.stored content.old id).content self.old self.new) }
+        ensures refused { C.tells content.old → self.old.base < (C.stored content.old id).size
+            → IfErr result (IsRefusedRead (C.stored content.old id) self.old.base) }
+        ensures window { self.new
+            ≡ record self.old { filled = self.new.filled; cursor = 0; ahead = 0 } }
         ensures emptied { OnErr result (self.new.filled ≡ []) }
     {
         self.ahead = 0;
@@ -265,13 +302,16 @@ impl<A: Allocator> Window<A> {
         requires some { 0 < length into.old }
         ensures there { C.has content.new id }
         ensures any { HasSameFlags C.ReadContents content.old content.new id }
-        ensures around { C.tells content.old → IsRead C.ReadContents content.old content.new id result }
+        ensures around { C.tells content.old
+            → IsRead C.ReadContents content.old content.new id result }
         ensures calm { self.new.pending ≡ false }
         ensures most { IfOk result (λ n. n ≤ length into.new) }
         ensures rest { IfOk result (λ n. drop n into.new ≡ drop n into.old) }
-        ensures ok { IsReady C.ReadContents content.old id self.old → IfOk result (ReadPast into.new (C.stored content.old id) self.old (C.stored content.new id) self.new) }
-        ensures refused { IsReady C.ReadContents content.old id self.old
-            → IfErr result (λ e. CalmBrokeOff (C.stored content.old id) self.old (C.stored content.new id) self.new e ⊎ Unreadable (C.stored content.old id) self.old (C.stored content.new id) self.new e) }
+        ensures ok { IsReady C.ReadContents content.old id self.old → IfOk result (ReadPast into.new
+            (C.stored content.old id) self.old (C.stored content.new id) self.new) }
+        ensures refused { IsReady C.ReadContents content.old id self.old → IfErr result (λ e.
+            CalmBrokeOff (C.stored content.old id) self.old (C.stored content.new id) self.new e
+            ⊎ Unreadable (C.stored content.old id) self.old (C.stored content.new id) self.new e) }
         ensures room { self.new.room ≡ self.old.room }
         ensures bound { self.new.bound ≡ self.old.bound }
     {
@@ -303,7 +343,8 @@ impl<A: Allocator> Window<A> {
 
     /// Whether a place lies among the bytes that are held, or right behind them.
     pub(crate) fn holds(&self, at: u64) -> bool
-        ensures { IsTrue result ↔ (self.now.base ≤ at × at ≤ self.now.base + length self.now.filled) }
+        ensures { IsTrue result
+            ↔ (self.now.base ≤ at × at ≤ self.now.base + length self.now.filled) }
     {
         self.base <= at && at - self.base <= self.buffer.filled_len() as u64
     }
@@ -332,11 +373,13 @@ impl<A: Allocator> Window<A> {
     /// Refused where the rest can't all be read. Bytes are pending only where it can.
     pub(crate) fn check_rest<C: ReadContents>(&mut self, content: &C, id: u32) -> Result<(), Error>
         requires there { C.has content.now id }
-        ensures ok { IsReady C.ReadContents content.now id self.old → OnOk result (IsReadable (C.stored content.now id) self.old) }
+        ensures ok { IsReady C.ReadContents content.now id self.old
+            → OnOk result (IsReadable (C.stored content.now id) self.old) }
         ensures kinds { IfErr result (IsInvalidOrMemory Unit) }
         ensures window { OnOk result (self.new ≡ self.old) }
         ensures refused { IsReady C.ReadContents content.now id self.old
-            → IfErr result (λ e. (IsMemory e × (self.new ≡ record self.old { ahead = 0 })) ⊎ IsUnreadable (C.stored content.now id) self.old self.new e) }
+            → IfErr result (λ e. (IsMemory e × (self.new ≡ record self.old { ahead = 0 }))
+            ⊎ IsUnreadable (C.stored content.now id) self.old self.new e) }
         ensures bound { self.new.bound ≡ self.old.bound }
         ensures room { self.new.room ≡ self.old.room }
         ensures pending { self.new.pending ≡ self.old.pending }
@@ -381,8 +424,10 @@ impl<A: Allocator> Window<A> {
         into: &mut Vec<u8, B>,
     ) -> Result<usize, Error>
         ensures count { IfOk result (λ n. n ≡ length self.old.filled - self.old.cursor) }
-        ensures bytes { OnOk result (into.new.items ≡ into.old.items ++ drop self.old.cursor self.old.filled) }
-        ensures window { OnOk result (self.new ≡ record self.old { cursor = length self.old.filled; ahead = 0 }) }
+        ensures bytes { OnOk result (into.new.items
+            ≡ into.old.items ++ drop self.old.cursor self.old.filled) }
+        ensures window { OnOk result (self.new
+            ≡ record self.old { cursor = length self.old.filled; ahead = 0 }) }
         ensures refused { IfErr result IsMemory }
         ensures nothing { OnErr result (into.new.items ≡ into.old.items) }
         ensures unlent { OnErr result (self.new ≡ record self.old { ahead = 0 }) }
@@ -409,18 +454,25 @@ impl<A: Allocator> Window<A> {
     ) -> Result<(), Error>
         requires there { C.has content.old id }
         requires calm { self.old.pending ≡ false }
-        requires room { length into.old.items ≡ start + (self.old.size - (self.old.base + self.old.cursor)) }
+        requires room { length into.old.items
+            ≡ start + (self.old.size - (self.old.base + self.old.cursor)) }
         ensures there { C.has content.new id }
         ensures any { HasSameFlags C.ReadContents content.old content.new id }
-        ensures around { C.tells content.old → IsRead C.ReadContents content.old content.new id result }
+        ensures around { C.tells content.old
+            → IsRead C.ReadContents content.old content.new id result }
         ensures calm { self.new.pending ≡ false }
         ensures len { OnOk result (length into.new.items ≡ length into.old.items) }
         ensures first { OnOk result (take start into.new.items ≡ take start into.old.items) }
         ensures cut { OnErr result (into.new.items ≡ take start into.old.items) }
-        ensures ok { IsReady C.ReadContents content.old id self.old → IsReadable (C.stored content.old id) self.old → self.old.base + self.old.cursor < self.old.size
-            → OnOk result (Appended (take start into.old.items) into.new.items (C.stored content.old id) self.old (C.stored content.new id) self.new) }
-        ensures refused { IsReady C.ReadContents content.old id self.old → IsReadable (C.stored content.old id) self.old → self.old.base + self.old.cursor < self.old.size
-            → IfErr result (CalmBrokeOff (C.stored content.old id) self.old (C.stored content.new id) self.new) }
+        ensures ok { IsReady C.ReadContents content.old id self.old
+            → IsReadable (C.stored content.old id) self.old
+            → self.old.base + self.old.cursor < self.old.size
+            → OnOk result (Appended (take start into.old.items) into.new.items
+            (C.stored content.old id) self.old (C.stored content.new id) self.new) }
+        ensures refused { IsReady C.ReadContents content.old id self.old
+            → IsReadable (C.stored content.old id) self.old
+            → self.old.base + self.old.cursor < self.old.size → IfErr result
+            (CalmBrokeOff (C.stored content.old id) self.old (C.stored content.new id) self.new) }
         ensures bound { self.new.bound ≡ self.old.bound }
         ensures room { self.new.room ≡ self.old.room }
     {
@@ -442,15 +494,22 @@ impl<A: Allocator> Window<A> {
         requires calm { self.old.pending ≡ false }
         ensures there { C.has content.new id }
         ensures any { HasSameFlags C.ReadContents content.old content.new id }
-        ensures around { C.tells content.old → IsRead C.ReadContents content.old content.new id result }
+        ensures around { C.tells content.old
+            → IsRead C.ReadContents content.old content.new id result }
         ensures calm { self.new.pending ≡ false }
         ensures count { IfOk result (λ n. length into.new.items ≡ length into.old.items + n) }
-        ensures before { OnOk result (into.new.items ≡ into.old.items ++ drop (length into.old.items) into.new.items) }
+        ensures before { OnOk result (into.new.items
+            ≡ into.old.items ++ drop (length into.old.items) into.new.items) }
         ensures nothing { OnErr result (into.new.items ≡ into.old.items) }
-        ensures ok { IsReady C.ReadContents content.old id self.old → IsReadable (C.stored content.old id) self.old → self.old.base + self.old.cursor < self.old.size
-            → OnOk result (Appended into.old.items into.new.items (C.stored content.old id) self.old (C.stored content.new id) self.new) }
-        ensures refused { IsReady C.ReadContents content.old id self.old → IsReadable (C.stored content.old id) self.old → self.old.base + self.old.cursor < self.old.size
-            → IfErr result (CalmBrokeOff (C.stored content.old id) self.old (C.stored content.new id) self.new) }
+        ensures ok { IsReady C.ReadContents content.old id self.old
+            → IsReadable (C.stored content.old id) self.old
+            → self.old.base + self.old.cursor < self.old.size
+            → OnOk result (Appended into.old.items into.new.items
+            (C.stored content.old id) self.old (C.stored content.new id) self.new) }
+        ensures refused { IsReady C.ReadContents content.old id self.old
+            → IsReadable (C.stored content.old id) self.old
+            → self.old.base + self.old.cursor < self.old.size → IfErr result
+            (CalmBrokeOff (C.stored content.old id) self.old (C.stored content.new id) self.new) }
         ensures bound { self.new.bound ≡ self.old.bound }
         ensures room { self.new.room ≡ self.old.room }
     {

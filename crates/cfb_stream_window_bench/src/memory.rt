@@ -35,7 +35,14 @@ impl Model for MemoryContents {
 
     ghost Value = { ListState };
 
-    ghost view = { λ m. record { bytes = m.bytes.items; missing = m.missing; limit = m.limit; room = m.room; failed = m.failed; failures = m.failures } };
+    ghost view = { λ m. record {
+      bytes = m.bytes.items;
+      missing = m.missing;
+      limit = m.limit;
+      room = m.room;
+      failed = m.failed;
+      failures = m.failures;
+    } };
 
     ghost invariant = { λ m. length m.bytes.items + m.missing ≤ m.limit };
 }
@@ -81,8 +88,10 @@ impl MemoryContents {
     fn room_at(&self, at: u64) -> u64
         requires { at ≤ length self.now.bytes }
         ensures within { at + result ≤ self.now.limit }
-        ensures full { result ≡ 0 → at < self.now.limit → (length self.now.bytes ≤ at) × (self.now.room ≤ length self.now.bytes) }
-        ensures behind { at ≡ length self.now.bytes → result ≡ min self.now.room self.now.limit - length self.now.bytes }
+        ensures full { result ≡ 0 → at < self.now.limit
+            → (length self.now.bytes ≤ at) × (self.now.room ≤ length self.now.bytes) }
+        ensures behind { at ≡ length self.now.bytes
+            → result ≡ min self.now.room self.now.limit - length self.now.bytes }
     {
         let size = self.bytes.len() as u64;
         if at < size {

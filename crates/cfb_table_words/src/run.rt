@@ -13,7 +13,8 @@ pub fn run_from(version: Version, ids: &[u32], index: usize, offset: usize, coun
     requires some { 0 < count }
     requires fits { count < 2 ^ 63 }
     ensures some { (0 < result) × (result ≤ count) }
-    ensures longest { IsLongestRun version ids.now (index * sector_len version + offset) count result }
+    ensures longest { IsLongestRun version ids.now
+        (index * sector_len version + offset) count result }
 {
     let sector_len = version.sector_len();
     let run = count_consecutive(ids, index, (offset + count).div_ceil(sector_len));

@@ -32,8 +32,8 @@ pub fn listing_at<F: ReadMedium, A: Heap + Clone>(
     file: &CompoundFile<F, A>,
     path: &str,
 ) -> Result<String<A>, Error>
-    ensures lists { IsTrue F.tells
-        → IfOk result (λ text. HasLines file.now (walk_storage (chars path.now)) (string_bytes text)) }
+    ensures lists { IsTrue F.tells → IfOk result (λ text.
+        HasLines file.now (walk_storage (chars path.now)) (string_bytes text)) }
     ensures refused { IsTrue F.tells
         → IfErr result (AnswersNot file.now (walk_storage (chars path.now))) }
 {

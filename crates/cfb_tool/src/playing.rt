@@ -103,8 +103,8 @@ fn do_command<F: Medium, A: Heap + Clone>(
     requires room { 1 ≤ vec_capacity replies.old }
     ensures room { 1 ≤ vec_capacity replies.new }
     ensures played { IsTrue F.tells → (asked : Ordered) → map command_of one.now ≡ asked ∷ []
-        → IsPlayed (λ f. F.read_faults f || F.write_faults f) file.old asked (refusal_of_result result)
-        file.new }
+        → IsPlayed (λ f. F.read_faults f || F.write_faults f) file.old asked
+        (refusal_of_result result) file.new }
 {
     let count = do_once(file, one, replies)?;
     let Some(command) = one.first() else {

@@ -32,8 +32,8 @@ pub fn run_in_memory<A: Allocator + Clone>(
     ensures asked { All IsAsked (drop (length replies.old.items) replies.new.items) }
     ensures given { All (IsGiven is_refused_growth)
         (drop (length replies.old.items) replies.new.items) }
-    ensures ok { IfOk result (RunsTo version (map command_of commands.now) (map command_reply_of (drop
-        (length replies.old.items) replies.new.items))) }
+    ensures ok { IfOk result (RunsTo version (map command_of commands.now)
+        (map command_reply_of (drop (length replies.old.items) replies.new.items))) }
     ensures refused { IfErr result IsStoppedForMemory }
 {
     let mut file = made(&alloc, version)?;

@@ -20,18 +20,22 @@ impl<A: Allocator> Window<A> {
         requires there { C.has content.old id }
         ensures there { C.has content.new id }
         ensures any { HasKeptFlags C.ReadContents content.old content.new id result }
-        ensures around { C.tells content.old → IsWritten C.ReadContents C.Contents.own content.old content.new id result }
-        ensures ok { IsReady C.ReadContents content.old id self.old → OnOk result ((C.stored content.new id) ≡ settled (C.stored content.old id) self.old) }
+        ensures around { C.tells content.old
+            → IsWritten C.ReadContents C.Contents.own content.old content.new id result }
+        ensures ok { IsReady C.ReadContents content.old id self.old
+            → OnOk result ((C.stored content.new id) ≡ settled (C.stored content.old id) self.old) }
         ensures window { OnOk result (self.new ≡ window_settled self.old) }
         ensures calm { self.old.pending ≡ false → content.new ≡ content.old }
-        ensures refused { IsReady C.ReadContents content.old id self.old
-            → IfErr result (IsLost (((C.stored content.old id).size < self.old.base + length self.old.filled) × C.is_full content.new) (C.stored content.old id) self.old (C.stored content.new id)) }
+        ensures refused { IsReady C.ReadContents content.old id self.old → IfErr result (IsLost
+            (((C.stored content.old id).size < self.old.base + length self.old.filled)
+            × C.is_full content.new) (C.stored content.old id) self.old (C.stored content.new id)) }
         ensures foreseen { IsReady C.ReadContents content.old id self.old
             → IfErr result (λ e. e ≡ Error.Full
             → LacksRoomToWriteOut C.ReadContents C.Contents.own content.old id self.old) }
         ensures pending { OnErr result (self.old.pending ≡ true) }
         ensures lost { OnErr result ((C.stored content.new id).failed ≡ true) }
-        ensures within { C.tells content.old → self.old.base + length self.old.filled ≤ (C.stored content.old id).size
+        ensures within { C.tells content.old
+            → self.old.base + length self.old.filled ≤ (C.stored content.old id).size
             → (first : C) → C.tight first content.old → C.tight first content.new }
         ensures room { self.new.room ≡ self.old.room }
         ensures bound { self.new.bound ≡ self.old.bound }
@@ -52,12 +56,18 @@ impl<A: Allocator> Window<A> {
         requires there { C.has content.old id }
         ensures there { C.has content.new id }
         ensures any { HasKeptFlags C.ReadContents content.old content.new id result }
-        ensures around { C.tells content.old → IsWritten C.ReadContents C.Contents.own content.old content.new id result }
-        ensures ok { IsReady C.ReadContents content.old id self.old → OnOk result (Carries (C.stored content.old id) self.old (C.stored content.new id) self.new) }
-        ensures stored { IsReady C.ReadContents content.old id self.old → OnOk result ((C.stored content.new id) ≡ settled (C.stored content.old id) self.old) }
-        ensures window { OnOk result (self.new ≡ window_at (self.old.base + self.old.cursor) self.old) }
+        ensures around { C.tells content.old
+            → IsWritten C.ReadContents C.Contents.own content.old content.new id result }
+        ensures ok { IsReady C.ReadContents content.old id self.old → OnOk result
+            (Carries (C.stored content.old id) self.old (C.stored content.new id) self.new) }
+        ensures stored { IsReady C.ReadContents content.old id self.old
+            → OnOk result ((C.stored content.new id) ≡ settled (C.stored content.old id) self.old) }
+        ensures window { OnOk result (self.new
+            ≡ window_at (self.old.base + self.old.cursor) self.old) }
         ensures calm { self.old.pending ≡ false → content.new ≡ content.old }
-        ensures refused { IsReady C.ReadContents content.old id self.old → IfErr result (IsLost (C.is_full content.new) (C.stored content.old id) self.old (C.stored content.new id)) }
+        ensures refused { IsReady C.ReadContents content.old id self.old
+            → IfErr result (IsLost (C.is_full content.new) (C.stored content.old id) self.old
+            (C.stored content.new id)) }
         ensures foreseen { IsReady C.ReadContents content.old id self.old
             → IfErr result (λ e. e ≡ Error.Full
             → LacksRoomToWriteOut C.ReadContents C.Contents.own content.old id self.old) }
@@ -79,19 +89,29 @@ impl<A: Allocator> Window<A> {
         requires unread { self.old.ahead ≡ 0 }
         ensures there { C.has content.new id }
         ensures any { HasKeptFlags C.ReadContents content.old content.new id result }
-        ensures around { C.tells content.old → IsWritten C.ReadContents C.Contents.own content.old content.new id result }
-        ensures calm { C.tells content.old → self.old.pending ≡ false → IsRead C.ReadContents content.old content.new id result }
-        ensures ok { IsReady C.ReadContents content.old id self.old → OnOk result (Carries (C.stored content.old id) self.old (C.stored content.new id) self.new) }
-        ensures some { IsReady C.ReadContents content.old id self.old → OnOk result (self.new.cursor < length self.new.filled) }
-        ensures settles { IsReady C.ReadContents content.old id self.old → OnOk result (IsSettled (C.stored content.old id) self.old (C.stored content.new id)) }
+        ensures around { C.tells content.old
+            → IsWritten C.ReadContents C.Contents.own content.old content.new id result }
+        ensures calm { C.tells content.old → self.old.pending ≡ false
+            → IsRead C.ReadContents content.old content.new id result }
+        ensures ok { IsReady C.ReadContents content.old id self.old → OnOk result
+            (Carries (C.stored content.old id) self.old (C.stored content.new id) self.new) }
+        ensures some { IsReady C.ReadContents content.old id self.old
+            → OnOk result (self.new.cursor < length self.new.filled) }
+        ensures settles { IsReady C.ReadContents content.old id self.old
+            → OnOk result (IsSettled (C.stored content.old id) self.old (C.stored content.new id)) }
         ensures refused { IsReady C.ReadContents content.old id self.old
-            → IfErr result (λ e. ReadBrokeOff (C.is_full content.new) (C.stored content.old id) self.old (C.stored content.new id) self.new e ⊎ Unreadable (C.stored content.old id) self.old (C.stored content.new id) self.new e) }
+            → IfErr result (λ e. ReadBrokeOff (C.is_full content.new)
+            (C.stored content.old id) self.old (C.stored content.new id) self.new e
+            ⊎ Unreadable (C.stored content.old id) self.old (C.stored content.new id) self.new e) }
         ensures foreseen { IsReady C.ReadContents content.old id self.old
             → IfErr result (λ e. e ≡ Error.Full
             → LacksRoomToWriteOut C.ReadContents C.Contents.own content.old id self.old) }
-        ensures grown { self.new.room < min (self.old.size - (self.old.base + self.old.cursor)) self.old.bound → content.new ≡ content.old }
+        ensures grown { self.new.room
+            < min (self.old.size - (self.old.base + self.old.cursor)) self.old.bound
+            → content.new ≡ content.old }
         ensures bound { self.new.bound ≡ self.old.bound }
-        ensures lean { self.new.room ≤ max self.old.room (min (self.old.size - (self.old.base + self.old.cursor)) self.old.bound) }
+        ensures lean { self.new.room ≤ max self.old.room
+            (min (self.old.size - (self.old.base + self.old.cursor)) self.old.bound) }
     {
         self.grow_for_rest()?;
         let was_pending = self.pending;
@@ -116,14 +136,20 @@ impl<A: Allocator> Window<A> {
         requires some { 0 < length into.old }
         ensures there { C.has content.new id }
         ensures any { HasKeptFlags C.ReadContents content.old content.new id result }
-        ensures around { C.tells content.old → IsWritten C.ReadContents C.Contents.own content.old content.new id result }
-        ensures calm { C.tells content.old → self.old.pending ≡ false → IsRead C.ReadContents content.old content.new id result }
+        ensures around { C.tells content.old
+            → IsWritten C.ReadContents C.Contents.own content.old content.new id result }
+        ensures calm { C.tells content.old → self.old.pending ≡ false
+            → IsRead C.ReadContents content.old content.new id result }
         ensures most { IfOk result (λ n. n ≤ length into.new) }
         ensures rest { IfOk result (λ n. drop n into.new ≡ drop n into.old) }
-        ensures ok { IsReady C.ReadContents content.old id self.old → IfOk result (ReadPast into.new (C.stored content.old id) self.old (C.stored content.new id) self.new) }
-        ensures settles { IsReady C.ReadContents content.old id self.old → OnOk result (IsSettled (C.stored content.old id) self.old (C.stored content.new id)) }
+        ensures ok { IsReady C.ReadContents content.old id self.old → IfOk result (ReadPast into.new
+            (C.stored content.old id) self.old (C.stored content.new id) self.new) }
+        ensures settles { IsReady C.ReadContents content.old id self.old
+            → OnOk result (IsSettled (C.stored content.old id) self.old (C.stored content.new id)) }
         ensures refused { IsReady C.ReadContents content.old id self.old
-            → IfErr result (λ e. ReadBrokeOff (C.is_full content.new) (C.stored content.old id) self.old (C.stored content.new id) self.new e ⊎ Unreadable (C.stored content.old id) self.old (C.stored content.new id) self.new e) }
+            → IfErr result (λ e. ReadBrokeOff (C.is_full content.new)
+            (C.stored content.old id) self.old (C.stored content.new id) self.new e
+            ⊎ Unreadable (C.stored content.old id) self.old (C.stored content.new id) self.new e) }
         ensures foreseen { IsReady C.ReadContents content.old id self.old
             → IfErr result (λ e. e ≡ Error.Full
             → LacksRoomToWriteOut C.ReadContents C.Contents.own content.old id self.old) }
@@ -147,21 +173,31 @@ impl<A: Allocator> Window<A> {
         requires behind { self.old.base + self.old.cursor < self.old.size }
         ensures there { C.has content.new id }
         ensures any { HasKeptFlags C.ReadContents content.old content.new id result }
-        ensures around { C.tells content.old → IsWritten C.ReadContents C.Contents.own content.old content.new id result }
-        ensures calm { C.tells content.old → self.old.pending ≡ false → IsRead C.ReadContents content.old content.new id result }
-        ensures ok { IsReady C.ReadContents content.old id self.old → OnOk result (Carries (C.stored content.old id) self.old (C.stored content.new id) self.new) }
-        ensures some { IsReady C.ReadContents content.old id self.old → OnOk result (self.new.cursor < length self.new.filled) }
+        ensures around { C.tells content.old
+            → IsWritten C.ReadContents C.Contents.own content.old content.new id result }
+        ensures calm { C.tells content.old → self.old.pending ≡ false
+            → IsRead C.ReadContents content.old content.new id result }
+        ensures ok { IsReady C.ReadContents content.old id self.old → OnOk result
+            (Carries (C.stored content.old id) self.old (C.stored content.new id) self.new) }
+        ensures some { IsReady C.ReadContents content.old id self.old
+            → OnOk result (self.new.cursor < length self.new.filled) }
         ensures held { self.old.cursor < length self.old.filled → content.new ≡ content.old }
         ensures stays { self.old.cursor < length self.old.filled → self.new ≡ self.old }
-        ensures settles { IsReady C.ReadContents content.old id self.old → OnOk result (IsSettled (C.stored content.old id) self.old (C.stored content.new id)) }
+        ensures settles { IsReady C.ReadContents content.old id self.old
+            → OnOk result (IsSettled (C.stored content.old id) self.old (C.stored content.new id)) }
         ensures refused { IsReady C.ReadContents content.old id self.old
-            → IfErr result (λ e. ReadBrokeOff (C.is_full content.new) (C.stored content.old id) self.old (C.stored content.new id) self.new e ⊎ Unreadable (C.stored content.old id) self.old (C.stored content.new id) self.new e) }
+            → IfErr result (λ e. ReadBrokeOff (C.is_full content.new)
+            (C.stored content.old id) self.old (C.stored content.new id) self.new e
+            ⊎ Unreadable (C.stored content.old id) self.old (C.stored content.new id) self.new e) }
         ensures foreseen { IsReady C.ReadContents content.old id self.old
             → IfErr result (λ e. e ≡ Error.Full
             → LacksRoomToWriteOut C.ReadContents C.Contents.own content.old id self.old) }
-        ensures grown { self.new.room < min (self.old.size - (self.old.base + self.old.cursor)) self.old.bound → content.new ≡ content.old }
+        ensures grown { self.new.room
+            < min (self.old.size - (self.old.base + self.old.cursor)) self.old.bound
+            → content.new ≡ content.old }
         ensures bound { self.new.bound ≡ self.old.bound }
-        ensures lean { self.new.room ≤ max self.old.room (min (self.old.size - (self.old.base + self.old.cursor)) self.old.bound) }
+        ensures lean { self.new.room ≤ max self.old.room
+            (min (self.old.size - (self.old.base + self.old.cursor)) self.old.bound) }
     {
         if self.has_rest() {
             return Ok(());
@@ -180,27 +216,36 @@ impl<A: Allocator> Window<A> {
     ) -> Result<usize, Error>
         requires there { C.has content.old id }
         ensures there { C.has content.new id }
-        ensures any { HeedsFlags C.ReadContents content.old id self.old result content.new self.new }
+        ensures any { HeedsFlags C.ReadContents
+            content.old id self.old result content.new self.new }
         ensures most { IfOk result (λ n. n ≤ length into.new) }
         ensures rest { IfOk result (λ n. drop n into.new ≡ drop n into.old) }
         ensures runs { IsOpen C.ReadContents content.old id self.old
-            → IfOk result (λ n. RunsOn C.ReadContents C.Contents.own content.old id self.old (read (length into.old)) (got (take n into.new)) content.new self.new) }
+            → IfOk result (λ n. RunsOn C.ReadContents C.Contents.own content.old id self.old
+            (read (length into.old)) (got (take n into.new)) content.new self.new) }
         ensures refused { IsOpen C.ReadContents content.old id self.old
-            → IfErr result (IsRefusedOn C.ReadContents C.Contents.own content.old id self.old (read (length into.old)) content.new self.new) }
+            → IfErr result (IsRefusedOn C.ReadContents C.Contents.own content.old id self.old
+            (read (length into.old)) content.new self.new) }
         ensures foreseen { IsOpen C.ReadContents content.old id self.old
             → IfErr result (λ e. e ≡ Error.Full
             → LacksRoomToWriteOut C.ReadContents C.Contents.own content.old id self.old) }
-        ensures goes_on { IsOpen C.ReadContents content.old id self.old → GoesOn C.ReadContents content.old content.new id self.new }
-        ensures settles { IsOpen C.ReadContents content.old id self.old → OnOk result (IsSettled (C.stored content.old id) self.old (C.stored content.new id)) }
-        ensures calm { C.tells content.old → self.old.pending ≡ false → IsRead C.ReadContents content.old content.new id result }
+        ensures goes_on { IsOpen C.ReadContents content.old id self.old
+            → GoesOn C.ReadContents content.old content.new id self.new }
+        ensures settles { IsOpen C.ReadContents content.old id self.old
+            → OnOk result (IsSettled (C.stored content.old id) self.old (C.stored content.new id)) }
+        ensures calm { C.tells content.old → self.old.pending ≡ false
+            → IsRead C.ReadContents content.old content.new id result }
         ensures none { length into.old ≡ 0 → content.new ≡ content.old }
         ensures held { StandsInside self.old → content.new ≡ content.old }
         ensures grown { length into.old < 65536
-            → self.new.room < min (self.old.size - (self.old.base + self.old.cursor)) self.old.bound → content.new ≡ content.old }
+            → self.new.room < min (self.old.size - (self.old.base + self.old.cursor)) self.old.bound
+            → content.new ≡ content.old }
         ensures straight { 65536 ≤ length into.old → self.new.room ≡ self.old.room }
         ensures bound { self.new.bound ≡ self.old.bound }
-        ensures lean { self.new.room ≤ max self.old.room (min (self.old.size - (self.old.base + self.old.cursor)) self.old.bound) }
-        ensures around { C.tells content.old → IsWritten C.ReadContents C.Contents.own content.old content.new id result }
+        ensures lean { self.new.room ≤ max self.old.room
+            (min (self.old.size - (self.old.base + self.old.cursor)) self.old.bound) }
+        ensures around { C.tells content.old
+            → IsWritten C.ReadContents C.Contents.own content.old content.new id result }
     {
         if content.is_failed(id) {
             return Err(Error::Failed);
@@ -226,22 +271,32 @@ impl<A: Allocator> Window<A> {
     pub fn fill<C: Contents>(&mut self, content: &mut C, id: u32) -> Result<(), Error>
         requires there { C.has content.old id }
         ensures there { C.has content.new id }
-        ensures any { HeedsFlags C.ReadContents content.old id self.old result content.new self.new }
+        ensures any { HeedsFlags C.ReadContents
+            content.old id self.old result content.new self.new }
         ensures runs { IsOpen C.ReadContents content.old id self.old
-            → OnOk result (RunsOn C.ReadContents C.Contents.own content.old id self.old fill_buf (got (drop self.new.cursor self.new.filled)) content.new self.new) }
+            → OnOk result (RunsOn C.ReadContents C.Contents.own content.old id self.old fill_buf
+            (got (drop self.new.cursor self.new.filled)) content.new self.new) }
         ensures refused { IsOpen C.ReadContents content.old id self.old
-            → IfErr result (IsRefusedOn C.ReadContents C.Contents.own content.old id self.old fill_buf content.new self.new) }
+            → IfErr result (IsRefusedOn C.ReadContents C.Contents.own
+            content.old id self.old fill_buf content.new self.new) }
         ensures foreseen { IsOpen C.ReadContents content.old id self.old
             → IfErr result (λ e. e ≡ Error.Full
             → LacksRoomToWriteOut C.ReadContents C.Contents.own content.old id self.old) }
-        ensures goes_on { IsOpen C.ReadContents content.old id self.old → GoesOn C.ReadContents content.old content.new id self.new }
-        ensures settles { IsOpen C.ReadContents content.old id self.old → OnOk result (IsSettled (C.stored content.old id) self.old (C.stored content.new id)) }
-        ensures calm { C.tells content.old → self.old.pending ≡ false → IsRead C.ReadContents content.old content.new id result }
+        ensures goes_on { IsOpen C.ReadContents content.old id self.old
+            → GoesOn C.ReadContents content.old content.new id self.new }
+        ensures settles { IsOpen C.ReadContents content.old id self.old
+            → OnOk result (IsSettled (C.stored content.old id) self.old (C.stored content.new id)) }
+        ensures calm { C.tells content.old → self.old.pending ≡ false
+            → IsRead C.ReadContents content.old content.new id result }
         ensures held { StandsInside self.old → content.new ≡ content.old }
-        ensures grown { self.new.room < min (self.old.size - (self.old.base + self.old.cursor)) self.old.bound → content.new ≡ content.old }
+        ensures grown { self.new.room
+            < min (self.old.size - (self.old.base + self.old.cursor)) self.old.bound
+            → content.new ≡ content.old }
         ensures bound { self.new.bound ≡ self.old.bound }
-        ensures lean { self.new.room ≤ max self.old.room (min (self.old.size - (self.old.base + self.old.cursor)) self.old.bound) }
-        ensures around { C.tells content.old → IsWritten C.ReadContents C.Contents.own content.old content.new id result }
+        ensures lean { self.new.room ≤ max self.old.room
+            (min (self.old.size - (self.old.base + self.old.cursor)) self.old.bound) }
+        ensures around { C.tells content.old
+            → IsWritten C.ReadContents C.Contents.own content.old content.new id result }
     {
         if content.is_failed(id) {
             return Err(Error::Failed);
@@ -265,27 +320,36 @@ impl<A: Allocator> Window<A> {
     ) -> Result<u64, Error>
         requires there { C.has content.old id }
         ensures there { C.has content.new id }
-        ensures any { HeedsFlags C.ReadContents content.old id self.old result content.new self.new }
+        ensures any { HeedsFlags C.ReadContents
+            content.old id self.old result content.new self.new }
         ensures runs { IsOpen C.ReadContents content.old id self.old
-            → IfOk result (λ at. RunsOn C.ReadContents C.Contents.own content.old id self.old (seek (whence_of to)) (offset at) content.new self.new) }
+            → IfOk result (λ at. RunsOn C.ReadContents C.Contents.own content.old id self.old
+            (seek (whence_of to)) (offset at) content.new self.new) }
         ensures refused { IsOpen C.ReadContents content.old id self.old
-            → IfErr result (IsRefusedOn C.ReadContents C.Contents.own content.old id self.old (seek (whence_of to)) content.new self.new) }
+            → IfErr result (IsRefusedOn C.ReadContents C.Contents.own content.old id self.old
+            (seek (whence_of to)) content.new self.new) }
         ensures foreseen { IsOpen C.ReadContents content.old id self.old
             → IfErr result (λ e. e ≡ Error.Full
             → LacksRoomToWriteOut C.ReadContents C.Contents.own content.old id self.old) }
-        ensures goes_on { IsOpen C.ReadContents content.old id self.old → GoesOn C.ReadContents content.old content.new id self.new }
-        ensures settles { IsOpen C.ReadContents content.old id self.old → OnOk result (IsSettled (C.stored content.old id) self.old (C.stored content.new id)) }
+        ensures goes_on { IsOpen C.ReadContents content.old id self.old
+            → GoesOn C.ReadContents content.old content.new id self.new }
+        ensures settles { IsOpen C.ReadContents content.old id self.old
+            → OnOk result (IsSettled (C.stored content.old id) self.old (C.stored content.new id)) }
         ensures calm { self.old.pending ≡ false → content.new ≡ content.old }
         ensures sure { self.old.pending ≡ false → (C.stored content.old id).failed ≡ false
             → OnErr result (target_of self.old.size (self.old.base + self.old.cursor) to ≡ None) }
-        ensures held { (at : ℕ) → target_of self.old.size (self.old.base + self.old.cursor) to ≡ Some at
-            → self.old.base ≤ at → at ≤ self.old.base + length self.old.filled → content.new ≡ content.old }
-        ensures stays { (at : ℕ) → target_of self.old.size (self.old.base + self.old.cursor) to ≡ Some at
+        ensures held { (at : ℕ)
+            → target_of self.old.size (self.old.base + self.old.cursor) to ≡ Some at
+            → self.old.base ≤ at → at ≤ self.old.base + length self.old.filled
+            → content.new ≡ content.old }
+        ensures stays { (at : ℕ)
+            → target_of self.old.size (self.old.base + self.old.cursor) to ≡ Some at
             → self.old.base ≤ at → at ≤ self.old.base + length self.old.filled
             → (self.new.base ≡ self.old.base) × (self.new.filled ≡ self.old.filled) }
         ensures bound { self.new.bound ≡ self.old.bound }
         ensures room { self.new.room ≡ self.old.room }
-        ensures around { C.tells content.old → IsWritten C.ReadContents C.Contents.own content.old content.new id result }
+        ensures around { C.tells content.old
+            → IsWritten C.ReadContents C.Contents.own content.old content.new id result }
     {
         if content.is_failed(id) {
             return Err(Error::Failed);
@@ -303,14 +367,20 @@ impl<A: Allocator> Window<A> {
         requires inside { at ≤ self.old.size }
         ensures there { C.has content.new id }
         ensures any { HasKeptFlags C.ReadContents content.old content.new id result }
-        ensures around { C.tells content.old → IsWritten C.ReadContents C.Contents.own content.old content.new id result }
-        ensures ok { IsReady C.ReadContents content.old id self.old → OnOk result (WentTo at (C.stored content.old id) self.old (C.stored content.new id) self.new) }
+        ensures around { C.tells content.old
+            → IsWritten C.ReadContents C.Contents.own content.old content.new id result }
+        ensures ok { IsReady C.ReadContents content.old id self.old → OnOk result (WentTo at
+            (C.stored content.old id) self.old (C.stored content.new id) self.new) }
         ensures calm { self.old.pending ≡ false → content.new ≡ content.old }
-        ensures held { self.old.base ≤ at → at ≤ self.old.base + length self.old.filled → content.new ≡ content.old }
+        ensures held { self.old.base ≤ at → at ≤ self.old.base + length self.old.filled
+            → content.new ≡ content.old }
         ensures stays { self.old.base ≤ at → at ≤ self.old.base + length self.old.filled
             → (self.new.base ≡ self.old.base) × (self.new.filled ≡ self.old.filled) }
-        ensures settles { IsReady C.ReadContents content.old id self.old → OnOk result (IsSettled (C.stored content.old id) self.old (C.stored content.new id)) }
-        ensures refused { IsReady C.ReadContents content.old id self.old → IfErr result (IsLost (C.is_full content.new) (C.stored content.old id) self.old (C.stored content.new id)) }
+        ensures settles { IsReady C.ReadContents content.old id self.old
+            → OnOk result (IsSettled (C.stored content.old id) self.old (C.stored content.new id)) }
+        ensures refused { IsReady C.ReadContents content.old id self.old
+            → IfErr result (IsLost (C.is_full content.new) (C.stored content.old id) self.old
+            (C.stored content.new id)) }
         ensures foreseen { IsReady C.ReadContents content.old id self.old
             → IfErr result (λ e. e ≡ Error.Full
             → LacksRoomToWriteOut C.ReadContents C.Contents.own content.old id self.old) }
@@ -332,19 +402,27 @@ impl<A: Allocator> Window<A> {
     pub fn flush<C: Contents>(&mut self, content: &mut C, id: u32) -> Result<(), Error>
         requires there { C.has content.old id }
         ensures there { C.has content.new id }
-        ensures any { HeedsWritingOut C.ReadContents content.old id self.old result content.new self.new }
-        ensures runs { IsOpen C.ReadContents content.old id self.old → OnOk result (RunsOn C.ReadContents C.Contents.own content.old id self.old flush ready content.new self.new) }
-        ensures refused { IsOpen C.ReadContents content.old id self.old → IfErr result (IsRefusedOn C.ReadContents C.Contents.own content.old id self.old flush content.new self.new) }
+        ensures any { HeedsWritingOut C.ReadContents
+            content.old id self.old result content.new self.new }
+        ensures runs { IsOpen C.ReadContents content.old id self.old
+            → OnOk result (RunsOn C.ReadContents C.Contents.own
+            content.old id self.old flush ready content.new self.new) }
+        ensures refused { IsOpen C.ReadContents content.old id self.old
+            → IfErr result (IsRefusedOn C.ReadContents C.Contents.own
+            content.old id self.old flush content.new self.new) }
         ensures foreseen { IsOpen C.ReadContents content.old id self.old
             → IfErr result (λ e. e ≡ Error.Full
             → LacksRoomToWriteOut C.ReadContents C.Contents.own content.old id self.old) }
-        ensures goes_on { IsOpen C.ReadContents content.old id self.old → GoesOn C.ReadContents content.old content.new id self.new }
-        ensures stored { IsOpen C.ReadContents content.old id self.old → OnOk result ((C.stored content.new id) ≡ settled (C.stored content.old id) self.old) }
-        ensures calm { C.tells content.old → self.old.pending ≡ false → (C.stored content.new id).failed ≡ false
-            → C.kept content.new ≡ C.kept content.old }
+        ensures goes_on { IsOpen C.ReadContents content.old id self.old
+            → GoesOn C.ReadContents content.old content.new id self.new }
+        ensures stored { IsOpen C.ReadContents content.old id self.old
+            → OnOk result ((C.stored content.new id) ≡ settled (C.stored content.old id) self.old) }
+        ensures calm { C.tells content.old → self.old.pending ≡ false
+            → (C.stored content.new id).failed ≡ false → C.kept content.new ≡ C.kept content.old }
         ensures bound { self.new.bound ≡ self.old.bound }
         ensures room { self.new.room ≡ self.old.room }
-        ensures around { C.tells content.old → IsWritten C.ReadContents C.Contents.own content.old content.new id result }
+        ensures around { C.tells content.old
+            → IsWritten C.ReadContents C.Contents.own content.old content.new id result }
     {
         if content.is_failed(id) {
             return Err(Error::Failed);
@@ -359,16 +437,24 @@ impl<A: Allocator> Window<A> {
         requires there { C.has content.old id }
         ensures there { C.has content.new id }
         ensures any { HasKeptFlags C.ReadContents content.old content.new id result }
-        ensures around { C.tells content.old → IsWritten C.ReadContents C.Contents.own content.old content.new id result }
-        ensures ok { IsReady C.ReadContents content.old id self.old → OnOk result (Carries (C.stored content.old id) self.old (C.stored content.new id) self.new) }
-        ensures stored { IsReady C.ReadContents content.old id self.old → OnOk result ((C.stored content.new id) ≡ settled (C.stored content.old id) self.old) }
+        ensures around { C.tells content.old
+            → IsWritten C.ReadContents C.Contents.own content.old content.new id result }
+        ensures ok { IsReady C.ReadContents content.old id self.old → OnOk result
+            (Carries (C.stored content.old id) self.old (C.stored content.new id) self.new) }
+        ensures stored { IsReady C.ReadContents content.old id self.old
+            → OnOk result ((C.stored content.new id) ≡ settled (C.stored content.old id) self.old) }
         ensures window { OnOk result (self.new ≡ window_settled self.old) }
-        ensures refused { IsReady C.ReadContents content.old id self.old → IfErr result (IsLost (C.is_full content.new) (C.stored content.old id) self.old (C.stored content.new id)) }
+        ensures refused { IsReady C.ReadContents content.old id self.old
+            → IfErr result (IsLost (C.is_full content.new) (C.stored content.old id) self.old
+            (C.stored content.new id)) }
         ensures foreseen { IsReady C.ReadContents content.old id self.old
             → IfErr result (λ e. e ≡ Error.Full
             → LacksRoomToWriteOut C.ReadContents C.Contents.own content.old id self.old) }
-        ensures inside { IsReady C.ReadContents content.old id self.old → self.old.base + length self.old.filled ≤ (C.stored content.old id).size → IfErr result (IsBreak ⊥) }
-        ensures within { C.tells content.old → self.old.base + length self.old.filled ≤ (C.stored content.old id).size
+        ensures inside { IsReady C.ReadContents content.old id self.old
+            → self.old.base + length self.old.filled ≤ (C.stored content.old id).size
+            → IfErr result (IsBreak ⊥) }
+        ensures within { C.tells content.old
+            → self.old.base + length self.old.filled ≤ (C.stored content.old id).size
             → (first : C) → C.tight first content.old → C.tight first content.new }
         ensures calm { self.old.pending ≡ false → content.new ≡ content.old }
         ensures pending { OnErr result (self.old.pending ≡ true) }
@@ -387,15 +473,20 @@ impl<A: Allocator> Window<A> {
         requires there { C.has content.old id }
         ensures there { C.has content.new id }
         ensures any { HeedsWritingOut C.ReadContents content.old id self result content.new self }
-        ensures closes { IsOpen C.ReadContents content.old id self → OnOk result (ClosesOn C.ReadContents C.Contents.own content.old id self None content.new) }
-        ensures refused { IsOpen C.ReadContents content.old id self → IfErr result (IsClosingRefused C.ReadContents C.Contents.own content.old id self content.new) }
+        ensures closes { IsOpen C.ReadContents content.old id self → OnOk result
+            (ClosesOn C.ReadContents C.Contents.own content.old id self None content.new) }
+        ensures refused { IsOpen C.ReadContents content.old id self → IfErr result
+            (IsClosingRefused C.ReadContents C.Contents.own content.old id self content.new) }
         ensures foreseen { IsOpen C.ReadContents content.old id self
             → IfErr result (λ e. e ≡ Error.Full
             → LacksRoomToWriteOut C.ReadContents C.Contents.own content.old id self) }
-        ensures stored { IsOpen C.ReadContents content.old id self → OnOk result ((C.stored content.new id) ≡ settled (C.stored content.old id) self) }
+        ensures stored { IsOpen C.ReadContents content.old id self
+            → OnOk result ((C.stored content.new id) ≡ settled (C.stored content.old id) self) }
         ensures calm { self.pending ≡ false → content.new ≡ content.old }
-        ensures sure { self.pending ≡ false → OnErr result ((C.stored content.old id).failed ≡ true) }
-        ensures around { C.tells content.old → IsWritten C.ReadContents C.Contents.own content.old content.new id result }
+        ensures sure { self.pending ≡ false
+            → OnErr result ((C.stored content.old id).failed ≡ true) }
+        ensures around { C.tells content.old
+            → IsWritten C.ReadContents C.Contents.own content.old content.new id result }
     {
         let mut window = self;
         if content.is_failed(id) {
@@ -416,23 +507,32 @@ impl<A: Allocator> Window<A> {
     ) -> Result<usize, Error>
         requires there { C.has content.old id }
         ensures there { C.has content.new id }
-        ensures any { HeedsFlags C.ReadContents content.old id self.old result content.new self.new }
+        ensures any { HeedsFlags C.ReadContents
+            content.old id self.old result content.new self.new }
         ensures appends { IfOk result (λ n. (length into.new.items ≡ length into.old.items + n)
             × (into.new.items ≡ into.old.items ++ drop (length into.old.items) into.new.items)) }
         ensures nothing { OnErr result (into.new.items ≡ into.old.items) }
         ensures runs { IsOpen C.ReadContents content.old id self.old
-            → OnOk result (RunsOn C.ReadContents C.Contents.own content.old id self.old read_to_end (got (drop (length into.old.items) into.new.items)) content.new self.new) }
-        ensures refused { IsOpen C.ReadContents content.old id self.old → IfErr result (IsRefusedOn C.ReadContents C.Contents.own content.old id self.old read_to_end content.new self.new) }
+            → OnOk result (RunsOn C.ReadContents C.Contents.own content.old id self.old read_to_end
+            (got (drop (length into.old.items) into.new.items)) content.new self.new) }
+        ensures refused { IsOpen C.ReadContents content.old id self.old
+            → IfErr result (IsRefusedOn C.ReadContents C.Contents.own
+            content.old id self.old read_to_end content.new self.new) }
         ensures foreseen { IsOpen C.ReadContents content.old id self.old
             → IfErr result (λ e. e ≡ Error.Full
             → LacksRoomToWriteOut C.ReadContents C.Contents.own content.old id self.old) }
-        ensures goes_on { IsOpen C.ReadContents content.old id self.old → GoesOn C.ReadContents content.old content.new id self.new }
-        ensures settles { IsOpen C.ReadContents content.old id self.old → OnOk result (IsSettled (C.stored content.old id) self.old (C.stored content.new id)) }
-        ensures calm { C.tells content.old → self.old.pending ≡ false → IsRead C.ReadContents content.old content.new id result }
-        ensures held { self.old.base + length self.old.filled ≡ self.old.size → content.new ≡ content.old }
+        ensures goes_on { IsOpen C.ReadContents content.old id self.old
+            → GoesOn C.ReadContents content.old content.new id self.new }
+        ensures settles { IsOpen C.ReadContents content.old id self.old
+            → OnOk result (IsSettled (C.stored content.old id) self.old (C.stored content.new id)) }
+        ensures calm { C.tells content.old → self.old.pending ≡ false
+            → IsRead C.ReadContents content.old content.new id result }
+        ensures held { self.old.base + length self.old.filled ≡ self.old.size
+            → content.new ≡ content.old }
         ensures bound { self.new.bound ≡ self.old.bound }
         ensures room { self.new.room ≡ self.old.room }
-        ensures around { C.tells content.old → IsWritten C.ReadContents C.Contents.own content.old content.new id result }
+        ensures around { C.tells content.old
+            → IsWritten C.ReadContents C.Contents.own content.old content.new id result }
     {
         if content.is_failed(id) {
             return Err(Error::Failed);
@@ -458,16 +558,26 @@ impl<A: Allocator> Window<A> {
         requires there { C.has content.old id }
         ensures there { C.has content.new id }
         ensures any { HasKeptFlags C.ReadContents content.old content.new id result }
-        ensures around { C.tells content.old → IsWritten C.ReadContents C.Contents.own content.old content.new id result }
-        ensures calm { C.tells content.old → self.old.pending ≡ false → IsRead C.ReadContents content.old content.new id result }
+        ensures around { C.tells content.old
+            → IsWritten C.ReadContents C.Contents.own content.old content.new id result }
+        ensures calm { C.tells content.old → self.old.pending ≡ false
+            → IsRead C.ReadContents content.old content.new id result }
         ensures count { IfOk result (λ n. length into.new.items ≡ length into.old.items + n) }
-        ensures before { OnOk result (into.new.items ≡ into.old.items ++ drop (length into.old.items) into.new.items) }
+        ensures before { OnOk result (into.new.items
+            ≡ into.old.items ++ drop (length into.old.items) into.new.items) }
         ensures nothing { OnErr result (into.new.items ≡ into.old.items) }
-        ensures ok { IsReady C.ReadContents content.old id self.old → IsReadable (C.stored content.old id) self.old → self.old.base + self.old.cursor < self.old.size
-            → OnOk result (Appended into.old.items into.new.items (C.stored content.old id) self.old (C.stored content.new id) self.new) }
-        ensures settles { IsReady C.ReadContents content.old id self.old → OnOk result (IsSettled (C.stored content.old id) self.old (C.stored content.new id)) }
-        ensures refused { IsReady C.ReadContents content.old id self.old → IsReadable (C.stored content.old id) self.old → self.old.base + self.old.cursor < self.old.size
-            → IfErr result (ReadBrokeOff (C.is_full content.new) (C.stored content.old id) self.old (C.stored content.new id) self.new) }
+        ensures ok { IsReady C.ReadContents content.old id self.old
+            → IsReadable (C.stored content.old id) self.old
+            → self.old.base + self.old.cursor < self.old.size
+            → OnOk result (Appended into.old.items into.new.items
+            (C.stored content.old id) self.old (C.stored content.new id) self.new) }
+        ensures settles { IsReady C.ReadContents content.old id self.old
+            → OnOk result (IsSettled (C.stored content.old id) self.old (C.stored content.new id)) }
+        ensures refused { IsReady C.ReadContents content.old id self.old
+            → IsReadable (C.stored content.old id) self.old
+            → self.old.base + self.old.cursor < self.old.size
+            → IfErr result (ReadBrokeOff (C.is_full content.new)
+            (C.stored content.old id) self.old (C.stored content.new id) self.new) }
         ensures foreseen { IsReady C.ReadContents content.old id self.old
             → IsReadable (C.stored content.old id) self.old
             → self.old.base + self.old.cursor < self.old.size

@@ -31,27 +31,40 @@ impl<A: Allocator> Window<A> {
     ) -> Result<usize, Error>
         requires there { C.has content.old id }
         ensures there { C.has content.new id }
-        ensures any { HeedsFlags C.ReadContents content.old id self.old result content.new self.new }
+        ensures any { HeedsFlags C.ReadContents
+            content.old id self.old result content.new self.new }
         ensures most { IfOk result (λ n. n ≤ length bytes.now) }
-        ensures runs { IsOpen C.ReadContents content.old id self.old → IfOk result (λ n. RunsOn C.ReadContents C.Contents.own content.old id self.old (write bytes.now) (count n) content.new self.new) }
-        ensures refused { IsOpen C.ReadContents content.old id self.old → IfErr result (IsRefusedOn C.ReadContents C.Contents.own content.old id self.old (write bytes.now) content.new self.new) }
-        ensures goes_on { IsOpen C.ReadContents content.old id self.old → GoesOn C.ReadContents content.old content.new id self.new }
-        ensures settles { IsOpen C.ReadContents content.old id self.old → length bytes.now < 65536 → OnOk result (IsSettled (C.stored content.old id) self.old (C.stored content.new id)) }
+        ensures runs { IsOpen C.ReadContents content.old id self.old
+            → IfOk result (λ n. RunsOn C.ReadContents C.Contents.own content.old id self.old
+            (write bytes.now) (count n) content.new self.new) }
+        ensures refused { IsOpen C.ReadContents content.old id self.old
+            → IfErr result (IsRefusedOn C.ReadContents C.Contents.own content.old id self.old
+            (write bytes.now) content.new self.new) }
+        ensures goes_on { IsOpen C.ReadContents content.old id self.old
+            → GoesOn C.ReadContents content.old content.new id self.new }
+        ensures settles { IsOpen C.ReadContents content.old id self.old → length bytes.now < 65536
+            → OnOk result (IsSettled (C.stored content.old id) self.old (C.stored content.new id)) }
         ensures none { length bytes.now ≡ 0 → content.new ≡ content.old }
         ensures unsound { (C.stored content.old id).sound ≡ false → content.new ≡ content.old }
-        ensures held { length bytes.now < 65536 → HasBufferRoom self.old → content.new ≡ content.old }
-        ensures keeps_back { 0 < length bytes.now → length bytes.now < 65536 → OnOk result (self.new.pending ≡ true) }
+        ensures held { length bytes.now < 65536 → HasBufferRoom self.old
+            → content.new ≡ content.old }
+        ensures keeps_back { 0 < length bytes.now → length bytes.now < 65536
+            → OnOk result (self.new.pending ≡ true) }
         ensures straight { 65536 ≤ length bytes.now → OnOk result (self.new.pending ≡ false) }
-        ensures calm { length bytes.now < 65536 → self.old.pending ≡ false → content.new ≡ content.old }
+        ensures calm { length bytes.now < 65536 → self.old.pending ≡ false
+            → content.new ≡ content.old }
         ensures foreseen { IsOpen C.ReadContents content.old id self.old
             → IfErr result (λ e. e ≡ Error.Full
             → LacksRoomToWrite C.ReadContents C.Contents.own content.old id self.old
             (length bytes.now) content.new) }
         ensures bound { self.new.bound ≡ self.old.bound }
         ensures lean { self.new.room ≤ max self.old.room (min (4 * self.old.room) self.old.bound) }
-        ensures around { C.tells content.old → IsTouched C.ReadContents C.Contents.own content.old content.new id result }
-        ensures between { C.tells content.old → InTurn C.ReadContents C.Contents.own content.old id self.old content.new }
-        ensures once { C.tells content.old → length bytes.now < 65536 → C.tight content.old content.new }
+        ensures around { C.tells content.old
+            → IsTouched C.ReadContents C.Contents.own content.old content.new id result }
+        ensures between { C.tells content.old
+            → InTurn C.ReadContents C.Contents.own content.old id self.old content.new }
+        ensures once { C.tells content.old → length bytes.now < 65536
+            → C.tight content.old content.new }
     {
         if content.is_failed(id) {
             return Err(Error::Failed);
@@ -82,13 +95,19 @@ impl<A: Allocator> Window<A> {
         requires there { C.has content.old id }
         ensures there { C.has content.new id }
         ensures any { HasKeptFlags C.ReadContents content.old content.new id result }
-        ensures around { C.tells content.old → IsWritten C.ReadContents C.Contents.own content.old content.new id result }
-        ensures ok { IsReady C.ReadContents content.old id self.old → OnOk result (Carries (C.stored content.old id) self.old (C.stored content.new id) self.new) }
+        ensures around { C.tells content.old
+            → IsWritten C.ReadContents C.Contents.own content.old content.new id result }
+        ensures ok { IsReady C.ReadContents content.old id self.old → OnOk result
+            (Carries (C.stored content.old id) self.old (C.stored content.new id) self.new) }
         ensures room { OnOk result (self.new.cursor < self.new.room) }
-        ensures place { OnOk result (self.new.base + self.new.cursor ≡ self.old.base + self.old.cursor) }
+        ensures place { OnOk result (self.new.base + self.new.cursor
+            ≡ self.old.base + self.old.cursor) }
         ensures held { HasBufferRoom self.old → content.new ≡ content.old }
-        ensures settles { IsReady C.ReadContents content.old id self.old → OnOk result (IsSettled (C.stored content.old id) self.old (C.stored content.new id)) }
-        ensures refused { IsReady C.ReadContents content.old id self.old → IfErr result (WriteBrokeOff (C.is_full content.new) (C.stored content.old id) self.old (C.stored content.new id) self.new) }
+        ensures settles { IsReady C.ReadContents content.old id self.old
+            → OnOk result (IsSettled (C.stored content.old id) self.old (C.stored content.new id)) }
+        ensures refused { IsReady C.ReadContents content.old id self.old
+            → IfErr result (WriteBrokeOff (C.is_full content.new)
+            (C.stored content.old id) self.old (C.stored content.new id) self.new) }
         ensures foreseen { IsReady C.ReadContents content.old id self.old
             → IfErr result (λ e. e ≡ Error.Full
             → LacksRoomToWriteOut C.ReadContents C.Contents.own content.old id self.old) }
@@ -108,7 +127,9 @@ impl<A: Allocator> Window<A> {
 
     fn grow(&mut self) -> Result<(), Error>
         requires more { self.old.room < self.old.bound }
-        ensures ok { OnOk result (self.new ≡ record self.old { room = max self.old.room (min (4 * self.old.room) self.old.bound) }) }
+        ensures ok { OnOk result (self.new ≡ record self.old {
+          room = max self.old.room (min (4 * self.old.room) self.old.bound);
+        }) }
         ensures room { OnOk result (self.new.cursor < self.new.room) }
         ensures refused { IfErr result IsMemory }
         ensures unlent { OnErr result (self.new ≡ record self.old { ahead = 0 }) }
@@ -125,12 +146,18 @@ impl<A: Allocator> Window<A> {
         requires there { C.has content.old id }
         ensures there { C.has content.new id }
         ensures any { HasKeptFlags C.ReadContents content.old content.new id result }
-        ensures around { C.tells content.old → IsWritten C.ReadContents C.Contents.own content.old content.new id result }
-        ensures ok { IsReady C.ReadContents content.old id self.old → OnOk result (Carries (C.stored content.old id) self.old (C.stored content.new id) self.new) }
+        ensures around { C.tells content.old
+            → IsWritten C.ReadContents C.Contents.own content.old content.new id result }
+        ensures ok { IsReady C.ReadContents content.old id self.old → OnOk result
+            (Carries (C.stored content.old id) self.old (C.stored content.new id) self.new) }
         ensures room { OnOk result (self.new.cursor < self.new.room) }
-        ensures place { OnOk result (self.new.base + self.new.cursor ≡ self.old.base + self.old.cursor) }
-        ensures settles { IsReady C.ReadContents content.old id self.old → OnOk result (IsSettled (C.stored content.old id) self.old (C.stored content.new id)) }
-        ensures refused { IsReady C.ReadContents content.old id self.old → IfErr result (WriteBrokeOff (C.is_full content.new) (C.stored content.old id) self.old (C.stored content.new id) self.new) }
+        ensures place { OnOk result (self.new.base + self.new.cursor
+            ≡ self.old.base + self.old.cursor) }
+        ensures settles { IsReady C.ReadContents content.old id self.old
+            → OnOk result (IsSettled (C.stored content.old id) self.old (C.stored content.new id)) }
+        ensures refused { IsReady C.ReadContents content.old id self.old
+            → IfErr result (WriteBrokeOff (C.is_full content.new)
+            (C.stored content.old id) self.old (C.stored content.new id) self.new) }
         ensures foreseen { IsReady C.ReadContents content.old id self.old
             → IfErr result (λ e. e ≡ Error.Full
             → LacksRoomToWriteOut C.ReadContents C.Contents.own content.old id self.old) }
@@ -172,18 +199,26 @@ impl<A: Allocator> Window<A> {
         requires fits { self.old.base + self.old.cursor + length bytes.now < 2 ^ 64 }
         ensures there { C.has content.new id }
         ensures any { HasKeptFlags C.ReadContents content.old content.new id result }
-        ensures around { C.tells content.old → IsTouched C.ReadContents C.Contents.own content.old content.new id result }
-        ensures between { C.tells content.old → InTurn C.ReadContents C.Contents.own content.old id self.old content.new }
+        ensures around { C.tells content.old
+            → IsTouched C.ReadContents C.Contents.own content.old content.new id result }
+        ensures between { C.tells content.old
+            → InTurn C.ReadContents C.Contents.own content.old id self.old content.new }
         ensures most { IfOk result (λ n. n ≤ length bytes.now) }
-        ensures ok { IsReady C.ReadContents content.old id self.old → (C.stored content.old id).sound ≡ true → self.old.base + self.old.cursor + length bytes.now ≤ (C.stored content.old id).limit → 0 < length bytes.now
-            → IfOk result (λ n. (1 ≤ n) × WroteStraight (take n bytes.now) (C.stored content.old id) self.old (C.stored content.new id) self.new) }
-        ensures refused { IsReady C.ReadContents content.old id self.old → (C.stored content.old id).sound ≡ true → self.old.base + self.old.cursor + length bytes.now ≤ (C.stored content.old id).limit → 0 < length bytes.now
-            → IfErr result (WriteBrokeOff (C.is_full content.new) (C.stored content.old id) self.old (C.stored content.new id) self.new) }
-        ensures calm { OnOk result (self.new.pending ≡ false) }
-        ensures foreseen { IsReady C.ReadContents content.old id self.old → (C.stored content.old id).sound ≡ true
+        ensures ok { IsReady C.ReadContents content.old id self.old
+            → (C.stored content.old id).sound ≡ true
             → self.old.base + self.old.cursor + length bytes.now ≤ (C.stored content.old id).limit
-            → 0 < length bytes.now
-            → IfErr result (λ e. e ≡ Error.Full
+            → 0 < length bytes.now → IfOk result (λ n. (1 ≤ n) × WroteStraight (take n bytes.now)
+            (C.stored content.old id) self.old (C.stored content.new id) self.new) }
+        ensures refused { IsReady C.ReadContents content.old id self.old
+            → (C.stored content.old id).sound ≡ true
+            → self.old.base + self.old.cursor + length bytes.now ≤ (C.stored content.old id).limit
+            → 0 < length bytes.now → IfErr result (WriteBrokeOff (C.is_full content.new)
+            (C.stored content.old id) self.old (C.stored content.new id) self.new) }
+        ensures calm { OnOk result (self.new.pending ≡ false) }
+        ensures foreseen { IsReady C.ReadContents content.old id self.old
+            → (C.stored content.old id).sound ≡ true
+            → self.old.base + self.old.cursor + length bytes.now ≤ (C.stored content.old id).limit
+            → 0 < length bytes.now → IfErr result (λ e. e ≡ Error.Full
             → LacksRoomToWriteOut C.ReadContents C.Contents.own content.old id self.old
             ⊎ LacksRoomBehind C.ReadContents C.Contents.own content.old id self.old content.new) }
         ensures bound { self.new.bound ≡ self.old.bound }
@@ -207,7 +242,10 @@ impl<A: Allocator> Window<A> {
     fn pass(&mut self, count: usize)
         requires empty { self.old.filled ≡ [] }
         requires fits { self.old.base + count < 2 ^ 64 }
-        ensures { self.new ≡ record self.old { base = self.old.base + count; size = max self.old.size (self.old.base + count) } }
+        ensures { self.new ≡ record self.old {
+          base = self.old.base + count;
+          size = max self.old.size (self.old.base + count);
+        } }
     {
         let _filled = self.buffer.filled_len();
         self.base += count as u64;
@@ -221,24 +259,35 @@ impl<A: Allocator> Window<A> {
     pub fn set_len<C: Contents>(&mut self, content: &mut C, id: u32, len: u64) -> Result<(), Error>
         requires there { C.has content.old id }
         ensures there { C.has content.new id }
-        ensures any { HeedsFlags C.ReadContents content.old id self.old result content.new self.new }
-        ensures runs { IsOpen C.ReadContents content.old id self.old → OnOk result (RunsSettingLen C.ReadContents C.Contents.own content.old id self.old len content.new self.new) }
-        ensures refused { IsOpen C.ReadContents content.old id self.old → IfErr result (IsLengthRefusedOn C.ReadContents C.Contents.own content.old id self.old len content.new self.new) }
-        ensures goes_on { IsOpen C.ReadContents content.old id self.old → GoesOn C.ReadContents content.old content.new id self.new }
+        ensures any { HeedsFlags C.ReadContents
+            content.old id self.old result content.new self.new }
+        ensures runs { IsOpen C.ReadContents content.old id self.old
+            → OnOk result (RunsSettingLen C.ReadContents C.Contents.own
+            content.old id self.old len content.new self.new) }
+        ensures refused { IsOpen C.ReadContents content.old id self.old
+            → IfErr result (IsLengthRefusedOn C.ReadContents C.Contents.own
+            content.old id self.old len content.new self.new) }
+        ensures goes_on { IsOpen C.ReadContents content.old id self.old
+            → GoesOn C.ReadContents content.old content.new id self.new }
         ensures same { len ≡ self.old.size → content.new ≡ content.old }
         ensures unsound { (C.stored content.old id).sound ≡ false → content.new ≡ content.old }
         ensures foreseen { IsOpen C.ReadContents content.old id self.old
             → IfErr result (λ e. e ≡ Error.Full → (content.new ≡ content.old)
-            ⊎ LosesRoomBetween C.ReadContents C.Contents.own content.old id self.old len content.new) }
+            ⊎ LosesRoomBetween C.ReadContents C.Contents.own
+            content.old id self.old len content.new) }
         ensures writes_out { IsOpen C.ReadContents content.old id self.old
             → IsLengthened (C.stored content.old id) self.old len
             → HasRoomForBoth C.ReadContents C.Contents.own content.old id self.old len → OnOk result
             (WritesOutFirst C.ReadContents C.Contents.own content.old id self.old content.new) }
         ensures bound { self.new.bound ≡ self.old.bound }
         ensures room { self.new.room ≡ self.old.room }
-        ensures around { C.tells content.old → IsTouched C.ReadContents C.Contents.own content.old content.new id result }
-        ensures between { C.tells content.old → InTurn C.ReadContents C.Contents.own content.old id self.old content.new }
-        ensures once { C.tells content.old → (IsLengthened (C.stored content.old id) self.old len → ⊥) → C.tight content.old content.new }
+        ensures around { C.tells content.old
+            → IsTouched C.ReadContents C.Contents.own content.old content.new id result }
+        ensures between { C.tells content.old
+            → InTurn C.ReadContents C.Contents.own content.old id self.old content.new }
+        ensures once { C.tells content.old
+            → (IsLengthened (C.stored content.old id) self.old len → ⊥)
+            → C.tight content.old content.new }
     {
         if content.is_failed(id) {
             return Err(Error::Failed);
@@ -264,7 +313,8 @@ impl<A: Allocator> Window<A> {
     /// Whether bytes are pending behind the end of the list, and the length is longer than it is with them.
     fn is_lengthened<C: Contents>(&self, content: &C, id: u32, len: u64) -> bool
         requires there { C.has content.now id }
-        ensures { IsTrue result ↔ ((self.now.pending ≡ true) × IsLengthened (C.stored content.now id) self.now len) }
+        ensures { IsTrue result
+            ↔ ((self.now.pending ≡ true) × IsLengthened (C.stored content.now id) self.now len) }
     {
         self.pending && content.len(id) < self.size && self.size < len
     }
@@ -278,16 +328,23 @@ impl<A: Allocator> Window<A> {
         requires longer { self.old.size < len }
         ensures there { C.has content.new id }
         ensures any { HasKeptFlags C.ReadContents content.old content.new id result }
-        ensures around { C.tells content.old → IsTouched C.ReadContents C.Contents.own content.old content.new id result }
-        ensures between { C.tells content.old → InTurn C.ReadContents C.Contents.own content.old id self.old content.new }
-        ensures ok { IsReady C.ReadContents content.old id self.old → (C.stored content.old id).sound ≡ true → len ≤ (C.stored content.old id).limit
-            → OnOk result (Resized len (C.stored content.old id) self.old (C.stored content.new id) self.new) }
-        ensures refused { IsReady C.ReadContents content.old id self.old → (C.stored content.old id).sound ≡ true → len ≤ (C.stored content.old id).limit
-            → IfErr result (LengthBrokeOff (C.is_too_long content.new id len) (C.stored content.old id) self.old (C.stored content.new id) self.new) }
+        ensures around { C.tells content.old
+            → IsTouched C.ReadContents C.Contents.own content.old content.new id result }
+        ensures between { C.tells content.old
+            → InTurn C.ReadContents C.Contents.own content.old id self.old content.new }
+        ensures ok { IsReady C.ReadContents content.old id self.old
+            → (C.stored content.old id).sound ≡ true → len ≤ (C.stored content.old id).limit
+            → OnOk result (Resized len
+            (C.stored content.old id) self.old (C.stored content.new id) self.new) }
+        ensures refused { IsReady C.ReadContents content.old id self.old
+            → (C.stored content.old id).sound ≡ true → len ≤ (C.stored content.old id).limit
+            → IfErr result (LengthBrokeOff (C.is_too_long content.new id len)
+            (C.stored content.old id) self.old (C.stored content.new id) self.new) }
         ensures foreseen { IsReady C.ReadContents content.old id self.old
             → (C.stored content.old id).sound ≡ true → len ≤ (C.stored content.old id).limit
             → IfErr result (λ e. e ≡ Error.Full → (content.new ≡ content.old)
-            ⊎ LosesRoomBetween C.ReadContents C.Contents.own content.old id self.old len content.new) }
+            ⊎ LosesRoomBetween C.ReadContents C.Contents.own
+            content.old id self.old len content.new) }
         ensures writes_out { IsReady C.ReadContents content.old id self.old
             → HasRoomForBoth C.ReadContents C.Contents.own content.old id self.old len → OnOk result
             (WritesOutFirst C.ReadContents C.Contents.own content.old id self.old content.new) }
@@ -338,17 +395,26 @@ impl<A: Allocator> Window<A> {
         requires pending { self.old.pending ≡ true }
         requires behind { (C.stored content.old id).size < self.old.size }
         requires longer { self.old.size < len }
-        requires fits { C.tells content.old → TakesLen (C.stored content.old id) self.old.size → C.is_too_long content.old id self.old.size → ⊥ }
+        requires fits { C.tells content.old → TakesLen (C.stored content.old id) self.old.size
+            → C.is_too_long content.old id self.old.size → ⊥ }
         ensures there { C.has content.new id }
         ensures any { HasKeptFlags C.ReadContents content.old content.new id result }
-        ensures around { C.tells content.old → IsTouched C.ReadContents C.Contents.own content.old content.new id result }
-        ensures between { C.tells content.old → InTurn C.ReadContents C.Contents.own content.old id self.old content.new }
-        ensures ok { IsReady C.ReadContents content.old id self.old → (C.stored content.old id).sound ≡ true → len ≤ (C.stored content.old id).limit
-            → OnOk result (Resized len (C.stored content.old id) self.old (C.stored content.new id) self.new) }
-        ensures refused { IsReady C.ReadContents content.old id self.old → (C.stored content.old id).sound ≡ true → len ≤ (C.stored content.old id).limit
-            → IfErr result (LengthBrokeOff (C.is_too_long content.new id len) (C.stored content.old id) self.old (C.stored content.new id) self.new) }
-        ensures foreseen { IsReady C.ReadContents content.old id self.old → (C.stored content.old id).sound ≡ true → len ≤ (C.stored content.old id).limit
-            → IfErr result (λ e. e ≡ Error.Full → (content.new ≡ content.old) ⊎ ((C.stored content.new id).failed ≡ true)) }
+        ensures around { C.tells content.old
+            → IsTouched C.ReadContents C.Contents.own content.old content.new id result }
+        ensures between { C.tells content.old
+            → InTurn C.ReadContents C.Contents.own content.old id self.old content.new }
+        ensures ok { IsReady C.ReadContents content.old id self.old
+            → (C.stored content.old id).sound ≡ true → len ≤ (C.stored content.old id).limit
+            → OnOk result (Resized len
+            (C.stored content.old id) self.old (C.stored content.new id) self.new) }
+        ensures refused { IsReady C.ReadContents content.old id self.old
+            → (C.stored content.old id).sound ≡ true → len ≤ (C.stored content.old id).limit
+            → IfErr result (LengthBrokeOff (C.is_too_long content.new id len)
+            (C.stored content.old id) self.old (C.stored content.new id) self.new) }
+        ensures foreseen { IsReady C.ReadContents content.old id self.old
+            → (C.stored content.old id).sound ≡ true → len ≤ (C.stored content.old id).limit
+            → IfErr result (λ e. e ≡ Error.Full
+            → (content.new ≡ content.old) ⊎ ((C.stored content.new id).failed ≡ true)) }
         ensures writes_out { IsReady C.ReadContents content.old id self.old → OnOk result
             (WritesOutFirst C.ReadContents C.Contents.own content.old id self.old content.new) }
         ensures bound { self.new.bound ≡ self.old.bound }
@@ -367,11 +433,16 @@ impl<A: Allocator> Window<A> {
         requires there { C.has content.old id }
         ensures there { C.has content.new id }
         ensures any { HasKeptFlags C.ReadContents content.old content.new id result }
-        ensures around { C.tells content.old → IsWritten C.ReadContents C.Contents.own content.old content.new id result }
-        ensures ok { IsReady C.ReadContents content.old id self.old → (C.stored content.old id).sound ≡ true → len ≤ (C.stored content.old id).limit
-            → OnOk result (Resized len (C.stored content.old id) self.old (C.stored content.new id) self.new) }
-        ensures refused { IsReady C.ReadContents content.old id self.old → (C.stored content.old id).sound ≡ true → len ≤ (C.stored content.old id).limit
-            → IfErr result (λ e. IsBreak (C.is_too_long content.new id len) e × Fails (C.stored content.old id) (C.stored content.new id)) }
+        ensures around { C.tells content.old
+            → IsWritten C.ReadContents C.Contents.own content.old content.new id result }
+        ensures ok { IsReady C.ReadContents content.old id self.old
+            → (C.stored content.old id).sound ≡ true → len ≤ (C.stored content.old id).limit
+            → OnOk result (Resized len
+            (C.stored content.old id) self.old (C.stored content.new id) self.new) }
+        ensures refused { IsReady C.ReadContents content.old id self.old
+            → (C.stored content.old id).sound ≡ true → len ≤ (C.stored content.old id).limit
+            → IfErr result (λ e. IsBreak (C.is_too_long content.new id len) e
+            × Fails (C.stored content.old id) (C.stored content.new id)) }
         ensures lost { OnErr result ((C.stored content.new id).failed ≡ true) }
         ensures bound { self.new.bound ≡ self.old.bound }
         ensures room { self.new.room ≡ self.old.room }
@@ -389,13 +460,18 @@ impl<A: Allocator> Window<A> {
         requires there { C.has content.old id }
         ensures there { C.has content.new id }
         ensures any { HasKeptFlags C.ReadContents content.old content.new id result }
-        ensures around { C.tells content.old → IsWritten C.ReadContents C.Contents.own content.old content.new id result }
-        ensures ok { IsReady C.ReadContents content.old id self.old → (C.stored content.old id).sound ≡ true → len ≤ (C.stored content.old id).limit
-            → OnOk result (Resized len (C.stored content.old id) self.old (C.stored content.new id) self.new) }
-        ensures refused { IsReady C.ReadContents content.old id self.old → (C.stored content.old id).sound ≡ true → len ≤ (C.stored content.old id).limit
-            → IfErr result (LengthBrokeOff (C.is_too_long content.new id len) (C.stored content.old id) self.old (C.stored content.new id) self.new) }
-        ensures foreseen { IsReady C.ReadContents content.old id self.old → (C.stored content.old id).sound ≡ true
-            → len ≤ (C.stored content.old id).limit
+        ensures around { C.tells content.old
+            → IsWritten C.ReadContents C.Contents.own content.old content.new id result }
+        ensures ok { IsReady C.ReadContents content.old id self.old
+            → (C.stored content.old id).sound ≡ true → len ≤ (C.stored content.old id).limit
+            → OnOk result (Resized len
+            (C.stored content.old id) self.old (C.stored content.new id) self.new) }
+        ensures refused { IsReady C.ReadContents content.old id self.old
+            → (C.stored content.old id).sound ≡ true → len ≤ (C.stored content.old id).limit
+            → IfErr result (LengthBrokeOff (C.is_too_long content.new id len)
+            (C.stored content.old id) self.old (C.stored content.new id) self.new) }
+        ensures foreseen { IsReady C.ReadContents content.old id self.old
+            → (C.stored content.old id).sound ≡ true → len ≤ (C.stored content.old id).limit
             → IfErr result (λ e. e ≡ Error.Full → content.new ≡ content.old) }
         ensures bound { self.new.bound ≡ self.old.bound }
         ensures room { self.new.room ≡ self.old.room }
@@ -414,8 +490,10 @@ impl<A: Allocator> Window<A> {
     /// The window in a stream of another length: bytes that are not written out stay, as far as they lie in
     /// it.
     fn cut(&mut self, len: u64)
-        ensures kept { self.old.pending ≡ true → self.old.base ≤ len → self.new ≡ window_within len self.old }
-        ensures past { self.old.pending ≡ true → len < self.old.base → self.new ≡ window_past len self.old }
+        ensures kept { self.old.pending ≡ true → self.old.base ≤ len
+            → self.new ≡ window_within len self.old }
+        ensures past { self.old.pending ≡ true → len < self.old.base
+            → self.new ≡ window_past len self.old }
         ensures calm { self.old.pending ≡ false → self.new ≡ window_past len self.old }
     {
         let at = self.position().min(len);
