@@ -15,6 +15,7 @@ use Rattle.cfb_agreement.specs.Files.{FileState, SameSetting, failures_of, is_fa
 use Rattle.cfb_agreement.specs.Laws.{with_flags}
 use Rattle.cfb_path_changes.proofs.Runs.{runs_failed, runs_unfailed}
 use Rattle.cfb_path_changes.proofs.Sparing.{flags_spare, spares_all}
+use Rattle.cfb_path_changes.proofs.TakenSlots.{takes_no_slot}
 use Rattle.cfb_path_changes.specs.Answers.{IsDoneBy, IsRefusedBy, RunsOn, StaysInOrder, causes_of_call, setting_of, state_with}
 
 runs-done : (file : FileState) → is_failed file ≡ false → RunsOn (causes_of_call file file) file flush done file
@@ -55,7 +56,16 @@ stays file = record {
 }
 
 pub flush-done : (file : FileState) → is_failed file ≡ false → IsDoneBy file flush done file
-flush-done file unfailed = record { runs = runs-done file unfailed; order = stays file; balanced = λ _ all. all; spares = spares_all file flush; quiet = λ tree means none. absurd none; room = λ tree means creates. absurd (let clash : flushing ≡ creating = creates in cc); calm = refl }
+flush-done file unfailed = record {
+  runs = runs-done file unfailed;
+  order = stays file;
+  balanced = λ _ all. all;
+  spares = spares_all file flush;
+  quiet = λ tree means none. absurd none;
+  room = λ tree means creates. absurd (let clash : flushing ≡ creating = creates in cc);
+  slots = takes_no_slot file file flush (λ tree creates. let clash : flushing ≡ creating = creates in cc) (record { slots = refl; fat = refl });
+  calm = refl;
+}
 
 pub flush-on-failed : (can : MediumFault → Bool) (file : FileState) → is_failed file ≡ true → IsRefusedBy can file flush file Failed
 flush-on-failed can file failed = record {

@@ -51,6 +51,7 @@ use Rattle.cfb_path_changes.proofs.Places.{end_with, missing}
 use Rattle.cfb_path_changes.proofs.Refusing.{RuleSays, refused_by_break, refused_by_rules, refused_for_memory, rules_allow, unchanged}
 use Rattle.cfb_path_changes.proofs.Sparing.{none_changed}
 use Rattle.cfb_path_changes.proofs.Wanting.{both}
+use Rattle.cfb_volume.specs.Slots.{TakesNoSlot}
 use Rattle.cfb_volume.proofs.Steps.{counts-of-write}
 
 -- ---- lists
@@ -240,6 +241,13 @@ module _ (old : FileState) (path : List ℕ) (moment : ℕ) (names : List (List 
       go false e = refl
       go true e = let c : changing ≡ creating = e in cc
 
+  making_none : (tree : Tree) → kind_on (cases_of old.base) tree call ≢ creating → is_there (cases_of old.base) tree path ≡ true
+  making_none tree makes = go (is_there (cases_of old.base) tree path) makes
+    where
+      go : (b : Bool) → (if b then changing else creating) ≢ creating → b ≡ true
+      go true e = refl
+      go false e = absurd (e refl)
+
   pub all_done : is_failed new ≡ false → (IsAsMade old.base → IsAsMade new.base) → GrowsTightly old.base new.base → (IsBalancedFile old → IsBalancedFile new)
       → root_len_of new.base ≡ root_len_of old.base → (0 < length (drop passed names) → IsFullForEntry old.base.directory → ⊥) → (length (drop passed names) ≡ 0 → new ≡ old) → failures_of new ≡ failures_of old
       → ((before : List (List ℕ)) (o : Outline) → IsOutline (cases_of old.base) (entries_of old.base) o → number_from (cases_of old.base) (entries_of old.base) 0 o before ≡ Some k
@@ -256,6 +264,11 @@ module _ (old : FileState) (path : List ℕ) (moment : ℕ) (names : List (List 
         balanced = λ _. balanced;
         spares = none_changed old new call keeps;
         room = λ tree means creates. enough (all_there tree means (creating_missing tree creates));
+        slots = record {
+          none = λ tree means makes_none. subst (λ (f : FileState). TakesNoSlot old.base f.base)
+              (sym (same (no_name_left tree means (making_none tree makes_none)))) (record { slots = refl; fat = refl });
+          one = λ tree means creates single. absurd (let clash : true ≡ false = single in cc);
+        };
         quiet = λ tree means there. same (no_name_left tree means there);
         calm = same_count;
       }

@@ -1,5 +1,5 @@
 -- A new object in its place.
-use Rattle.std.proofs.Common.{◌≡◌, ◌⊎◌, inl, inr, ℕ, List, ◌∷◌, Bool, Bor, true, false, sym, ◌∙◌, ap, subst}
+use Rattle.std.proofs.Common.{◌≡◌, ◌⊎◌, inl, inr, ℕ, List, ◌∷◌, Bool, Bor, true, false, sym, ◌∙◌, ap, subst, length}
 use Rattle.std.specs.Prelude.{◌||◌, Some, None, chars}
 use Rattle.cfb_format.specs.declared.error.Error.{Error}
 use Rattle.cfb_format.specs.declared.error.Error.TheVariants.{Full}
@@ -21,12 +21,13 @@ use Rattle.cfb_path_changes.specs.cfb_siblings.Paths.{number_from}
 use Rattle.cfb_path_changes.specs.cfb_entries.EntryList.{AreInOrder}
 use Rattle.cfb_path_changes.specs.cfb_trees.Reached.{IsReached}
 use Rattle.cfb_path_changes.specs.cfb_objects.Laws.{BecomesTree}
-use Rattle.cfb_path_changes.specs.cfb_mini_sectors.State.{bytes_of, cases_of, entries_of}
+use Rattle.cfb_path_changes.specs.cfb_mini_sectors.State.{bytes_of, cases_of, entries_of, tables_in}
 use Rattle.cfb_path_changes.specs.cfb_content.Contents.{IsStreamOf, IsTooLongFor, KeepsFixedHeader, MovesContent, len_of}
 use Rattle.cfb_path_changes.specs.cfb_entry_changes.Kept.{AllStayBalanced}
 use Rattle.cfb_path_changes.specs.cfb_agreement.Changes.{ChangesOneContent, KeepsStreams, StaysOrFails, object_added_at}
 use Rattle.cfb_path_changes.specs.cfb_agreement.Files.{FileState, Holds, IsAsMade, IsFullFile, GrowsTightly, SameSetting, failures_of, is_failed}
 use Rattle.cfb_volume.specs.Answers.{content_at}
+use Rattle.cfb_volume.specs.Slots.{TakesSlot}
 use Rattle.cfb_path_changes.specs.Adding.{IsMissing, CanBeEmptied, RulesSay, creation, kind_made}
 use Rattle.cfb_path_changes.specs.declared.placing.Creation.{Creation}
 use Rattle.cfb_path_changes.specs.declared.placing.Creation.TheVariants.{EmptyStream, NewStorage, NewStream}
@@ -84,9 +85,10 @@ module _ (what : Creation) (moment : ℕ) (old new : FileState) (place : Place) 
   }
 
   pub there_done : Holds old → Holds new → SameSetting old new → ChangesOneContent k old new → is_failed new ≡ false → content_at new k ≡ resized (content_at old k) 0
+      → length (tables_in new.base).fat ≡ length (tables_in old.base).fat
       → failures_of new ≡ failures_of old → (path : List ℕ) → IsPlaceOf old what path place → IsDoneBy old (creation what moment path) done new
-  there_done held now setting changes ended bytes same_count path at =
-      emptied_done old new what moment path at.unfailed at.sound held setting ended at.names at.named k (there_of path at) now changes bytes same_count
+  there_done held now setting changes ended bytes fat same_count path at =
+      emptied_done old new what moment path at.unfailed at.sound held setting ended at.names at.named k (there_of path at) now changes bytes fat same_count
 
   pub there_refused : (can_give : MediumFault → Bool) (e : Error) → Holds old → SameSetting old new → StaysOrFails old new → ChangesOneContent k old new → (IsTooLongFor old.base k 0 → ⊥)
       → IsBreak (IsTooLongFor old.base k 0 × (new ≡ old)) e → AfterMedium (Unit {0}) (new ≡ old) e → CountsError can_give (failures_of old) (failures_of new) e
@@ -133,14 +135,14 @@ module _ (what : Creation) (moment : ℕ) (old new : FileState) (place : Place) 
   pub missing_done : (kind : ObjType) → kind ≡ kind_made what → Holds old → SameSetting old new → is_failed new ≡ false → (IsAsMade old.base → IsAsMade new.base)
       → AllStayBalanced old.base new.base
       → GrowsTightly old.base new.base → len_of new.base 0 ≡ len_of old.base 0 → KeepsStreams old.base new.base → KeepsFixedHeader old.base new.base
-      → (IsFullForEntry old.base.directory → ⊥) → failures_of new ≡ failures_of old
+      → (IsFullForEntry old.base.directory → ⊥) → TakesSlot old.base new.base → failures_of new ≡ failures_of old
       → ((names : List (List ℕ)) (o : Outline) → IsOutline (cases_of old.base) (entries_of old.base) o
       → number_from (cases_of old.base) (entries_of old.base) 0 o (parent_names names) ≡ Some parent → last_name names ≡ chars name.now → BecomesSo kind names)
       → (path : List ℕ) → IsPlaceOf old what path place → IsDoneBy old (creation what moment path) done new
-  missing_done kind is_kind held setting ended made balanced grows root_len keeps header enough same_count becomes path at =
+  missing_done kind is_kind held setting ended made balanced grows root_len keeps header enough slot same_count becomes path at =
       let m = missing_of path at in
       added_done old new what moment path at.unfailed at.sound held setting ended at.names at.named parent (chars name.now) m made
-      (added_balanced old new m.storage.outline m.storage.is balanced) grows root_len keeps header enough same_count
+      (added_balanced old new m.storage.outline m.storage.is balanced) grows root_len keeps header enough slot same_count
       (λ names o is above last. subst (λ (t : ObjType). BecomesSo t names) is_kind (becomes names o is above last))
 
   -- numbers lack for an entry

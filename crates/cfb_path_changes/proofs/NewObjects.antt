@@ -22,7 +22,7 @@ use Rattle.cfb_path_changes.proofs.cfb_trees.PathNames.{same-from}
 use Rattle.cfb_path_changes.specs.cfb_directory.State.{IsFullForEntry}
 use Rattle.cfb_path_changes.specs.cfb_objects.Objects.{object_of, tree_from}
 use Rattle.cfb_path_changes.specs.cfb_objects.Laws.{BecomesTree}
-use Rattle.cfb_path_changes.specs.cfb_mini_sectors.State.{bytes_of, cases_of, content_of, entries_of, root_len_of}
+use Rattle.cfb_path_changes.specs.cfb_mini_sectors.State.{bytes_of, cases_of, content_of, entries_of, root_len_of, tables_in}
 use Rattle.cfb_path_changes.specs.cfb_content.Contents.{IsStreamOf, KeepsFixedHeader, MovesContent}
 use Rattle.cfb_path_changes.proofs.cfb_content.Outlines.{moved-at, moved-is-outline}
 use Rattle.cfb_path_changes.specs.cfb_agreement.Changes.{ChangesOneContent, KeepsStreams, object_added_at}
@@ -30,6 +30,7 @@ use Rattle.cfb_path_changes.specs.cfb_agreement.Files.{FileState, Holds, IsAsMad
 use Rattle.cfb_path_changes.proofs.cfb_agreement.ContentChanges.{content-becomes-tree}
 use Rattle.cfb_path_changes.proofs.cfb_agreement.HeldBytes.{held-means-its-tree}
 use Rattle.cfb_volume.specs.Answers.{content_at}
+use Rattle.cfb_volume.specs.Slots.{TakesSlot}
 use Rattle.cfb_path_changes.specs.Adding.{IsMissing, CanBeEmptied, RulesSay, creation, kind_made, may_be_there}
 use Rattle.cfb_path_changes.specs.Answers.{ForMemory, HasNothingToDo, IsBalancedFile, IsDoneBy, MeansTree, RunsOn, causes_of_call}
 use Rattle.cfb_path_changes.specs.declared.placing.Creation.{Creation}
@@ -41,7 +42,7 @@ use Rattle.cfb_path_changes.proofs.Balanced.{moved_balanced}
 use Rattle.cfb_path_changes.proofs.Sparing.{none_changed, one_spared_not}
 use Rattle.cfb_path_changes.proofs.Changing.{was_done}
 use Rattle.cfb_path_changes.proofs.Creation.{object_is}
-use Rattle.cfb_path_changes.proofs.CallKinds.{kind_emptied}
+use Rattle.cfb_path_changes.proofs.CallKinds.{kind_emptied, kind_missing}
 use Rattle.cfb_path_changes.proofs.Places.{missing_is_allowed, there_is_allowed}
 use Rattle.cfb_path_changes.proofs.Refusing.{by_rules}
 
@@ -161,10 +162,17 @@ module _ (old new : FileState) (what : Creation) (moment : ℕ) (path : List ℕ
       (Means-unique (cases_of old.base) (bytes_of old.base) tree_was tree means_was (means calm))
       (kind_emptied (cases_of old.base) tree_was path what moment at.emptied (there_is (Some k) at.found))
 
+  -- nothing is there, whatever tree the bytes are said to mean
+  pub nothing_there : LeadTo old names None → (tree : Tree) → MeansTree old tree → is_there (cases_of old.base) tree path ≡ false
+  nothing_there none tree means =
+      subst (λ (t : Tree). is_there (cases_of old.base) t path ≡ false)
+      (Means-unique (cases_of old.base) (bytes_of old.base) tree_was tree means_was (means calm)) (there_is None none)
+
   -- the stream that is there was emptied
   pub emptied_done : (k : ℕ) → CanBeEmptied old what names k → Holds new → ChangesOneContent k old new → content_at new k ≡ resized (content_at old k) 0
+      → length (tables_in new.base).fat ≡ length (tables_in old.base).fat
       → failures_of new ≡ failures_of old → IsDoneBy old (creation what moment path) done new
-  emptied_done k at now changes bytes same_count = record {
+  emptied_done k at now changes bytes fat same_count = record {
     runs = runs_so (content_changed_at (cases_of old.base) [] names tree_was) (there_is_allowed old what names k at)
         (emptied_tree what moment (cases_of old.base) tree_was names at.emptied (found_is (Some k) at.found))
         (subst (λ (xs : List ℕ). Means (cases_of old.base) (bytes_of new.base) (content_changed_at (cases_of old.base) xs names tree_was)) (bytes ∙ resized_to_none (content_at old k))
@@ -175,6 +183,10 @@ module _ (old new : FileState) (what : Creation) (moment : ℕ) (path : List ℕ
     spares = one_spared_not old new (creation what moment path) k changes (there_may_be_lost old what moment path names k named at);
     room = λ tree means creates.
         absurd (let clash : emptying ≡ creating = sym (emptied_kind k at tree means) ∙ creates in cc);
+    slots = record {
+      none = λ tree means makes_none. record { slots = changes.entries.same_length; fat = fat };
+      one = λ tree means creates single. absurd (let clash : emptying ≡ creating = sym (emptied_kind k at tree means) ∙ creates in cc);
+    };
     quiet = λ tree means none. absurd (creation_does (cases_of old.base) tree what moment path none);
     calm = same_count;
   }
@@ -182,12 +194,13 @@ module _ (old new : FileState) (what : Creation) (moment : ℕ) (path : List ℕ
   -- a new one was added
   pub added_done : (p : ℕ) (name : List ℕ) → IsMissing old names p name → (IsAsMade old.base → IsAsMade new.base)
       → (IsBalancedFile old → IsBalancedFile new) → GrowsTightly old.base new.base → root_len_of new.base ≡ root_len_of old.base
-      → KeepsStreams old.base new.base → KeepsFixedHeader old.base new.base → (IsFullForEntry old.base.directory → ⊥) → failures_of new ≡ failures_of old
+      → KeepsStreams old.base new.base → KeepsFixedHeader old.base new.base → (IsFullForEntry old.base.directory → ⊥)
+      → TakesSlot old.base new.base → failures_of new ≡ failures_of old
       → ((names : List (List ℕ)) (o : Outline) → IsOutline (cases_of old.base) (entries_of old.base) o
       → number_from (cases_of old.base) (entries_of old.base) 0 o (parent_names names) ≡ Some p → last_name names ≡ name
       → BecomesTree (cases_of old.base) (bytes_of old.base) (bytes_of new.base) (object_added_at (cases_of old.base) (kind_made what) moment names))
       → IsDoneBy old (creation what moment path) done new
-  added_done p name at made balanced grows root_len keeps header enough same_count becomes = record {
+  added_done p name at made balanced grows root_len keeps header enough slot same_count becomes = record {
     runs = runs_so (object_added_at (cases_of old.base) (kind_made what) moment names tree_was) (missing_is_allowed old what names p name at)
         (added_tree what moment (cases_of old.base) tree_was names (found_is None at.none))
         (becomes names held.outline held.reads.outline (at.above held.outline held.reads.outline) at.last tree_was means_was)
@@ -196,12 +209,10 @@ module _ (old new : FileState) (what : Creation) (moment : ℕ) (path : List ℕ
     balanced = λ _. balanced;
     spares = none_changed old new (creation what moment path) keeps;
     room = λ tree means creates. enough;
+    slots = record {
+      none = λ tree means makes_none. absurd (makes_none (kind_missing (cases_of old.base) tree path what moment (nothing_there at.none tree means)));
+      one = λ tree means creates single. slot;
+    };
     quiet = λ tree means none. absurd (creation_does (cases_of old.base) tree what moment path none);
     calm = same_count;
   }
-
-  -- nothing is there, whatever tree the bytes are said to mean
-  pub nothing_there : LeadTo old names None → (tree : Tree) → MeansTree old tree → is_there (cases_of old.base) tree path ≡ false
-  nothing_there none tree means =
-      subst (λ (t : Tree). is_there (cases_of old.base) t path ≡ false)
-      (Means-unique (cases_of old.base) (bytes_of old.base) tree_was tree means_was (means calm)) (there_is None none)

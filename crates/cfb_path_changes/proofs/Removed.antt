@@ -26,6 +26,7 @@ use Rattle.cfb_path_changes.proofs.cfb_trees.Members.{streams-are-by-kind}
 use Rattle.cfb_path_changes.proofs.cfb_trees.PathDown.{same-some}
 use Rattle.cfb_format.proofs.Unique.{IsOutline-unique}
 use Rattle.cfb_volume.specs.Clearing.{KeepsStreamsBeside, StandsAs}
+use Rattle.cfb_volume.specs.Slots.{TakesNoSlot}
 use Rattle.cfb_path_changes.specs.cfb_objects.Laws.{BecomesTree}
 use Rattle.cfb_path_changes.specs.cfb_mini_sectors.State.{bytes_of, cases_of, entries_of, root_len_of}
 use Rattle.cfb_path_changes.specs.cfb_content.Contents.{KeepsFixedHeader, KeepsOthers}
@@ -43,6 +44,7 @@ use Rattle.cfb_path_changes.specs.Wanted.{AsksFor, IsThereFor, is_wanted, wanted
 use Rattle.cfb_path_changes.proofs.Doing.{means_was, runs_done, tree_was}
 use Rattle.cfb_path_changes.proofs.NewObjects.{path_leads}
 use Rattle.cfb_path_changes.proofs.Refusing.{RuleSays, after_memory, refused_by_break, rules_allow}
+use Rattle.cfb_path_changes.proofs.TakenSlots.{takes_no_slot}
 use Rattle.cfb_path_changes.proofs.Wanting.{both, inner_is, root_at_none, wanted_allowed}
 
 -- ---- the calls
@@ -154,13 +156,14 @@ module _ (old : FileState) (wanted : Wanted) (path : List ℕ) (names : List (Li
       let clash : Storage ≡ Stream = sym (inner_is (entry_at (entries_of old.base) k).obj_type (both _ _ is).0) ∙ stream in cc))
 
   pub removed_done : (parent : ℕ) (name : List ℕ) → StandsIn old names k parent name → is_failed new ≡ false → AllStayBalancedBut old.base new.base k → (IsAsMade old.base → IsAsMade new.base) → GrowsTightly old.base new.base
+      → TakesNoSlot old.base new.base
       → ((entry_at (entries_of old.base) k).obj_type ≢ Stream → root_len_of new.base ≡ root_len_of old.base) → failures_of new ≡ failures_of old
       → ((first : List ℕ) (rest : List (List ℕ)) (o : Outline) → IsOutline (cases_of old.base) (entries_of old.base) o
       → number_from (cases_of old.base) (entries_of old.base) 0 o (parent_names (first ∷ rest)) ≡ Some parent
       → number_from (cases_of old.base) (entries_of old.base) 0 o (first ∷ rest) ≡ Some k → last_name (first ∷ rest) ≡ name
       → BecomesTree (cases_of old.base) (bytes_of old.base) (bytes_of new.base) (removed_at (cases_of old.base) (first ∷ rest)))
       → IsDoneBy old call done new
-  removed_done parent name at ended balanced made grows root_len same_count becomes =
+  removed_done parent name at ended balanced made grows slots root_len same_count becomes =
       let was = tree_was (wanted_refusal wanted) path call asks old new there.unfailed there.sound held setting ended names there.named allowed in
       let means = means_was (wanted_refusal wanted) path call asks old new there.unfailed there.sound held setting ended names there.named allowed in
       let o = held.outline in
@@ -179,6 +182,7 @@ module _ (old : FileState) (wanted : Wanted) (path : List ℕ) (names : List (Li
         spares = spared;
         quiet = λ tree means_so none. absurd (removal_does (cases_of old.base) tree wanted path none);
         room = λ tree means_so creates. absurd (never_creates (cases_of old.base) tree wanted path creates);
+        slots = takes_no_slot old new call (λ tree creates. never_creates (cases_of old.base) tree wanted path creates) slots;
         calm = same_count;
       }
 
@@ -201,6 +205,7 @@ module _ (old : FileState) (wanted : Wanted) (path : List ℕ) (names : List (Li
   -- so the call answers
   pub removed_answers : {T : Type 0} (can_give : MediumFault → Bool) (r : Result T Error) (parent : ℕ) (name : List ℕ) → StandsIn old names k parent name
       → OnOk r (is_failed new ≡ false) → OnOk r (AllStayBalancedBut old.base new.base k) → (IsAsMade old.base → OnOk r (IsAsMade new.base)) → OnOk r (GrowsTightly old.base new.base)
+      → OnOk r (TakesNoSlot old.base new.base)
       → ((entry_at (entries_of old.base) k).obj_type ≢ Stream → OnOk r (root_len_of new.base ≡ root_len_of old.base))
       → OnOk r ((first : List ℕ) (rest : List (List ℕ)) (o : Outline) → IsOutline (cases_of old.base) (entries_of old.base) o
       → number_from (cases_of old.base) (entries_of old.base) 0 o (parent_names (first ∷ rest)) ≡ Some parent
@@ -208,8 +213,8 @@ module _ (old : FileState) (wanted : Wanted) (path : List ℕ) (names : List (Li
       → BecomesTree (cases_of old.base) (bytes_of old.base) (bytes_of new.base) (removed_at (cases_of old.base) (first ∷ rest)))
       → OnErr r (StaysOrFails old new) → ((entry_at (entries_of old.base) k).obj_type ≢ Stream → IfErr r (AfterMedium (Unit {0}) (new ≡ old))) → IfErr r (IsBreak ⊥)
       → CountsFailure can_give r (failures_of old) (failures_of new) → CallAnswers can_give old call r new
-  removed_answers can_give (Ok x) parent name at ended balanced made grows root_len becomes stays first why counts = removed_done parent name at ended balanced made grows root_len counts becomes
-  removed_answers can_give (Err e) parent name at ended balanced made grows root_len becomes stays first why counts = removed_not can_give e stays first why counts
+  removed_answers can_give (Ok x) parent name at ended balanced made grows slots root_len becomes stays first why counts = removed_done parent name at ended balanced made grows slots root_len counts becomes
+  removed_answers can_give (Err e) parent name at ended balanced made grows slots root_len becomes stays first why counts = removed_not can_give e stays first why counts
 
 -- ---- all that is at a path
 
@@ -234,9 +239,9 @@ module _ (old : FileState) (path : List ℕ) (names : List (List ℕ)) (k : ℕ)
     allowed_all : RuleSays old (wanted_refusal AnyObject) names None
     allowed_all = wanted_allowed old held names k there.leads there.reached AnyObject there.suits
 
-    pub all_removed : is_failed new ≡ false → AllStayBalancedBut old.base new.base k → (IsAsMade old.base → IsAsMade new.base) → GrowsTightly old.base new.base → failures_of new ≡ failures_of old
+    pub all_removed : is_failed new ≡ false → AllStayBalancedBut old.base new.base k → (IsAsMade old.base → IsAsMade new.base) → GrowsTightly old.base new.base → TakesNoSlot old.base new.base → failures_of new ≡ failures_of old
         → BecomesTree (cases_of old.base) (bytes_of old.base) (bytes_of new.base) (removed_at (cases_of old.base) names) → IsDoneBy old call_all done new
-    all_removed ended balanced made grows same_count becomes =
+    all_removed ended balanced made grows slots same_count becomes =
         let was = tree_was (wanted_refusal AnyObject) path call_all (all_asks path) old new there.unfailed there.sound held setting ended names there.named allowed_all in
         let means = means_was (wanted_refusal AnyObject) path call_all (all_asks path) old new there.unfailed there.sound held setting ended names there.named allowed_all in record {
           runs = runs_done (wanted_refusal AnyObject) path call_all (all_asks path) old new there.unfailed there.sound held setting ended names there.named allowed_all refl (inl refl)
@@ -246,6 +251,7 @@ module _ (old : FileState) (path : List ℕ) (names : List (List ℕ)) (k : ℕ)
           spares = spared_beside;
           quiet = λ tree means_so none. absurd (removal_does (cases_of old.base) tree AnyObject path none);
           room = λ tree means_so creates. absurd (never_creates (cases_of old.base) tree AnyObject path creates);
+          slots = takes_no_slot old new call_all (λ tree creates. never_creates (cases_of old.base) tree AnyObject path creates) slots;
           calm = same_count;
         }
 
@@ -266,12 +272,13 @@ module _ (old : FileState) (path : List ℕ) (names : List (List ℕ)) (k : ℕ)
     pub all_removed_answers : {T : Type 0} (can_give : MediumFault → Bool) (r : Result T Error) (parent : Option (ℕ × Bor (List ℕ)))
         → IfSome parent (λ p. StandsIn old names k p.0 (chars p.1.now)) → IfNone parent (names ≡ [])
         → OnOk r (is_failed new ≡ false) → OnOk r (AllStayBalancedBut old.base new.base k) → (IsAsMade old.base → OnOk r (IsAsMade new.base)) → OnOk r (GrowsTightly old.base new.base)
+        → OnOk r (TakesNoSlot old.base new.base)
         → OnOk r (IfSome parent (λ p. (ns : List (List ℕ)) (o : Outline) → IsOutline (cases_of old.base) (entries_of old.base) o → StandsAs old.base o p.0 k (chars p.1.now) ns
         → BecomesTree (cases_of old.base) (bytes_of old.base) (bytes_of new.base) (removed_at (cases_of old.base) ns)))
         → OnOk r (IfNone parent (BecomesTree (cases_of old.base) (bytes_of old.base) (bytes_of new.base) (removed_at (cases_of old.base) [])))
         → OnErr r (StaysOrFails old new) → IfErr r (IsBreak ⊥) → CountsFailure can_give r (failures_of old) (failures_of new) → CallAnswers can_give old call_all r new
-    all_removed_answers can_give (Ok x) parent some none ended balanced made grows tree root stays why counts = all_removed ended balanced made grows counts (becomes_without parent some none tree root)
-    all_removed_answers can_give (Err e) parent some none ended balanced made grows tree root stays why counts =
+    all_removed_answers can_give (Ok x) parent some none ended balanced made grows slots tree root stays why counts = all_removed ended balanced made grows slots counts (becomes_without parent some none tree root)
+    all_removed_answers can_give (Err e) parent some none ended balanced made grows slots tree root stays why counts =
         refused_by_break can_give call_all (all_asks path).changes old new there.unfailed setting there.sound stays spared_beside header
         (λ tree means none. absurd (removal_does (cases_of old.base) tree AnyObject path none))
         (rules_allow (wanted_refusal AnyObject) path call_all (all_asks path) can_give old there.unfailed held names there.named allowed_all there.sound)

@@ -59,6 +59,7 @@ use Rattle.cfb_path_changes.proofs.Creation.{object_is, storage_is}
 use Rattle.cfb_path_changes.proofs.Doing.{means_was, runs_done, tree_was}
 use Rattle.cfb_path_changes.proofs.Refusing.{RuleSays, never_for_memory, refused_by_break, rules_allow, stays_in_order}
 use Rattle.cfb_path_changes.proofs.Sparing.{none_changed, spares_all}
+use Rattle.cfb_path_changes.proofs.TakenSlots.{takes_no_slot}
 use Rattle.cfb_path_changes.proofs.Wanting.{inner_kind, root_at_none, split, wanted_allowed}
 use Rattle.cfb_volume.proofs.Settings.{setting-same}
 use Rattle.cfb_volume.proofs.Steps.{counts-of-write}
@@ -301,6 +302,10 @@ module _ (old : FileState) (field : NewField) (path : List ℕ) (names : List (L
         balanced = λ _. field_balanced old new k field inside same setting held.outline held.reads.outline;
         spares = none_changed old new call keeps;
         room = λ tree means creates. absurd (never_creates tree creates);
+        slots = takes_no_slot old new call never_creates (record {
+          slots = ap (λ (es : List Entry). length es) same ∙ changed_length (entries_of old.base) k (with_new_field (fields_in entry_there) field);
+          fat = ap (λ (t : _). length t.fat) tables;
+        });
         quiet = λ tree means_so none. absurd (sets_something takes tree means_so none);
         calm = same_count;
       }
@@ -345,6 +350,7 @@ module _ (old : FileState) (field : NewField) (path : List ℕ) (names : List (L
         balanced = λ _ all. all;
         spares = spares_all old call;
         room = λ tree means creates. absurd (never_creates tree creates);
+        slots = takes_no_slot old old call never_creates (record { slots = refl; fat = refl });
         quiet = λ tree means_so none. refl;
         calm = refl;
       }

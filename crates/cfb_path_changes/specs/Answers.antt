@@ -1,5 +1,5 @@
 -- What calls on a file answer, by the rules of calls.
-use Rattle.std.specs.Prelude.{ℕ, ◌≡◌, ◌<◌, ◌+◌, ◌⊎◌, List, [], Bool, true, false, Some, None, length, take}
+use Rattle.std.specs.Prelude.{ℕ, ◌≡◌, ◌≢◌, ◌<◌, ◌+◌, ◌⊎◌, List, [], Bool, true, false, Some, None, length, take}
 use Rattle.cfb_format.specs.declared.error.Error.{Error}
 use Rattle.cfb_format.specs.declared.medium.MediumFault.{MediumFault}
 use Rattle.cfb_format.specs.Bytes.{max_stream_len}
@@ -22,6 +22,7 @@ use Rattle.cfb_path_changes.specs.cfb_trees.Balance.{AreAllBalanced}
 use Rattle.cfb_path_changes.specs.cfb_agreement.Changes.{StaysOrFails}
 use Rattle.cfb_path_changes.specs.cfb_agreement.Files.{FileState, IsAsMade, IsFullFile, GrowsTightly, SameSetting, failures_of, is_failed}
 use Rattle.cfb_path_changes.specs.cfb_agreement.Laws.{with_flags}
+use Rattle.cfb_volume.specs.Slots.{TakesNoSlot, TakesSlot}
 use Rattle.cfb_path_changes.specs.Finding.{LeadTo}
 use Rattle.cfb_path_changes.specs.Sparing.{SparesStreams}
 
@@ -80,6 +81,17 @@ pub record StaysInOrder (old new : FileState) : Type 0 where
 abbrev pub HasRoomFor : FileState → Call → Type 0
 HasRoomFor file call = (tree : Tree) → MeansTree file tree → kind_on (cases_of file.base) tree call ≡ creating → IsFullForEntry file.base.directory → ⊥
 
+-- whether the call may make several objects
+abbrev pub may_make_several : Call → Bool
+may_make_several (create_storage_all path moment) = true
+may_make_several call = false
+
+-- a call that makes no object takes no slot of the directory and makes the FAT no longer; one that makes one object takes one slot
+pub record TakesSlots (old : FileState) (call : Call) (new : FileState) : Type 0 where
+  pub none : (tree : Tree) → MeansTree old tree → kind_on (cases_of old.base) tree call ≢ creating → TakesNoSlot old.base new.base
+  pub one : (tree : Tree) → MeansTree old tree → kind_on (cases_of old.base) tree call ≡ creating → may_make_several call ≡ false
+      → TakesSlot old.base new.base
+
 -- in this tree the call has nothing to do: each storage on the way is there, a stream has no moments, or the root is not touched
 abbrev pub HasNothingToDo : Cases → Tree → Call → Type 0
 HasNothingToDo cases tree (create_storage_all path moment) = is_there cases tree path ≡ true
@@ -111,6 +123,7 @@ pub record IsDoneBy (old : FileState) (call : Call) (reply : Reply) (new : FileS
   pub balanced : KeepsFileBalanced old new
   pub spares : SparesStreams old call new
   pub room : HasRoomFor old call
+  pub slots : TakesSlots old call new
   pub quiet : IsQuiet old call new
   pub calm : failures_of new ≡ failures_of old
 

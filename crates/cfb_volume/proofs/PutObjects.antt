@@ -1,9 +1,10 @@
 -- What else a new object in the directory leaves.
-use Rattle.std.proofs.Common.{◌≡◌, ◌≤◌, inr, ℕ, List, refl, sym, ap, subst, length, arith}
-use Rattle.std.specs.Prelude.{Some}
+use Rattle.std.proofs.Common.{◌≡◌, ◌≤◌, ◌+◌, inr, ℕ, List, Bool, refl, sym, ◌∙◌, ap, subst, length, replicate, arith}
+use Rattle.std.specs.Prelude.{Some, if◌then◌else◌}
+use Rattle.std.proofs.lemmas.List.{length-append, length-replicate}
 use Rattle.cfb_format.specs.declared.objtype.ObjType.{ObjType}
-use Rattle.cfb_format.specs.Bytes.{no_stream}
-use Rattle.cfb_format.specs.DirectoryEntry.{Entry}
+use Rattle.cfb_format.specs.Bytes.{entries_per_sector, no_stream}
+use Rattle.cfb_format.specs.DirectoryEntry.{Entry, unallocated_entry}
 use Rattle.cfb_format.specs.Reading.{IsOutline}
 use Rattle.cfb_format.specs.Siblings.{entry_at}
 use Rattle.cfb_codecs.specs.EntryModel.{new_entry}
@@ -12,13 +13,16 @@ use Rattle.cfb_volume.specs.cfb_tables.Tables.{TableState}
 use Rattle.cfb_volume.specs.cfb_entries.EntryList.{has_free}
 use Rattle.cfb_volume.proofs.cfb_trees.PathReached.{reached-is-found}
 use Rattle.cfb_volume.proofs.cfb_directory.NamesFound.{inserted-is-found}
-use Rattle.cfb_volume.specs.cfb_mini_sectors.State.{MiniState, cases_of, entries_of, tables_in}
+use Rattle.cfb_volume.specs.cfb_siblings.Laws.{grown_by}
+use Rattle.cfb_volume.specs.cfb_mini_sectors.State.{MiniState, cases_of, entries_of, tables_in, version_of}
 use Rattle.cfb_volume.specs.cfb_siblings.Paths.{number_from}
 use Rattle.cfb_entry_changes.specs.Putting.{PutsObject}
 use Rattle.cfb_entry_changes.proofs.Entries.{either, kept-links, reached, streams}
 use Rattle.cfb_entry_changes.specs.Kept.{KeepsFound}
 use Rattle.cfb_entry_changes.specs.Standing.{StandStill}
 use Rattle.cfb_entry_changes.proofs.Taken.{same-content}
+use Rattle.cfb_volume.specs.Slots.{TakesSlot}
+use Rattle.cfb_volume.proofs.InsertedObjects.{ended}
 use Rattle.cfb_volume.proofs.cfb_resizing.Tightness.{taken-stays-full}
 
 module _ (old new : MiniState) (parent n : ℕ) (name : List ℕ) (kind : ObjType) (moment : ℕ) (put : PutsObject old new parent n name kind moment) where
@@ -34,6 +38,20 @@ module _ (old new : MiniState) (parent n : ℕ) (name : List ℕ) (kind : ObjTyp
   put-stays-full full = either (has_free (entries_of old))
       (λ free. subst (λ (t : TableState). NoneFree t.fat) (sym (put.kept free).1) full)
       (λ none. taken-stays-full (tables_in old) (tables_in new) _ _ (put.lengthened none).taken full)
+
+  -- a slot that was free, or one of a sector that came behind the directory
+  pub put-takes-slot : TakesSlot old (ended new)
+  put-takes-slot =
+      let per = entries_per_sector (version_of old) in
+      let longer : length (entries_of new) ≡ length (if has_free (entries_of old) then entries_of old else grown_by (entries_of old) per) = put.entry.inserted.longer in
+      record {
+        free = λ free. record {
+          slots = longer ∙ ap (λ (b : Bool). length (if b then entries_of old else grown_by (entries_of old) per)) free;
+          fat = ap (λ (t : TableState). length t.fat) (put.kept free).1;
+        };
+        full = λ none. longer ∙ ap (λ (b : Bool). length (if b then entries_of old else grown_by (entries_of old) per)) none
+            ∙ length-append (entries_of old) (replicate per unallocated_entry) ∙ ap (λ (n : ℕ). length (entries_of old) + n) (length-replicate per unallocated_entry);
+      }
 
   -- each stream stands where it stood
   pub put-stands-still : StandStill old new

@@ -121,6 +121,7 @@ pub record RemovesWithAll (tells : Bool) (parent top : ℕ) (name : List ℕ) (s
   pub balanced : IsTrue tells → AllStayBalancedBut start.base now.base top
   pub holds : IsTrue tells → Holds start → Holds now
   pub made : IsTrue tells → Holds start → IsAsMade start.base → IsAsMade now.base
+  pub longer : length (entries_of now.base) ≡ length (entries_of start.base)
   pub same_length : length (tables_in now.base).fat ≡ length (tables_in start.base).fat
   pub header : IsTrue tells → Holds start → KeepsFixedHeader start.base now.base
   pub tree : IsTrue tells → Holds start → (names : List (List ℕ)) (o : Outline) → IsOutline (cases_of start.base) (entries_of start.base) o

@@ -14,6 +14,7 @@ pub use Rattle.cfb_growing.specs.cfb_resizing
 pub use Rattle.cfb_agreement.specs as cfb_agreement
 pub use Rattle.cfb_sequences.specs as cfb_sequences
 pub use Rattle.cfb_entry_changes.specs as cfb_entry_changes
+pub mod Slots
 pub mod Clearing
 pub mod Answers
 pub mod Removing

@@ -19,6 +19,7 @@ ghost use Rattle.cfb_agreement.specs.Laws.{with_flags};
 ghost use Rattle.cfb_entry_changes.specs.Clearing.{ClearsStorage};
 ghost use Rattle.cfb_entry_changes.specs.Kept.{AllStayBalancedBut};
 ghost use Rattle.cfb_volume.specs.Clearing.{ClearingBreaksOff, EmptiesStorage, EmptiesStreams, KeepsStreamsBut, KeepsStreamsBeside, RemovesWithAll, StandsAs, emptied_at};
+ghost use Rattle.cfb_volume.specs.Slots.{TakesNoSlot};
 
 use crate::volume::Volume;
 use cfb_format::consts::NO_STREAM;
@@ -265,6 +266,7 @@ impl<F: Medium, A: Heap + Clone> Volume<F, A> {
             → Holds self.old → IsAsMade self.old.base → OnOk result (IsAsMade self.new.base) }
         ensures takes_none { OnOk result (length (tables_in self.new.base).fat
             ≡ length (tables_in self.old.base).fat) }
+        ensures slots { OnOk result (TakesNoSlot self.old.base self.new.base) }
         ensures grows { OnOk result (GrowsTightly self.old.base self.new.base) }
         ensures ended { OnOk result (is_failed self.new ≡ false) }
         ensures setting { SameSetting self.old self.new }

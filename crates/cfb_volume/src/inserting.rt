@@ -21,6 +21,7 @@ ghost use Rattle.cfb_entry_changes.specs.Kept.{AllStayBalanced, KeepsFound};
 ghost use Rattle.cfb_entry_changes.specs.Standing.{StandStill};
 ghost use Rattle.cfb_agreement.specs.Changes.{KeepsStreams, StaysOrFails, object_added_at};
 ghost use Rattle.cfb_agreement.specs.Files.{Agrees, Holds, IsAsMade, IsFullFile, GrowsTightly, SameSetting, failures_of, is_failed};
+ghost use Rattle.cfb_volume.specs.Slots.{TakesSlot};
 
 use crate::volume::Volume;
 use cfb_codecs::timestamp::Timestamp;
@@ -86,6 +87,7 @@ impl<F: Medium, A: Heap + Clone> Volume<F, A> {
             ≤ length (tables_in self.new.base).fat) }
         ensures stays_full { NoneFree (tables_in self.old.base).fat
             → OnOk result (NoneFree (tables_in self.new.base).fat) }
+        ensures slots { OnOk result (TakesSlot self.old.base self.new.base) }
         ensures balanced { OnOk result (AllStayBalanced self.old.base self.new.base) }
         ensures root_len { OnOk result (len_of self.new.base 0 ≡ len_of self.old.base 0) }
         ensures agrees { IsTrue F.tells → Holds self.old → Agrees self.new }

@@ -20,6 +20,7 @@ ghost use Rattle.cfb_entry_changes.specs.Kept.{AllStayBalancedBut, FindsAllBut};
 ghost use Rattle.cfb_agreement.specs.Changes.{StaysOrFails};
 ghost use Rattle.cfb_agreement.specs.Files.{Agrees, Holds, IsAsMade, GrowsTightly, SameSetting, failures_of, is_failed};
 ghost use Rattle.cfb_volume.specs.Removing.{WasEmptied};
+ghost use Rattle.cfb_volume.specs.Slots.{TakesNoSlot};
 
 use crate::volume::Volume;
 use cfb_format::error::Error;
@@ -103,6 +104,7 @@ impl<F: Medium, A: Heap + Clone> Volume<F, A> {
         ensures grows { OnOk result (GrowsTightly self.old.base self.new.base) }
         ensures takes_none { length (tables_in self.new.base).fat ≡ length
             (tables_in self.old.base).fat }
+        ensures slots { OnOk result (TakesNoSlot self.old.base self.new.base) }
         ensures root_len { IsTrue F.tells
             → (entry_at (entries_of self.old.base) child).obj_type ≢ Stream
             → OnOk result (len_of self.new.base 0 ≡ len_of self.old.base 0) }

@@ -23,7 +23,7 @@ returns-in-Some-clause-does g c =
     λ told.
     let held = c.requires.agrees told there.unfailed in
     removed_answers c.args.volume.now c.args.wanted (chars c.args.path.now) _ c.in_ok-names.number c.requires.one there held c.remove.new.self w.setting (w.others told held) (w.header told)
-    _ c.remove.result c.in-Some.storage (chars c.in-Some.name.now) at w.ended (w.balanced told) (λ made. w.made told held made) w.grows (w.root_len told) (w.tree told held) (w.refused told held) w.first (w.err told held) (w.counts told)
+    _ c.remove.result c.in-Some.storage (chars c.in-Some.name.now) at w.ended (w.balanced told) (λ made. w.made told held made) w.grows w.slots (w.root_len told) (w.tree told held) (w.refused told held) w.first (w.err told held) (w.counts told)
 
 pub returns-clause-does : goal.returns-clause-does
 returns-clause-does g c =

@@ -25,7 +25,8 @@ use Rattle.cfb_format.specs.Refused.{IsBreak}
 use Rattle.cfb_entry_changes.specs.Kept.{AllStayBalanced, KeepsFound}
 use Rattle.cfb_entry_changes.specs.Standing.{StandStill}
 use Rattle.cfb_volume.proofs.Tidy.{put-counted}
-use Rattle.cfb_volume.proofs.PutObjects.{put-is-childless, put-keeps-found, put-no-shorter, put-stands-still, put-stays-full}
+use Rattle.cfb_volume.specs.Slots.{TakesSlot}
+use Rattle.cfb_volume.proofs.PutObjects.{put-is-childless, put-keeps-found, put-no-shorter, put-stands-still, put-stays-full, put-takes-slot}
 use Rattle.cfb_volume.proofs.InsertedObjects.{ended, header-ended, insert-holds, insert-keeps-streams, insert-made, insert-tree, puts-object, refused-agrees, refused-full, refused-reason, same-file, streams-ended}
 use Rattle.cfb_volume.proofs.volume.Volume.insert.Goals as goal
 
@@ -224,3 +225,12 @@ returns-clause-stays_full g c none =
     (ap (λ (f : FileState). f.base) c.self.view_is) c.requires.parent c.requires.kind w.inserted w.balanced w.kept w.lengthened w.mini w.limits in
     subst (λ (s : MiniState). NoneFree (tables_in s).fat) (sym c.end_change.ensures)
     (put-stays-full c.args.self.now.base mid c.args.parent c.in_ok-number.number (chars c.args.name.now) c.args.kind c.args.moment put none)
+
+pub returns-clause-slots : goal.returns-clause-slots
+returns-clause-slots g c =
+    let w = c.in_ok-number.ensures in
+    let mid = c.insert_dir_entry.new.self in
+    let put = puts-object c.self.inside.mini c.args.self.now.base mid c.args.parent c.in_ok-number.number (chars c.args.name.now) c.args.kind c.args.moment
+    (ap (λ (f : FileState). f.base) c.self.view_is) c.requires.parent c.requires.kind w.inserted w.balanced w.kept w.lengthened w.mini w.limits in
+    subst (λ (s : MiniState). TakesSlot c.args.self.now.base s) (sym c.end_change.ensures)
+    (put-takes-slot c.args.self.now.base mid c.args.parent c.in_ok-number.number (chars c.args.name.now) c.args.kind c.args.moment put)

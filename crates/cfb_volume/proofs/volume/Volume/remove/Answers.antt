@@ -1,4 +1,4 @@
-use Rattle.std.proofs.Common.{◌≡◌, ◌≢◌, ◌⊎◌, ◌∷◌, ℕ, List, Bool, false, true, refl, sym, ap, subst, chars}
+use Rattle.std.proofs.Common.{◌≡◌, ◌≢◌, ◌⊎◌, ◌∷◌, ℕ, List, Bool, false, true, refl, sym, ◌∙◌, ap, subst, chars, length}
 use Rattle.std.specs.Prelude.{IsTrue}
 use Rattle.std.proofs.lemmas.Result.{err_from_is_err_and}
 use Rattle.cfb_format.specs.declared.objtype.ObjType.TheVariants.{Stream}
@@ -9,16 +9,19 @@ use Rattle.cfb_format.specs.Siblings.{entry_at}
 use Rattle.cfb_outline.specs.Outlines.{IsReachedStorage}
 use Rattle.cfb_volume.specs.cfb_rules.CallChanges.{removed_at}
 use Rattle.cfb_volume.specs.cfb_siblings.Children.{HasChildren, IsChildNamed}
+use Rattle.cfb_volume.specs.cfb_tables.Tables.{TableState}
 use Rattle.cfb_volume.specs.cfb_directory.Steps.{IsDirectoryNotHeld}
 use Rattle.cfb_volume.specs.cfb_objects.Laws.{BecomesTree}
-use Rattle.cfb_volume.specs.cfb_mini_sectors.State.{IsChangeable, MiniState, bytes_of, cases_of, entries_of, table_of}
+use Rattle.cfb_volume.specs.cfb_mini_sectors.State.{IsChangeable, MiniState, bytes_of, cases_of, entries_of, table_of, tables_in}
 use Rattle.cfb_volume.specs.cfb_mini.MiniSectors.{IsStill}
+use Rattle.cfb_volume.specs.cfb_content.Changed.{MovesAlone}
 use Rattle.cfb_volume.specs.cfb_content.Contents.{KeepsFixedHeader, KeepsOthers, len_of}
 use Rattle.cfb_volume.proofs.cfb_content.FixedHeader.{header-then, spared-keeps-header}
 use Rattle.cfb_entry_changes.specs.Kept.{AllStayBalancedBut, FindsAllBut}
 use Rattle.cfb_agreement.specs.Changes.{StaysOrFails}
 use Rattle.cfb_agreement.specs.Files.{Agrees, FileState, Holds, IsAsMade}
 use Rattle.cfb_volume.specs.Removing.{WasEmptied}
+use Rattle.cfb_volume.specs.Slots.{TakesNoSlot}
 use Rattle.cfb_volume.proofs.ContentSteps.{file_on}
 use Rattle.cfb_volume.proofs.InsertedObjects.{ended, header-ended, same-file}
 use Rattle.cfb_volume.proofs.Refusals.{after-any, after-none, file-after}
@@ -209,6 +212,17 @@ returns-clause-made g c told holds made =
     let storage : IsReachedStorage (cases_of c.args.self.now.base) (entries_of c.args.self.now.base) c.args.parent = c.requires.parent in
     subst (λ (m : MiniState). IsAsMade m) (sym c.end_change.ensures)
     (remove-made (removed g (goal.at.returns-clause-made g c).In_ok-remove_dir_entry told) storage.outline storage.is made)
+
+pub returns-clause-slots : goal.returns-clause-slots
+returns-clause-slots g c =
+    let old = c.args.self.now in
+    let w = c.in_ok-remove_dir_entry.ensures in
+    let e = ap (λ (f : FileState). f.base) c.self.view_is in
+    let moves = subst (λ (m : MiniState). MovesAlone m c.empty_object.new.mini c.args.child) e c.empty_object.ensures.moves in
+    subst (λ (m : MiniState). TakesNoSlot old.base m) (sym c.end_change.ensures) (record {
+      slots = w.removed.removed.longer ∙ moves.entries.same_length;
+      fat = ap (λ (t : TableState). length t.fat) w.kept.1 ∙ c.empty_object.ensures.takes_none ∙ ap (λ (m : MiniState). length (tables_in m).fat) e;
+    })
 
 pub returns-clause-root_len : goal.returns-clause-root_len
 returns-clause-root_len g c told kind =

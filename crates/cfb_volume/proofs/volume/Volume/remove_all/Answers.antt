@@ -24,6 +24,9 @@ returns-in-Some-clause-root_tree g c told holds = on-ok c.remove_with_all.result
 pub returns-in-Some-clause-takes_none : goal.returns-in-Some-clause-takes_none
 returns-in-Some-clause-takes_none g c = on-ok c.remove_with_all.result (λ w. w.same_length) c.remove_with_all.ensures.removed
 
+pub returns-in-Some-clause-slots : goal.returns-in-Some-clause-slots
+returns-in-Some-clause-slots g c = on-ok c.remove_with_all.result (λ w. record { slots = w.longer; fat = w.same_length }) c.remove_with_all.ensures.removed
+
 pub returns-in-Some-clause-ended : goal.returns-in-Some-clause-ended
 returns-in-Some-clause-ended g c = on-ok c.remove_with_all.result (λ w. w.unfailed) c.remove_with_all.ensures.removed
 
@@ -70,6 +73,9 @@ returns-in-None-clause-balanced g c told = on-ok c.empty_storage.result (λ w. b
 
 pub returns-in-None-clause-made : goal.returns-in-None-clause-made
 returns-in-None-clause-made g c told holds made = on-ok c.empty_storage.result (λ w. w.made told holds made) c.empty_storage.ensures.emptied
+
+pub returns-in-None-clause-slots : goal.returns-in-None-clause-slots
+returns-in-None-clause-slots g c = on-ok c.empty_storage.result (λ w. record { slots = w.longer; fat = w.same_length }) c.empty_storage.ensures.emptied
 
 pub returns-in-None-clause-grows : goal.returns-in-None-clause-grows
 returns-in-None-clause-grows g c = on-ok c.empty_storage.result (λ w. same-grows c.args.self.now.base c.empty_storage.new.self.base w.same_length) c.empty_storage.ensures.emptied

@@ -115,6 +115,7 @@ returns-clause-removed g c =
       balanced = λ told. balanced-then-but start.base mid.base step.base c.args.top (λ o o_is. let left = i.reached o o_is in (left.0, left.1)) i.balanced (step-ok c.remove-removed.result _ is (w.balanced told));
       holds = λ told holds. w.agrees told (i.holds told holds) calm;
       made = λ told holds made. step-ok c.remove-removed.result _ is (w.made told (i.holds told holds) (i.made told holds made));
+      longer = (step-ok c.remove-removed.result _ is w.slots).slots ∙ i.longer;
       same_length = w.takes_none ∙ i.same_length;
       header = λ told holds. header-then start.base mid.base step.base i.setting.limits.version (i.header told holds) (w.header told);
       tree = λ told holds. all-removed g.F.ReadMedium.tells c.args.top c.args.parent (chars c.args.name.now) start mid storage c.requires.parent c.requires.below c.requires.named i step.base told holds

@@ -51,6 +51,7 @@ returns-then-dir_entry-clause-removed g c =
       balanced = λ told. ok.balanced told;
       holds = λ told holds. w.agrees told holds ok.ended;
       made = λ told holds made. ok.made told holds made;
+      longer = ok.slots.slots;
       same_length = w.takes_none;
       header = λ told holds. w.header told;
       tree = λ told holds. stands-removed c.args.self.now.base c.remove.new.self.base c.args.parent c.args.top (chars c.args.name.now) c.requires.below (ok.tree told holds);
