@@ -13,6 +13,7 @@ use Rattle.cfb_compound_file.specs.cfb_mini_sectors.State.{bytes_of}
 use Rattle.cfb_compound_file.proofs.cfb_content.FixedHeader.{bytes-keep-header, header-stays}
 use Rattle.cfb_agreement.specs.Files.{FileState, SameSetting, failures_of, is_failed}
 use Rattle.cfb_agreement.specs.Laws.{with_flags}
+use Rattle.cfb_path_changes.proofs.Balanced.{same_each}
 use Rattle.cfb_path_changes.proofs.Runs.{runs_failed, runs_unfailed}
 use Rattle.cfb_path_changes.proofs.Sparing.{flags_spare, spares_all}
 use Rattle.cfb_path_changes.specs.Answers.{IsDoneBy, IsRefusedBy, RunsOn, StaysInOrder, causes_of_call, setting_of, state_with}
@@ -55,7 +56,16 @@ stays file = record {
 }
 
 pub flush-done : (file : FileState) → is_failed file ≡ false → IsDoneBy file flush done file
-flush-done file unfailed = record { runs = runs-done file unfailed; order = stays file; balanced = λ _ all. all; spares = spares_all file flush; quiet = λ tree means none. absurd none; room = λ tree means creates. absurd (let clash : flushing ≡ creating = creates in cc); calm = refl }
+flush-done file unfailed = record {
+  runs = runs-done file unfailed;
+  order = stays file;
+  balanced = λ _ all. all;
+  each = same_each file.base;
+  spares = spares_all file flush;
+  quiet = λ tree means none. absurd none;
+  room = λ tree means creates. absurd (let clash : flushing ≡ creating = creates in cc);
+  calm = refl;
+}
 
 pub flush-on-failed : (can : MediumFault → Bool) (file : FileState) → is_failed file ≡ true → IsRefusedBy can file flush file Failed
 flush-on-failed can file failed = record {

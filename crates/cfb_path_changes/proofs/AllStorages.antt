@@ -33,17 +33,19 @@ use Rattle.cfb_path_changes.specs.cfb_objects.Objects.{inside_of, object_of, tre
 use Rattle.cfb_path_changes.proofs.cfb_objects.Found.{storage-by-kind, stream-by-kind}
 use Rattle.cfb_path_changes.specs.cfb_mini_sectors.State.{bytes_of, cases_of, content_of, entries_of, root_len_of}
 use Rattle.cfb_path_changes.specs.cfb_content.Contents.{KeepsFixedHeader}
+use Rattle.cfb_path_changes.specs.cfb_entry_changes.Kept.{AllStayBalanced}
 use Rattle.cfb_path_changes.specs.cfb_agreement.Changes.{KeepsStreams, StaysOrFails}
 use Rattle.cfb_path_changes.proofs.cfb_agreement.HeldBytes.{held-means-its-tree}
 use Rattle.cfb_path_changes.specs.cfb_agreement.Files.{FileState, Holds, IsAsMade, GrowsTightly, SameSetting, failures_of, is_failed}
 use Rattle.cfb_path_changes.specs.cfb_sequences.Laws.{all_added_at}
 use Rattle.cfb_path_changes.proofs.cfb_sequences.Ways.{stream-is-in-the-way, way-is-free, way-is-there}
 use Rattle.cfb_path_changes.specs.AddedStorages.{IsFirstAbsent}
-use Rattle.cfb_path_changes.specs.Answers.{ForMemory, IsBalancedFile, IsDoneBy, IsRefusedBy, IsRefusedInTurn, MeansTree, StopsInTurn, causes_of_call}
+use Rattle.cfb_path_changes.specs.Answers.{ForMemory, IsDoneBy, IsRefusedBy, IsRefusedInTurn, MeansTree, StopsInTurn, causes_of_call}
 use Rattle.cfb_path_changes.specs.declared.placing.Creation.TheVariants.{NewStream}
 use Rattle.cfb_path_changes.specs.Finding.{LeadTo}
 use Rattle.cfb_path_changes.specs.Wanted.{AsksAt}
 use Rattle.cfb_path_changes.specs.Ways.{IsWayOf, LeadAsFarAs}
+use Rattle.cfb_path_changes.proofs.Balanced.{all_balanced}
 use Rattle.cfb_path_changes.proofs.CallKinds.{creating_lacks}
 use Rattle.cfb_path_changes.proofs.Creation.{object_is}
 use Rattle.cfb_path_changes.proofs.Doing.{runs_done}
@@ -240,12 +242,12 @@ module _ (old : FileState) (path : List ℕ) (moment : ℕ) (names : List (List 
       go false e = refl
       go true e = let c : changing ≡ creating = e in cc
 
-  pub all_done : is_failed new ≡ false → (IsAsMade old.base → IsAsMade new.base) → GrowsTightly old.base new.base → (IsBalancedFile old → IsBalancedFile new)
+  pub all_done : is_failed new ≡ false → (IsAsMade old.base → IsAsMade new.base) → GrowsTightly old.base new.base → AllStayBalanced old.base new.base
       → root_len_of new.base ≡ root_len_of old.base → (0 < length (drop passed names) → IsFullForEntry old.base.directory → ⊥) → (length (drop passed names) ≡ 0 → new ≡ old) → failures_of new ≡ failures_of old
       → ((before : List (List ℕ)) (o : Outline) → IsOutline (cases_of old.base) (entries_of old.base) o → number_from (cases_of old.base) (entries_of old.base) 0 o before ≡ Some k
       → BecomesTree (cases_of old.base) (bytes_of old.base) (bytes_of new.base) (all_added_at (cases_of old.base) moment (before ++ drop passed names)))
       → IsDoneBy old call done new
-  all_done ended made grows balanced root_len enough same same_count becomes =
+  all_done ended made grows each root_len enough same same_count becomes =
       record {
         runs = runs_done all_rule path call (all_asks path moment) old new way.unfailed way.sound held setting ended names way.named allowed refl (inr root_len)
             (subst (λ (x : Tree). Means (cases_of old.base) (bytes_of new.base) x)
@@ -253,7 +255,8 @@ module _ (old : FileState) (path : List ℕ) (moment : ℕ) (names : List (List 
             ∙ sym (ap (λ (found : Option (List (List ℕ))). option_map_or (λ ns. all_added_at (cases_of old.base) moment ns t) found t) way.named))
             (becomes (take passed names) held.outline held.reads.outline (way.leads.leads held.outline held.reads.outline) t means_was_so));
         order = record { setting = setting; header = header; made = λ _. made; grows = λ _. grows };
-        balanced = λ _. balanced;
+        balanced = λ _. all_balanced old new held.outline held.reads.outline each;
+        each = each;
         spares = none_changed old new call keeps;
         room = λ tree means creates. enough (all_there tree means (creating_missing tree creates));
         quiet = λ tree means there. same (no_name_left tree means there);

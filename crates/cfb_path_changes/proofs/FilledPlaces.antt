@@ -39,7 +39,6 @@ use Rattle.cfb_path_changes.proofs.NewObjects.{added_done, creation_asks, creati
 use Rattle.cfb_path_changes.proofs.Places.{missing_is_allowed, there_is_allowed}
 use Rattle.cfb_path_changes.proofs.Refusing.{after_memory, refused_by_break, rules_allow}
 use Rattle.cfb_path_changes.proofs.CallKinds.{creating_lacks, kind_missing}
-use Rattle.cfb_path_changes.proofs.Balanced.{added_balanced}
 use Rattle.cfb_path_changes.proofs.Sparing.{none_changed, one_spared_not}
 use Rattle.cfb_volume.proofs.Settings.{setting-same}
 use Rattle.cfb_volume.proofs.Steps.{counts-of-write}
@@ -140,7 +139,7 @@ module _ (what : Creation) (moment : ℕ) (old new : FileState) (place : Place) 
   missing_done kind is_kind held setting ended made balanced grows root_len keeps header enough same_count becomes path at =
       let m = missing_of path at in
       added_done old new what moment path at.unfailed at.sound held setting ended at.names at.named parent (chars name.now) m made
-      (added_balanced old new m.storage.outline m.storage.is balanced) grows root_len keeps header enough same_count
+      balanced grows root_len keeps header enough same_count
       (λ names o is above last. subst (λ (t : ObjType). BecomesSo t names) is_kind (becomes names o is above last))
 
   -- numbers lack for an entry

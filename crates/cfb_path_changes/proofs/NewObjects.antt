@@ -25,19 +25,20 @@ use Rattle.cfb_path_changes.specs.cfb_objects.Laws.{BecomesTree}
 use Rattle.cfb_path_changes.specs.cfb_mini_sectors.State.{bytes_of, cases_of, content_of, entries_of, root_len_of}
 use Rattle.cfb_path_changes.specs.cfb_content.Contents.{IsStreamOf, KeepsFixedHeader, MovesContent}
 use Rattle.cfb_path_changes.proofs.cfb_content.Outlines.{moved-at, moved-is-outline}
+use Rattle.cfb_path_changes.specs.cfb_entry_changes.Kept.{AllStayBalanced}
 use Rattle.cfb_path_changes.specs.cfb_agreement.Changes.{ChangesOneContent, KeepsStreams, object_added_at}
 use Rattle.cfb_path_changes.specs.cfb_agreement.Files.{FileState, Holds, IsAsMade, GrowsTightly, SameSetting, failures_of, is_failed}
 use Rattle.cfb_path_changes.proofs.cfb_agreement.ContentChanges.{content-becomes-tree}
 use Rattle.cfb_path_changes.proofs.cfb_agreement.HeldBytes.{held-means-its-tree}
 use Rattle.cfb_volume.specs.Answers.{content_at}
 use Rattle.cfb_path_changes.specs.Adding.{IsMissing, CanBeEmptied, RulesSay, creation, kind_made, may_be_there}
-use Rattle.cfb_path_changes.specs.Answers.{ForMemory, HasNothingToDo, IsBalancedFile, IsDoneBy, MeansTree, RunsOn, causes_of_call}
+use Rattle.cfb_path_changes.specs.Answers.{ForMemory, HasNothingToDo, IsDoneBy, KeepsEachBalanced, MeansTree, RunsOn, causes_of_call}
 use Rattle.cfb_path_changes.specs.declared.placing.Creation.{Creation}
 use Rattle.cfb_path_changes.specs.declared.placing.Creation.TheVariants.{EmptyStream, NewStorage, NewStream}
 use Rattle.cfb_path_changes.specs.Finding.{LeadTo, StandsAt}
 use Rattle.cfb_path_changes.specs.Sparing.{MayLose}
 use Rattle.cfb_path_changes.specs.Wanted.{AsksAt}
-use Rattle.cfb_path_changes.proofs.Balanced.{moved_balanced}
+use Rattle.cfb_path_changes.proofs.Balanced.{all_balanced, moved_each}
 use Rattle.cfb_path_changes.proofs.Sparing.{none_changed, one_spared_not}
 use Rattle.cfb_path_changes.proofs.Changing.{was_done}
 use Rattle.cfb_path_changes.proofs.Creation.{object_is}
@@ -72,6 +73,12 @@ pub creation_for_memory : (old new : FileState) (what : Creation) (moment : ℕ)
 creation_for_memory old new EmptyStream moment path same = same
 creation_for_memory old new NewStream moment path same = same
 creation_for_memory old new NewStorage moment path same = same
+
+-- it takes no object
+creation_keeps_each : (old new : FileState) (what : Creation) (moment : ℕ) (path : List ℕ) → AllStayBalanced old.base new.base → KeepsEachBalanced old (creation what moment path) new
+creation_keeps_each old new EmptyStream moment path each = each
+creation_keeps_each old new NewStream moment path each = each
+creation_keeps_each old new NewStorage moment path each = each
 
 -- ---- where it stands
 
@@ -171,7 +178,8 @@ module _ (old new : FileState) (what : Creation) (moment : ℕ) (path : List ℕ
         (content-becomes-tree old new k held.outline names held now setting sound changes.entries changes.others at.stream held.reads.outline (at.found held.outline held.reads.outline) tree_was means_was))
         (inl (emptied_kind k at tree_was (λ _. means_was)));
     order = record { setting = setting; header = changes.header; made = changes.made; grows = changes.grows };
-    balanced = λ _. moved_balanced old new k setting changes.entries at.stream;
+    balanced = λ _. all_balanced old new held.outline held.reads.outline (moved_each old new k setting changes.entries);
+    each = creation_keeps_each old new what moment path (moved_each old new k setting changes.entries);
     spares = one_spared_not old new (creation what moment path) k changes (there_may_be_lost old what moment path names k named at);
     room = λ tree means creates.
         absurd (let clash : emptying ≡ creating = sym (emptied_kind k at tree means) ∙ creates in cc);
@@ -181,19 +189,20 @@ module _ (old new : FileState) (what : Creation) (moment : ℕ) (path : List ℕ
 
   -- a new one was added
   pub added_done : (p : ℕ) (name : List ℕ) → IsMissing old names p name → (IsAsMade old.base → IsAsMade new.base)
-      → (IsBalancedFile old → IsBalancedFile new) → GrowsTightly old.base new.base → root_len_of new.base ≡ root_len_of old.base
+      → AllStayBalanced old.base new.base → GrowsTightly old.base new.base → root_len_of new.base ≡ root_len_of old.base
       → KeepsStreams old.base new.base → KeepsFixedHeader old.base new.base → (IsFullForEntry old.base.directory → ⊥) → failures_of new ≡ failures_of old
       → ((names : List (List ℕ)) (o : Outline) → IsOutline (cases_of old.base) (entries_of old.base) o
       → number_from (cases_of old.base) (entries_of old.base) 0 o (parent_names names) ≡ Some p → last_name names ≡ name
       → BecomesTree (cases_of old.base) (bytes_of old.base) (bytes_of new.base) (object_added_at (cases_of old.base) (kind_made what) moment names))
       → IsDoneBy old (creation what moment path) done new
-  added_done p name at made balanced grows root_len keeps header enough same_count becomes = record {
+  added_done p name at made each grows root_len keeps header enough same_count becomes = record {
     runs = runs_so (object_added_at (cases_of old.base) (kind_made what) moment names tree_was) (missing_is_allowed old what names p name at)
         (added_tree what moment (cases_of old.base) tree_was names (found_is None at.none))
         (becomes names held.outline held.reads.outline (at.above held.outline held.reads.outline) at.last tree_was means_was)
         (inr root_len);
     order = record { setting = setting; header = header; made = λ _. made; grows = λ _. grows };
-    balanced = λ _. balanced;
+    balanced = λ _. all_balanced old new held.outline held.reads.outline each;
+    each = creation_keeps_each old new what moment path each;
     spares = none_changed old new (creation what moment path) keeps;
     room = λ tree means creates. enough;
     quiet = λ tree means none. absurd (creation_does (cases_of old.base) tree what moment path none);

@@ -13,7 +13,7 @@ use Rattle.cfb_format.specs.Path.{names_of_path}
 use Rattle.cfb_format.specs.Reading.{IsOutline, Outline}
 use Rattle.cfb_format.specs.Siblings.{entry_at}
 use Rattle.cfb_format.specs.Tree.{Object, StorageInfo, StreamInfo, Tree}
-use Rattle.cfb_format.proofs.Unique.{IsOutline-unique, Means-unique}
+use Rattle.cfb_format.proofs.Unique.{Means-unique}
 use Rattle.cfb_path_changes.specs.cfb_rules.CallChanges.{fields_changed_at, same_stream, touched_at, tree_after}
 use Rattle.cfb_path_changes.specs.cfb_rules.CallRefusals.{is_a_stream}
 use Rattle.cfb_path_changes.specs.cfb_rules.CallReplies.{has_object, reply_of}
@@ -22,17 +22,15 @@ use Rattle.cfb_path_changes.specs.cfb_rules.Finding.{object_at}
 use Rattle.cfb_path_changes.specs.cfb_outline.Families.{is_stream_kind}
 use Rattle.cfb_path_changes.specs.cfb_siblings.Paths.{number_from}
 use Rattle.cfb_path_changes.specs.cfb_trees.Changes.{ButFields}
-use Rattle.cfb_path_changes.specs.cfb_trees.Reached.{IsReached}
 use Rattle.cfb_path_changes.specs.cfb_entries.declared.fields.Fields.{Fields}
 use Rattle.cfb_path_changes.specs.cfb_entries.Fields.{entries_with_fields, entry_with_fields, fields_in}
 use Rattle.cfb_path_changes.proofs.cfb_directory.ChangedFields.{changed_beside, changed_here, changed_length}
 use Rattle.cfb_path_changes.specs.cfb_objects.Objects.{tree_from}
 use Rattle.cfb_path_changes.proofs.cfb_objects.Fields.{fields-change-in-place}
 use Rattle.cfb_path_changes.specs.cfb_mini_sectors.State.{bytes_of, cases_of, entries_of, root_len_of, tables_in}
-use Rattle.cfb_path_changes.proofs.cfb_objects.Balance.{fields-keep-balance}
 use Rattle.cfb_path_changes.specs.cfb_agreement.Files.{FileState, Holds, SameSetting, is_failed}
+use Rattle.cfb_path_changes.specs.cfb_entry_changes.Kept.{AllStayBalanced}
 use Rattle.cfb_path_changes.specs.cfb_entry_changes.Marking.{GivesFields}
-use Rattle.cfb_path_changes.specs.Answers.{IsBalancedFile}
 use Rattle.cfb_path_changes.specs.declared.marking.NewField.{NewField}
 use Rattle.cfb_path_changes.specs.declared.marking.NewField.TheVariants.{ClassId, CreatedTime, ModifiedTime, StateBits, TouchedTime}
 use Rattle.cfb_path_changes.specs.Marking.{setting_call, takes_field, wanted_by, with_new_field}
@@ -52,9 +50,10 @@ use Rattle.cfb_path_changes.specs.cfb_content.Contents.{KeepsFixedHeader}
 use Rattle.cfb_path_changes.specs.cfb_agreement.Changes.{KeepsStreams, StaysOrFails}
 use Rattle.cfb_path_changes.specs.cfb_agreement.Files.{IsAsMade, failures_of}
 use Rattle.cfb_path_changes.proofs.cfb_agreement.HeldBytes.{held-means-its-tree}
-use Rattle.cfb_path_changes.specs.Answers.{ForMemory, HasNothingToDo, IsDoneBy, IsRefusedBy, MeansTree}
+use Rattle.cfb_path_changes.specs.Answers.{ForMemory, HasNothingToDo, IsDoneBy, IsRefusedBy, KeepsEachBalanced, MeansTree}
 use Rattle.cfb_path_changes.specs.Calls.{CallAnswers}
 use Rattle.cfb_path_changes.specs.Wanted.{IsThereFor, wanted_refusal}
+use Rattle.cfb_path_changes.proofs.Balanced.{all_balanced, fields_each, same_each}
 use Rattle.cfb_path_changes.proofs.Creation.{object_is, storage_is}
 use Rattle.cfb_path_changes.proofs.Doing.{means_was, runs_done, tree_was}
 use Rattle.cfb_path_changes.proofs.Refusing.{RuleSays, never_for_memory, refused_by_break, rules_allow, stays_in_order}
@@ -78,6 +77,14 @@ setting_is_done cases root_len tree (StateBits bits) path = refl
 setting_is_done cases root_len tree (CreatedTime moment) path = refl
 setting_is_done cases root_len tree (ModifiedTime moment) path = refl
 setting_is_done cases root_len tree (TouchedTime moment) path = refl
+
+-- a setting takes no object
+setting_keeps_each : (old new : FileState) (field : NewField) (path : List ℕ) → AllStayBalanced old.base new.base → KeepsEachBalanced old (setting_call field path) new
+setting_keeps_each old new (ClassId clsid) path each = each
+setting_keeps_each old new (StateBits bits) path each = each
+setting_keeps_each old new (CreatedTime moment) path each = each
+setting_keeps_each old new (ModifiedTime moment) path each = each
+setting_keeps_each old new (TouchedTime moment) path each = each
 
 -- ---- the fields
 
@@ -215,11 +222,9 @@ module _ (old new : FileState) (k : ℕ) (field : NewField) (inside : k < length
       (fields-keep-outline (cases_of old.base) (entries_of old.base) k (entry_with_fields (entry_at (entries_of old.base) k) fields_now) o is but_here
       (λ zero. ap (λ (n : ℕ). n % 64) (keeps_len (entry_at (entries_of old.base) k) field) ∙ ap (λ (i : ℕ). (entry_at (entries_of old.base) i).stream_len % 64) zero ∙ is.root_len)))
 
-  field_balanced : SameSetting old new → (o : Outline) → IsOutline (cases_of old.base) (entries_of old.base) o → IsBalancedFile old → IsBalancedFile new
-  field_balanced setting was is_was all o is =
-      let e : was ≡ o = IsOutline-unique (cases_of new.base) (entries_of new.base) was o (outline_stays setting was is_was) is in
-      λ j there kind. fields-keep-balance (entries_of old.base) (entries_of new.base) j (omega (arith, ap (λ (es : List Entry). length es) same, changed_length (entries_of old.base) k fields_now)) but_fields
-      (all was is_was j (subst (λ (p : Outline). IsReached p j) (sym e) there) (λ s. kind ((but_fields j).obj_type ∙ s)))
+  field_each : SameSetting old new → AllStayBalanced old.base new.base
+  field_each setting =
+      fields_each old.base new.base (omega (arith, ap (λ (es : List Entry). length es) same, changed_length (entries_of old.base) k fields_now)) but_fields (outline_stays setting)
 
 -- ---- done
 
@@ -298,7 +303,8 @@ module _ (old : FileState) (field : NewField) (path : List ℕ) (names : List (L
           made = λ _. made;
           grows = λ _ longer. absurd (omega (arith, longer, ap (λ (t : _). length t.fat) tables));
         };
-        balanced = λ _. field_balanced old new k field inside same setting held.outline held.reads.outline;
+        balanced = λ _. all_balanced old new held.outline held.reads.outline (field_each old new k field inside same setting);
+        each = setting_keeps_each old new field path (field_each old new k field inside same setting);
         spares = none_changed old new call keeps;
         room = λ tree means creates. absurd (never_creates tree creates);
         quiet = λ tree means_so none. absurd (sets_something takes tree means_so none);
@@ -343,6 +349,7 @@ module _ (old : FileState) (field : NewField) (path : List ℕ) (names : List (L
             (subst (λ (t : Tree). Means (cases_of old.base) (bytes_of old.base) t) (sym (same_tree lacks was refl)) means);
         order = stays_in_order old;
         balanced = λ _ all. all;
+        each = setting_keeps_each old old field path (same_each old.base);
         spares = spares_all old call;
         room = λ tree means creates. absurd (never_creates tree creates);
         quiet = λ tree means_so none. refl;
