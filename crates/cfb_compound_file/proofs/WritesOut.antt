@@ -13,6 +13,7 @@ use Rattle.cfb_compound_file.specs.cfb_mini_sectors.State.{bytes_of}
 use Rattle.cfb_compound_file.proofs.cfb_content.FixedHeader.{bytes-keep-header, header-stays}
 use Rattle.cfb_agreement.specs.Files.{FileState, SameSetting, failures_of, is_failed}
 use Rattle.cfb_agreement.specs.Laws.{with_flags}
+use Rattle.cfb_path_changes.proofs.Balanced.{same_each}
 use Rattle.cfb_path_changes.proofs.Runs.{runs_failed, runs_unfailed}
 use Rattle.cfb_path_changes.proofs.Sparing.{flags_spare, spares_all}
 use Rattle.cfb_path_changes.proofs.TakenSlots.{takes_no_slot}
@@ -60,6 +61,7 @@ flush-done file unfailed = record {
   runs = runs-done file unfailed;
   order = stays file;
   balanced = λ _ all. all;
+  each = same_each file.base;
   spares = spares_all file flush;
   quiet = λ tree means none. absurd none;
   room = λ tree means creates. absurd (let clash : flushing ≡ creating = creates in cc);

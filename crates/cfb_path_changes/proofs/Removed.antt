@@ -34,10 +34,11 @@ use Rattle.cfb_path_changes.specs.cfb_entry_changes.Kept.{AllStayBalancedBut}
 use Rattle.cfb_path_changes.specs.cfb_agreement.Changes.{StaysOrFails}
 use Rattle.cfb_path_changes.specs.cfb_agreement.Files.{FileState, Holds, IsAsMade, GrowsTightly, SameSetting, failures_of, is_failed}
 use Rattle.cfb_path_changes.proofs.Balanced.{taken_balanced}
-use Rattle.cfb_path_changes.specs.Answers.{ForMemory, HasNothingToDo, IsDoneBy, IsRefusedBy}
+use Rattle.cfb_path_changes.specs.Answers.{ForMemory, HasNothingToDo, IsDoneBy, IsRefusedBy, KeepsEachBalanced}
 use Rattle.cfb_path_changes.specs.Calls.{CallAnswers}
 use Rattle.cfb_path_changes.specs.declared.finding.Wanted.{Wanted}
 use Rattle.cfb_path_changes.specs.declared.finding.Wanted.TheVariants.{AnyObject, AnyStorage, AnyStream, EmptyStorage}
+use Rattle.cfb_path_changes.specs.Finding.{StandsAt}
 use Rattle.cfb_path_changes.specs.Removing.{StandsIn, is_of_one, removal}
 use Rattle.cfb_path_changes.specs.Sparing.{MayLose, SparesStreams}
 use Rattle.cfb_path_changes.specs.Wanted.{AsksFor, IsThereFor, is_wanted, wanted_refusal}
@@ -95,6 +96,22 @@ removal_does cases tree AnyObject path none = none
 removal_does cases tree AnyStorage path none = none
 removal_does cases tree AnyStream path none = none
 removal_does cases tree EmptyStorage path none = none
+
+-- ---- what is taken is what stands at the path
+
+taken_each : (old new : FileState) (wanted : Wanted) (path : List ℕ) (names : List (List ℕ)) (k : ℕ) → IsThereFor old wanted path names k
+    → (o : Outline) → IsOutline (cases_of old.base) (entries_of old.base) o → AllStayBalancedBut old.base new.base k → KeepsEachBalanced old (removal wanted path) new
+taken_each old new wanted path names k there o is balanced = by_wanted wanted
+  where
+    at_path : (n : ℕ) → StandsAt old n path → AllStayBalancedBut old.base new.base n
+    at_path n at = subst (λ (j : ℕ). AllStayBalancedBut old.base new.base j)
+        (same-some k n (sym (path_leads old path names k there.named there.leads o is) ∙ at o is)) balanced
+
+    by_wanted : (w : Wanted) → KeepsEachBalanced old (removal w path) new
+    by_wanted AnyObject = at_path
+    by_wanted AnyStorage = at_path
+    by_wanted AnyStream = at_path
+    by_wanted EmptyStorage = at_path
 
 -- ---- what is wanted has nothing in it
 
@@ -179,6 +196,7 @@ module _ (old : FileState) (wanted : Wanted) (path : List ℕ) (names : List (Li
             (ap last_name (sym at.some) ∙ at.last) was means));
         order = record { setting = setting; header = header; made = λ _. made; grows = λ _. grows };
         balanced = λ _. taken_balanced old new k o is balanced;
+        each = taken_each old new wanted path names k there o is balanced;
         spares = spared;
         quiet = λ tree means_so none. absurd (removal_does (cases_of old.base) tree wanted path none);
         room = λ tree means_so creates. absurd (never_creates (cases_of old.base) tree wanted path creates);
@@ -248,6 +266,7 @@ module _ (old : FileState) (path : List ℕ) (names : List (List ℕ)) (k : ℕ)
               (subst (λ (t : Tree). Means (cases_of old.base) (bytes_of new.base) t) (after_removal (cases_of old.base) was AnyObject path names there.named) (becomes was means));
           order = record { setting = setting; header = header; made = λ _. made; grows = λ _. grows };
           balanced = λ _. taken_balanced old new k held.outline held.reads.outline balanced;
+          each = taken_each old new AnyObject path names k there held.outline held.reads.outline balanced;
           spares = spared_beside;
           quiet = λ tree means_so none. absurd (removal_does (cases_of old.base) tree AnyObject path none);
           room = λ tree means_so creates. absurd (never_creates (cases_of old.base) tree AnyObject path creates);

@@ -11,7 +11,7 @@ use Rattle.cfb_format.specs.Refused.{CountsError, HasReason, at_every_error}
 use Rattle.cfb_format.specs.Tree.{Tree}
 use Rattle.cfb_path_changes.specs.cfb_rules.CallRefusals.{is_a_stream}
 use Rattle.cfb_path_changes.specs.cfb_rules.CallReplies.{has_object}
-use Rattle.cfb_path_changes.specs.cfb_rules.Calls.{Call, Reply, create_storage_all, done, refused, remove_storage_all, remove_stream, set_created_time, set_modified_time, touch}
+use Rattle.cfb_path_changes.specs.cfb_rules.Calls.{Call, Reply, create_storage_all, done, refused, remove_storage, remove_storage_all, remove_stream, set_created_time, set_modified_time, touch}
 use Rattle.cfb_path_changes.specs.cfb_rules.Refusal.{IsRefusal, Refusal}
 use Rattle.cfb_path_changes.specs.cfb_rules.Runs.{CallRuns, Causes, Setting, TreeState}
 use Rattle.cfb_path_changes.specs.cfb_rules.Steps.{creating, is_changing, is_there, kind_of, kind_on}
@@ -19,11 +19,12 @@ use Rattle.cfb_path_changes.specs.cfb_directory.State.{IsFullForEntry}
 use Rattle.cfb_path_changes.specs.cfb_mini_sectors.State.{bytes_of, cases_of, entries_of, root_len_of, version_of}
 use Rattle.cfb_path_changes.specs.cfb_content.Contents.{KeepsFixedHeader}
 use Rattle.cfb_path_changes.specs.cfb_trees.Balance.{AreAllBalanced}
+use Rattle.cfb_path_changes.specs.cfb_entry_changes.Kept.{AllStayBalanced, AllStayBalancedBut}
 use Rattle.cfb_path_changes.specs.cfb_agreement.Changes.{StaysOrFails}
 use Rattle.cfb_path_changes.specs.cfb_agreement.Files.{FileState, IsAsMade, IsFullFile, GrowsTightly, SameSetting, failures_of, is_failed}
 use Rattle.cfb_path_changes.specs.cfb_agreement.Laws.{with_flags}
 use Rattle.cfb_volume.specs.Slots.{TakesNoSlot, TakesSlot}
-use Rattle.cfb_path_changes.specs.Finding.{LeadTo}
+use Rattle.cfb_path_changes.specs.Finding.{LeadTo, StandsAt}
 use Rattle.cfb_path_changes.specs.Sparing.{SparesStreams}
 
 -- what stays the same of a file
@@ -68,6 +69,17 @@ IsBalancedFile file = AreAllBalanced (cases_of file.base) (entries_of file.base)
 -- unless the file failed its storages are in balance if they were
 abbrev pub KeepsFileBalanced : FileState → FileState → Type 0
 KeepsFileBalanced old new = is_failed new ≡ false → IsBalancedFile old → IsBalancedFile new
+
+-- what stands at this path was taken, and each other storage that was in balance is so still, also one that stands in the slot of what went
+abbrev pub KeepsOthersBalanced : FileState → List ℕ → FileState → Type 0
+KeepsOthersBalanced old path new = (n : ℕ) → StandsAt old n path → AllStayBalancedBut old.base new.base n
+
+-- each storage that was in balance is so still, whatever the others are, and so is each new one
+abbrev pub KeepsEachBalanced : FileState → Call → FileState → Type 0
+KeepsEachBalanced old (remove_storage path) new = KeepsOthersBalanced old path new
+KeepsEachBalanced old (remove_storage_all path) new = KeepsOthersBalanced old path new
+KeepsEachBalanced old (remove_stream path) new = KeepsOthersBalanced old path new
+KeepsEachBalanced old call new = AllStayBalanced old.base new.base
 
 -- the bytes of the header that nobody reads stay; and unless the file failed: if it was made here it is in order still, and where a sector was
 -- appended none is free, and there are no more than the limit allows
@@ -121,6 +133,7 @@ pub record IsDoneBy (old : FileState) (call : Call) (reply : Reply) (new : FileS
   pub runs : RunsOn (causes_of_call old new) old call reply new
   pub order : StaysInOrder old new
   pub balanced : KeepsFileBalanced old new
+  pub each : KeepsEachBalanced old call new
   pub spares : SparesStreams old call new
   pub room : HasRoomFor old call
   pub slots : TakesSlots old call new
