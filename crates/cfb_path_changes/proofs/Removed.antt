@@ -1,6 +1,6 @@
 -- Calls that remove one object in which nothing is.
-use Rattle.std.proofs.Common.{◌≡◌, ◌≢◌, ◌⊎◌, inl, inr, ℕ, Bor, List, [], ◌∷◌, Bool, true, false, refl, sym, ◌∙◌, ap, subst}
-use Rattle.std.specs.Prelude.{Option, Some, None, Result, Ok, Err, OnOk, OnErr, IfErr, IfSome, IfNone, chars, ◌++◌}
+use Rattle.std.proofs.Common.{◌≡◌, ◌≢◌, ◌⊎◌, inl, inr, ℕ, Bor, List, [], ◌∷◌, Bool, true, false, refl, sym, ◌∙◌, ap, subst, arith}
+use Rattle.std.specs.Prelude.{Option, Some, None, Result, Ok, Err, OnOk, OnErr, IfErr, IfSome, IfNone, chars, ◌<◌, ◌++◌}
 use Rattle.std.specs.Option.{option_map_or}
 use Rattle.std.proofs.lemmas.Bool.{eqb-true}
 use Rattle.cfb_format.specs.declared.error.Error.{Error}
@@ -26,15 +26,17 @@ use Rattle.cfb_path_changes.proofs.cfb_trees.Members.{streams-are-by-kind}
 use Rattle.cfb_path_changes.proofs.cfb_trees.PathDown.{same-some}
 use Rattle.cfb_format.proofs.Unique.{IsOutline-unique}
 use Rattle.cfb_volume.specs.Clearing.{KeepsStreamsBeside, StandsAs}
+use Rattle.cfb_volume.specs.Removing.{StaysOrGaveBack}
 use Rattle.cfb_volume.specs.Slots.{TakesNoSlot}
 use Rattle.cfb_path_changes.specs.cfb_objects.Laws.{BecomesTree}
 use Rattle.cfb_path_changes.specs.cfb_mini_sectors.State.{bytes_of, cases_of, entries_of, root_len_of}
-use Rattle.cfb_path_changes.specs.cfb_content.Contents.{KeepsFixedHeader, KeepsOthers}
+use Rattle.cfb_path_changes.specs.cfb_content.Contents.{KeepsFixedHeader, KeepsOthers, len_of}
 use Rattle.cfb_path_changes.specs.cfb_entry_changes.Kept.{AllStayBalancedBut}
 use Rattle.cfb_path_changes.specs.cfb_agreement.Changes.{StaysOrFails}
 use Rattle.cfb_path_changes.specs.cfb_agreement.Files.{FileState, Holds, IsAsMade, GrowsTightly, SameSetting, failures_of, is_failed}
+use Rattle.cfb_path_changes.proofs.cfb_agreement.Flags.{as-before-same}
 use Rattle.cfb_path_changes.proofs.Balanced.{taken_balanced}
-use Rattle.cfb_path_changes.specs.Answers.{ForMemory, HasNothingToDo, IsDoneBy, IsRefusedBy}
+use Rattle.cfb_path_changes.specs.Answers.{ForMemory, GaveBytesBack, HasNothingToDo, IsDoneBy, IsRefusedBy}
 use Rattle.cfb_path_changes.specs.Calls.{CallAnswers}
 use Rattle.cfb_path_changes.specs.declared.finding.Wanted.{Wanted}
 use Rattle.cfb_path_changes.specs.declared.finding.Wanted.TheVariants.{AnyObject, AnyStorage, AnyStream, EmptyStorage}
@@ -186,21 +188,30 @@ module _ (old : FileState) (wanted : Wanted) (path : List ℕ) (names : List (Li
         calm = same_count;
       }
 
+  -- a stream's bytes were given back, or nothing has changed
+  gave_bytes_back : StaysOrFails old new → StaysOrGaveBack k old.base new.base → (new ≡ old) ⊎ ((is_failed new ≡ true) × GaveBytesBack old path new)
+  gave_bytes_back stays (inl same) = inl (λ i. record { base = same i; is_sound = setting.is_sound i; buffer_limit = setting.buffer_limit i })
+  gave_bytes_back (inl before) (inr (some, none)) =
+      let kept : len_of new.base k ≡ len_of old.base k = ap (λ (f : FileState). len_of f.base k) (as-before-same old new before) in
+      absurd (omega (arith, some, none, kept))
+  gave_bytes_back (inr failed) (inr (some, none)) = inr (failed, (k, path_leads old path names k there.named there.leads, some, none))
+
   -- where memory lacked nothing has changed, if what was to go is a storage
   none_taken : (w : Wanted) → is_of_one w ≡ true → is_wanted w (entry_at (entries_of old.base) k) ≡ true → StaysOrFails old new
-      → ((entry_at (entries_of old.base) k).obj_type ≢ Stream → new ≡ old) → ForMemory (removal w path) old new
-  none_taken AnyObject is_one is stays same = absurd (let w : false ≡ true = is_one in cc)
-  none_taken AnyStorage is_one is stays same = absurd (let w : false ≡ true = is_one in cc)
-  none_taken AnyStream is_one is stays same = stays
-  none_taken EmptyStorage is_one is stays same = same (λ stream.
+      → StaysOrGaveBack k old.base new.base → ((entry_at (entries_of old.base) k).obj_type ≢ Stream → new ≡ old) → ForMemory (removal w path) old new
+  none_taken AnyObject is_one is stays gave same = absurd (let w : false ≡ true = is_one in cc)
+  none_taken AnyStorage is_one is stays gave same = absurd (let w : false ≡ true = is_one in cc)
+  none_taken AnyStream is_one is stays gave same = gave_bytes_back stays gave
+  none_taken EmptyStorage is_one is stays gave same = same (λ stream.
       let clash : Storage ≡ Stream = sym (inner_is (entry_at (entries_of old.base) k).obj_type (both _ _ is).0) ∙ stream in cc)
 
   pub removed_not : (can_give : MediumFault → Bool) (e : Error) → StaysOrFails old new → ((entry_at (entries_of old.base) k).obj_type ≢ Stream → AfterMedium (Unit {0}) (new ≡ old) e)
+      → AfterMedium (Unit {0}) (StaysOrGaveBack k old.base new.base) e
       → IsBreak ⊥ e → CountsError can_give (failures_of old) (failures_of new) e → IsRefusedBy can_give old call new e
-  removed_not can_give e stays first why counts = refused_by_break can_give call asks.changes old new there.unfailed setting there.sound stays spared header
+  removed_not can_give e stays first gave why counts = refused_by_break can_give call asks.changes old new there.unfailed setting there.sound stays spared header
       (λ tree means none. absurd (removal_does (cases_of old.base) tree wanted path none))
       (rules_allow (wanted_refusal wanted) path call asks can_give old there.unfailed held names there.named allowed there.sound) (new ≡ old) ⊥ absurd e why
-      (λ memory. none_taken wanted one there.suits stays (λ kind. after_memory (Unit {0}) (new ≡ old) e (first kind) memory)) counts
+      (λ memory. none_taken wanted one there.suits stays (after_memory (Unit {0}) (StaysOrGaveBack k old.base new.base) e gave memory) (λ kind. after_memory (Unit {0}) (new ≡ old) e (first kind) memory)) counts
 
   -- so the call answers
   pub removed_answers : {T : Type 0} (can_give : MediumFault → Bool) (r : Result T Error) (parent : ℕ) (name : List ℕ) → StandsIn old names k parent name
@@ -211,10 +222,11 @@ module _ (old : FileState) (wanted : Wanted) (path : List ℕ) (names : List (Li
       → number_from (cases_of old.base) (entries_of old.base) 0 o (parent_names (first ∷ rest)) ≡ Some parent
       → number_from (cases_of old.base) (entries_of old.base) 0 o (first ∷ rest) ≡ Some k → last_name (first ∷ rest) ≡ name
       → BecomesTree (cases_of old.base) (bytes_of old.base) (bytes_of new.base) (removed_at (cases_of old.base) (first ∷ rest)))
-      → OnErr r (StaysOrFails old new) → ((entry_at (entries_of old.base) k).obj_type ≢ Stream → IfErr r (AfterMedium (Unit {0}) (new ≡ old))) → IfErr r (IsBreak ⊥)
+      → OnErr r (StaysOrFails old new) → ((entry_at (entries_of old.base) k).obj_type ≢ Stream → IfErr r (AfterMedium (Unit {0}) (new ≡ old)))
+      → IfErr r (AfterMedium (Unit {0}) (StaysOrGaveBack k old.base new.base)) → IfErr r (IsBreak ⊥)
       → CountsFailure can_give r (failures_of old) (failures_of new) → CallAnswers can_give old call r new
-  removed_answers can_give (Ok x) parent name at ended balanced made grows slots root_len becomes stays first why counts = removed_done parent name at ended balanced made grows slots root_len counts becomes
-  removed_answers can_give (Err e) parent name at ended balanced made grows slots root_len becomes stays first why counts = removed_not can_give e stays first why counts
+  removed_answers can_give (Ok x) parent name at ended balanced made grows slots root_len becomes stays first gave why counts = removed_done parent name at ended balanced made grows slots root_len counts becomes
+  removed_answers can_give (Err e) parent name at ended balanced made grows slots root_len becomes stays first gave why counts = removed_not can_give e stays first gave why counts
 
 -- ---- all that is at a path
 

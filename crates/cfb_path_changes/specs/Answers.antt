@@ -17,13 +17,13 @@ use Rattle.cfb_path_changes.specs.cfb_rules.Runs.{CallRuns, Causes, Setting, Tre
 use Rattle.cfb_path_changes.specs.cfb_rules.Steps.{creating, is_changing, is_there, kind_of, kind_on}
 use Rattle.cfb_path_changes.specs.cfb_directory.State.{IsFullForEntry}
 use Rattle.cfb_path_changes.specs.cfb_mini_sectors.State.{bytes_of, cases_of, entries_of, root_len_of, version_of}
-use Rattle.cfb_path_changes.specs.cfb_content.Contents.{KeepsFixedHeader}
+use Rattle.cfb_path_changes.specs.cfb_content.Contents.{KeepsFixedHeader, len_of}
 use Rattle.cfb_path_changes.specs.cfb_trees.Balance.{AreAllBalanced}
 use Rattle.cfb_path_changes.specs.cfb_agreement.Changes.{StaysOrFails}
 use Rattle.cfb_path_changes.specs.cfb_agreement.Files.{FileState, IsAsMade, IsFullFile, GrowsTightly, SameSetting, failures_of, is_failed}
 use Rattle.cfb_path_changes.specs.cfb_agreement.Laws.{with_flags}
 use Rattle.cfb_volume.specs.Slots.{TakesNoSlot, TakesSlot}
-use Rattle.cfb_path_changes.specs.Finding.{LeadTo}
+use Rattle.cfb_path_changes.specs.Finding.{LeadTo, StandsAt}
 use Rattle.cfb_path_changes.specs.Sparing.{SparesStreams}
 
 -- what stays the same of a file
@@ -108,12 +108,16 @@ IsQuiet old call new = (tree : Tree) → MeansTree old tree → HasNothingToDo (
 abbrev pub SparesUnsound : FileState → Call → FileState → Type 0
 SparesUnsound old call new = is_changing (kind_of call) ≡ true → old.is_sound ≡ false → new ≡ old
 
--- Where memory lacks nothing has changed; a call of several changes, and one that gives bytes back before it takes an entry away, may have failed
--- the file
+-- the stream at this path had bytes, and they were given back
+abbrev pub GaveBytesBack : FileState → List ℕ → FileState → Type 0
+GaveBytesBack old path new = (entry : ℕ) × StandsAt old entry path × (0 < len_of old.base entry) × (len_of new.base entry ≡ 0)
+
+-- Where memory lacks nothing has changed; a call of several changes may have failed the file, and so may one that gives bytes back before it takes
+-- an entry away, but only once these were given back
 abbrev pub ForMemory : Call → FileState → FileState → Type 0
 ForMemory (create_storage_all path moment) old new = StaysOrFails old new
 ForMemory (remove_storage_all path) old new = StaysOrFails old new
-ForMemory (remove_stream path) old new = StaysOrFails old new
+ForMemory (remove_stream path) old new = (new ≡ old) ⊎ ((is_failed new ≡ true) × GaveBytesBack old path new)
 ForMemory call old new = new ≡ old
 
 -- the call was done, no call of the medium failed, and the streams that it is not about stay
