@@ -41,7 +41,8 @@ uncounted can_give old new refusal Failed is counts none = counts
 stays_for_memory : (old new : FileState) (call : Call) → ForMemory call old new → StaysOrFails old new
 stays_for_memory old new (create_storage_all path moment) stays = stays
 stays_for_memory old new (remove_storage_all path) stays = stays
-stays_for_memory old new (remove_stream path) stays = stays
+stays_for_memory old new (remove_stream path) (inl same) = inl (same_before old new same)
+stays_for_memory old new (remove_stream path) (inr failed) = inr failed.0
 stays_for_memory old new call same = inl (same_before old new same)
 
 refused_before : (old new : FileState) (call : Call) (e : Error)

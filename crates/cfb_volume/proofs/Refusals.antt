@@ -103,6 +103,18 @@ after-any kept is Full = is
 after-any kept is Unsound = is
 after-any kept is Failed = is
 
+-- what holds but after the medium's error may be said with less
+pub after-less : (kept said : Type 0) → (kept → said) → (e : Error) → AfterMedium (Unit {0}) kept e → AfterMedium (Unit {0}) said e
+after-less kept said less (NotFound d) h = less h
+after-less kept said less (AlreadyExists d) h = less h
+after-less kept said less (InvalidInput d) h = less h
+after-less kept said less (InvalidData d) h = less h
+after-less kept said less (Medium m) h = tt
+after-less kept said less Memory h = less h
+after-less kept said less Full h = less h
+after-less kept said less Unsound h = less h
+after-less kept said less Failed h = less h
+
 -- where a step before it changed nothing, a step that stopped short has changed nothing
 pub after-none : (s mid new : MiniState) → mid ≡ s → (e : Error) → StopsShort mid new e → AfterMedium (Unit {0}) (new ≡ s) e
 after-none s mid new same (NotFound d) h = h ∙ same

@@ -1,5 +1,5 @@
 -- What becomes of an object's content before the object is taken.
-use Rattle.std.specs.Prelude.{ℕ, ◌≡◌}
+use Rattle.std.specs.Prelude.{ℕ, ◌≡◌, ◌<◌, ◌⊎◌}
 use Rattle.cfb_format.specs.declared.objtype.ObjType.TheVariants.{Stream}
 use Rattle.cfb_format.specs.declared.validate.Validation.{Validation}
 use Rattle.cfb_format.specs.Siblings.{entry_at}
@@ -21,3 +21,7 @@ pub record WasEmptied (old new : MiniState) (i : ℕ) : Type 0 where
   pub exact : AreExactTables (tables_in old) → AreExactTables (tables_in new)
   pub tidy : (v : Validation) → IsChangeable v old → IsTidy old → IsTidy new
   pub empty : (entry_at (entries_of old) i).obj_type ≡ Stream → len_of new i ≡ 0
+
+-- nothing has changed; or the stream of entry i had bytes, and they were given back
+abbrev pub StaysOrGaveBack : ℕ → MiniState → MiniState → Type 0
+StaysOrGaveBack i old new = (new ≡ old) ⊎ ((0 < len_of old i) × (len_of new i ≡ 0))

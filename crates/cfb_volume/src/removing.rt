@@ -19,7 +19,7 @@ ghost use Rattle.cfb_volume.specs.cfb_content.Contents.{KeepsFixedHeader, KeepsO
 ghost use Rattle.cfb_entry_changes.specs.Kept.{AllStayBalancedBut, FindsAllBut};
 ghost use Rattle.cfb_agreement.specs.Changes.{StaysOrFails};
 ghost use Rattle.cfb_agreement.specs.Files.{Agrees, Holds, IsAsMade, GrowsTightly, SameSetting, failures_of, is_failed};
-ghost use Rattle.cfb_volume.specs.Removing.{WasEmptied};
+ghost use Rattle.cfb_volume.specs.Removing.{StaysOrGaveBack, WasEmptied};
 ghost use Rattle.cfb_volume.specs.Slots.{TakesNoSlot};
 
 use crate::volume::Volume;
@@ -42,6 +42,8 @@ fn empty_object<F: Medium, A: Heap + Clone>(
     ensures takes_none { length (tables_in mini.new).fat ≡ length (tables_in mini.old).fat }
     ensures none { (entry_at (entries_of mini.old) entry).obj_type ≢ Stream → mini.new ≡ mini.old }
     ensures quiet { OnOk result ((table_of mini.new).file.begun ≡ false → mini.new ≡ mini.old) }
+    ensures gave_back { OnOk result (StaysOrGaveBack entry mini.old mini.new) }
+    ensures first { IsTrue F.tells → IfErr result (AfterMedium Unit (mini.new ≡ mini.old)) }
     ensures still { OnErr result (IsStill mini.old mini.new ⊎
         ((table_of mini.new).file.begun ≡ true)) }
     ensures err { IsTrue F.tells → (v : Validation) → IsChangeable v mini.old
@@ -67,8 +69,8 @@ impl<F: Medium, A: Heap + Clone> Volume<F, A> {
     /// Takes the object `child` of that name, in which nothing is, out of the storage `parent`; a
     /// stream's bytes are given back before.
     ///
-    /// `Memory`, and `Medium` where the medium fails: all is as before, or the file has failed. Of a storage after `Memory` nothing has
-    /// changed.
+    /// `Memory`, and `Medium` where the medium fails: all is as before, or the file has failed. After `Memory` nothing has changed,
+    /// or the stream's bytes were given back.
     pub fn remove(&mut self, parent: u32, child: u32, name: &str) -> Result<(), Error>
         requires sound { self.old.is_sound ≡ true }
         requires unfailed { is_failed self.old ≡ false }
@@ -114,6 +116,8 @@ impl<F: Medium, A: Heap + Clone> Volume<F, A> {
             → OnErr result (StaysOrFails self.old self.new) }
         ensures first { (entry_at (entries_of self.old.base) child).obj_type ≢ Stream
             → IfErr result (AfterMedium Unit (self.new ≡ self.old)) }
+        ensures gave_back { IsTrue F.tells → IfErr result
+            (AfterMedium Unit (StaysOrGaveBack child self.old.base self.new.base)) }
         ensures err { IsTrue F.tells → Holds self.old → IfErr result (IsBreak ⊥) }
         ensures counts { IsTrue F.tells
             → CountsFailure (λ f. F.read_faults f || F.write_faults f) result (failures_of self.old)

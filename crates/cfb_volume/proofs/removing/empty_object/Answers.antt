@@ -1,5 +1,6 @@
-use Rattle.std.proofs.Common.{refl, sym, ◌∙◌, ap}
+use Rattle.std.proofs.Common.{inl, inr, refl, sym, ◌∙◌, ap, arith}
 use Rattle.std.specs.Prelude.{IsTrue}
+use Rattle.std.proofs.lemmas.Bool.{cases_lt}
 use Rattle.std.proofs.lemmas.Result.{err_from_is_err_and}
 use Rattle.cfb_format.specs.declared.validate.Validation.{Validation}
 use Rattle.cfb_format.specs.DirectoryEntry.{Entry}
@@ -7,7 +8,7 @@ use Rattle.cfb_volume.specs.cfb_entries.EntryList.{AreInOrder}
 use Rattle.cfb_volume.proofs.cfb_trees.Members.{reached-is-within}
 use Rattle.cfb_volume.proofs.cfb_trees.Reached.{below-reached}
 use Rattle.cfb_volume.specs.cfb_mini_sectors.State.{HoldsMini, cases_of, entries_of}
-use Rattle.cfb_volume.specs.cfb_content.Contents.{IsNotChangeable, IsStreamOf, IsTooLongFor}
+use Rattle.cfb_volume.specs.cfb_content.Contents.{IsNotChangeable, IsStreamOf, IsTooLongFor, len_of}
 use Rattle.cfb_volume.proofs.cfb_content.Changed.{moves-same, spares-same}
 use Rattle.cfb_volume.proofs.cfb_content.Snug.{sized-is-snug}
 use Rattle.cfb_agreement.proofs.ContentChanges.{moved-starts-at-end, stays-tidy}
@@ -40,6 +41,20 @@ returns-in_err-resize_content-in-Stream-clause-err g c told v change =
     rw (p.1, p.2) (empty-break (IsTrue g.F.ReadMedium.tells → IsNotChangeable s) ((validation : Validation) → HoldsMini validation s → IsTooLongFor s i 0)
     (λ none. none told v change) (λ long. emptying-fits s i change.held c.minifat_len.ensures.short (long v change.held))
     c.in_err-resize_content-in-Stream.field-0.0 c.in_err-resize_content-in-Stream.ensures.err)
+
+pub returns-in_err-resize_content-in-Stream-clause-first : goal.returns-in_err-resize_content-in-Stream-clause-first
+returns-in_err-resize_content-in-Stream-clause-first g c told =
+    let p = err_from_is_err_and c.from_residual.result c.from_residual.ensures.1 in
+    rw (p.1, p.2) (c.in_err-resize_content-in-Stream.ensures.first told refl)
+
+pub returns-in_ok-resize_content-in-Stream-clause-gave_back : goal.returns-in_ok-resize_content-in-Stream-clause-gave_back
+returns-in_ok-resize_content-in-Stream-clause-gave_back g c =
+    let ok = c.in_ok-resize_content-in-Stream.ensures in
+    let s = c.args.mini.now in
+    elim (cases_lt 0 (len_of s c.args.entry)) [
+      | inl some ↦ inr (some, ok.len)
+      | inr none ↦ inl (ok.none (omega (arith, none))).1
+    ]
 
 pub returns-in_ok-resize_content-in-Stream-clause-emptied : goal.returns-in_ok-resize_content-in-Stream-clause-emptied
 returns-in_ok-resize_content-in-Stream-clause-emptied g c told =
@@ -76,6 +91,8 @@ returns-in_default g c =
       takes_none = refl;
       none = λ ne. refl;
       quiet = λ down. refl;
+      gave_back = inl refl;
+      first = λ told. tt;
       still = tt;
       err = λ told v change. tt;
       counts = λ told. refl;

@@ -1,10 +1,11 @@
-use Rattle.std.proofs.Common.{◌≡◌, ◌≢◌, ◌⊎◌, ◌∷◌, ℕ, List, Bool, false, true, refl, sym, ◌∙◌, ap, subst, chars, length}
+use Rattle.std.proofs.Common.{◌≡◌, ◌≢◌, ◌⊎◌, inl, ◌∷◌, ℕ, List, Bool, false, true, refl, sym, ◌∙◌, ap, subst, chars, length}
 use Rattle.std.specs.Prelude.{IsTrue}
 use Rattle.std.proofs.lemmas.Result.{err_from_is_err_and}
 use Rattle.cfb_format.specs.declared.objtype.ObjType.TheVariants.{Stream}
 use Rattle.cfb_format.specs.declared.validate.Validation.{Validation}
 use Rattle.cfb_format.specs.declared.validate.Validation.TheVariants.{Permissive}
 use Rattle.cfb_format.specs.Bytes.{no_stream}
+use Rattle.cfb_format.specs.Refused.{AfterMedium}
 use Rattle.cfb_format.specs.Siblings.{entry_at}
 use Rattle.cfb_outline.specs.Outlines.{IsReachedStorage}
 use Rattle.cfb_volume.specs.cfb_rules.CallChanges.{removed_at}
@@ -20,11 +21,11 @@ use Rattle.cfb_volume.proofs.cfb_content.FixedHeader.{header-then, spared-keeps-
 use Rattle.cfb_entry_changes.specs.Kept.{AllStayBalancedBut, FindsAllBut}
 use Rattle.cfb_agreement.specs.Changes.{StaysOrFails}
 use Rattle.cfb_agreement.specs.Files.{Agrees, FileState, Holds, IsAsMade}
-use Rattle.cfb_volume.specs.Removing.{WasEmptied}
+use Rattle.cfb_volume.specs.Removing.{StaysOrGaveBack, WasEmptied}
 use Rattle.cfb_volume.specs.Slots.{TakesNoSlot}
 use Rattle.cfb_volume.proofs.ContentSteps.{file_on}
 use Rattle.cfb_volume.proofs.InsertedObjects.{ended, header-ended, same-file}
-use Rattle.cfb_volume.proofs.Refusals.{after-any, after-none, file-after}
+use Rattle.cfb_volume.proofs.Refusals.{after-any, after-less, after-none, file-after}
 use Rattle.cfb_volume.proofs.RemovedObjects.{WasRemoved, child-stays, empty-break, others-ended, others-then, remove-balanced, remove-finds, remove-holds, remove-keeps-root, remove-made, remove-tree, stays-agrees, stays-by, stays-then, storage-stays, was-removed}
 use Rattle.cfb_volume.proofs.volume.Volume.remove.Goals.{After-remove_dir_entry, In_ok-remove_dir_entry}
 use Rattle.cfb_volume.proofs.volume.Volume.remove.Goals as goal
@@ -63,6 +64,17 @@ returns-in_err-empty_object-clause-first g c kind =
     let same = c.empty_object.ensures.none (not-stream s old c.self.inside.is_sound c.self.inside.buffer_limit c.args.child c.self.view_is kind) in
     rw (p.1, p.2) (file-after s mid old c.self.inside.is_sound c.self.inside.buffer_limit c.self.view_is c.in_err-empty_object.field-0.0
     (after-any (mid ≡ s) same c.in_err-empty_object.field-0.0))
+
+-- whatever the object is, nothing has changed
+pub returns-in_err-empty_object-clause-gave_back : goal.returns-in_err-empty_object-clause-gave_back
+returns-in_err-empty_object-clause-gave_back g c told =
+    let old = c.args.self.now in
+    let mid = c.empty_object.new.mini in
+    let child = c.args.child in
+    let e = ap (λ (f : FileState). f.base) c.self.view_is in
+    let p = err_from_is_err_and c.from_residual.result c.from_residual.ensures.1 in
+    rw (p.1, p.2) (after-less (mid ≡ old.base) (StaysOrGaveBack child old.base mid) (λ same. inl same) c.in_err-empty_object.field-0.0
+    (subst (λ (m : MiniState). AfterMedium (Unit {0}) (mid ≡ m) c.in_err-empty_object.field-0.0) e (c.in_err-empty_object.ensures.first told)))
 
 -- ---- the entry is there still
 
@@ -129,6 +141,19 @@ returns-in_err-remove_dir_entry-clause-first g c kind =
     let same = c.empty_object.ensures.none (not-stream s old c.self.inside.is_sound c.self.inside.buffer_limit c.args.child c.self.view_is kind) in
     rw (p.1, p.2) (file-after s new old c.self.inside.is_sound c.self.inside.buffer_limit c.self.view_is c.in_err-remove_dir_entry.field-0.0
     (after-none s mid new same c.in_err-remove_dir_entry.field-0.0 c.in_err-remove_dir_entry.ensures.refused))
+
+-- its bytes were given back, if it had any
+pub returns-in_err-remove_dir_entry-clause-gave_back : goal.returns-in_err-remove_dir_entry-clause-gave_back
+returns-in_err-remove_dir_entry-clause-gave_back g c told =
+    let old = c.args.self.now in
+    let mid = c.empty_object.new.mini in
+    let new = c.remove_dir_entry.new.self in
+    let child = c.args.child in
+    let e = ap (λ (f : FileState). f.base) c.self.view_is in
+    let p = err_from_is_err_and c.from_residual-in_err-remove_dir_entry.result c.from_residual-in_err-remove_dir_entry.ensures.1 in
+    let gave = subst (λ (m : MiniState). StaysOrGaveBack child m mid) e c.in_ok-empty_object.ensures.gave_back in
+    rw (p.1, p.2) (after-less (new ≡ mid) (StaysOrGaveBack child old.base new) (λ same. subst (λ (m : MiniState). StaysOrGaveBack child old.base m) (sym same) gave)
+    c.in_err-remove_dir_entry.field-0.0 (after-none mid mid new refl c.in_err-remove_dir_entry.field-0.0 c.in_err-remove_dir_entry.ensures.refused))
 
 -- the contents of the other streams stay
 pub returns-in_err-remove_dir_entry-clause-others : goal.returns-in_err-remove_dir_entry-clause-others
