@@ -1,16 +1,21 @@
 -- A new entry in a directory that may have grown for it.
 use Rattle.std.proofs.Common.{◌≡◌, ◌⊎◌, inl, inr, ℕ, ◌<◌, ◌≤◌, ◌+◌, ◌*◌, ◌/◌, ◌%◌, Bool, List, [], ◌∷◌, true, false, refl, sym, ◌∙◌, ap, subst, length, arith}
-use Rattle.std.specs.Prelude.{Contains, slice_index, if◌then◌else◌}
+use Rattle.std.specs.Prelude.{Contains, Err, IfOk, Ok, OnOk, Result, slice_index, if◌then◌else◌}
 use Rattle.std.proofs.lemmas.List.{get_or_append_left}
 use Rattle.std.proofs.lemmas.List.Elements.{Contains-append_cases}
 use Rattle.cfb_format.specs.declared.error.Error.{Error}
 use Rattle.cfb_format.specs.declared.error.Error.TheVariants.{NotFound, AlreadyExists, InvalidInput, InvalidData, Medium, Memory, Full, Unsound, Failed}
+use Rattle.cfb_format.specs.declared.objtype.ObjType.{ObjType}
+use Rattle.cfb_format.specs.declared.validate.Validation.{Validation}
 use Rattle.cfb_format.specs.declared.version.Version.{Version}
+use Rattle.cfb_format.specs.declared.version.Version.TheVariants.{V3, V4}
 use Rattle.cfb_format.specs.Bytes.{entries_per_sector, free_sector, sector_start, word_at}
 use Rattle.cfb_format.specs.Chain.{value}
 use Rattle.cfb_format.specs.DirectoryEntry.{Entry}
 use Rattle.cfb_format.specs.Medium.{part}
+use Rattle.cfb_format.specs.Names.{Cases}
 use Rattle.cfb_format.specs.Siblings.{Balanced, entry_at}
+use Rattle.cfb_codecs.specs.EntryModel.{new_entry}
 use Rattle.cfb_sectors.proofs.WordLemmas.{word_stays}
 use Rattle.cfb_directory.specs.cfb_tables.Refused.{ChangeRefused, TableRefused}
 use Rattle.cfb_directory.specs.cfb_tables.Tables.{TableState}
@@ -19,18 +24,20 @@ use Rattle.cfb_alloc.specs.Alloc.{AllocatorState}
 use Rattle.cfb_alloc.specs.Frame.{Spares}
 use Rattle.cfb_alloc.specs.ListedChain.{Lengthens}
 use Rattle.cfb_alloc.proofs.Frames.{spares-then}
+use Rattle.cfb_alloc.proofs.Spared.{spares_refl}
 use Rattle.cfb_directory.specs.cfb_outline.Outlines.{IsReachedStorage}
 use Rattle.cfb_directory.specs.cfb_siblings.Children.{HasChildren, HasRedApart, KeepsBalance}
 use Rattle.cfb_directory.specs.cfb_siblings.Laws.{grown_by}
 use Rattle.cfb_directory.proofs.cfb_siblings.Grown.{balanced-same, children-same, entry-stays, length-grows, red-apart-same}
 use Rattle.cfb_entries.specs.declared.insertion.Insertion.{Insertion}
-use Rattle.cfb_entries.specs.EntryList.{has_free}
+use Rattle.cfb_entries.specs.EntryList.{InsertsEntry, has_free}
 use Rattle.cfb_entries.specs.Insertions.{IsInsertionOf}
 use Rattle.cfb_entries.proofs.Contents.{insertion-stays, reached-stays}
-use Rattle.cfb_directory.specs.Growing.{ArePlaced}
+use Rattle.cfb_directory.specs.Growing.{ArePlaced, IsListedChain}
+use Rattle.cfb_directory.specs.Inserting.{InsertsObject, SparesRest, WritesDirectory}
 use Rattle.cfb_slots.specs.Slots.{slot_of}
-use Rattle.cfb_directory.specs.State.{DirectoryState, directory_version, with_room}
-use Rattle.cfb_directory.specs.Steps.{IsDirectoryNotHeld}
+use Rattle.cfb_directory.specs.State.{DirectoryState, HoldsDirectory, IsFullForEntry, IsKeptHeaderByte, KeepsDirectoryLimits, directory_bytes, directory_tables, directory_version, with_room}
+use Rattle.cfb_directory.specs.Steps.{IsDirectoryNotHeld, StaysRedApart}
 use Rattle.cfb_slots.proofs.SlotPlaces.{slot_sector}
 use Rattle.cfb_directory.proofs.Placed.{held_places}
 use Rattle.cfb_directory.proofs.InsertGrow.{one-gained}
@@ -128,3 +135,49 @@ pub header-word-kept : (old new : List ℕ) → length old ≤ length new → 44
     → word_at new 40 ≡ word_at old 40
 header-word-kept old new longer long same =
     word_stays 0 512 40 old new (record { no_shorter = longer; each = λ i lt from to. same i to lt }) (omega arith) (omega arith) long
+
+pub kept-is-low : (v : Version) (i : ℕ) → IsKeptHeaderByte v i → i < 512
+kept-is-low V3 i (inl low) = omega (arith, low)
+kept-is-low V3 i (inr high) = let below = high.1 in omega (arith, below)
+kept-is-low V4 i (inl low) = omega (arith, low)
+kept-is-low V4 i (inr high) = let below = high.1 in omega (arith, below)
+
+-- ---- the whole
+
+-- first there was room, and then an entry of that name was put
+module _ (old mid new : DirectoryState) (is : mid.entries ≡ with_room old) (limits : KeepsDirectoryLimits old mid) (same : directory_tables new ≡ directory_tables mid)
+    (parent : ℕ) (put name : List ℕ) (named : put ≡ name) (kind : ObjType) (moment : ℕ) where
+  pub inserts-whole : {E : Type 0} (r : Result ℕ E) → IfOk r (λ n. InsertsEntry mid.cases mid.entries new.entries parent n (new_entry put kind moment))
+      → OnOk r (KeepsBalance mid.entries new.entries parent) → OnOk r (StaysRedApart mid new parent) → (IsFullForEntry old → ⊥)
+      → (has_free old.entries ≡ false → Lengthens 1 old.sectors new.sectors (directory_tables old) (directory_tables mid))
+      → (IsListedChain (directory_tables old) old.sectors → IsListedChain (directory_tables mid) new.sectors) → new.table.file.begun ≡ true
+      → IfOk r (λ n. InsertsObject old new parent n name kind moment)
+  inserts-whole (Err e) entry balanced apart enough lengthened chain begun = tt
+  inserts-whole (Ok n) entry balanced apart enough lengthened chain begun = record {
+    entry = subst (λ (l : List ℕ). InsertsEntry old.cases (with_room old) new.entries parent n (new_entry l kind moment)) named
+        (subst (λ (es : List Entry). InsertsEntry old.cases es new.entries parent n (new_entry put kind moment)) is
+        (subst (λ (cs : Cases). InsertsEntry cs mid.entries new.entries parent n (new_entry put kind moment)) limits.cases entry));
+    balanced = roomy-balance old mid.entries is new.entries parent balanced;
+    red_apart = λ list children was.
+        apart list (subst (λ (cs : Cases). HasChildren cs mid.entries parent list) (sym limits.cases) (roomy-children old mid.entries is parent list children))
+        (roomy-red-apart old mid.entries is parent list was);
+    enough = enough;
+    lengthened = λ none. subst (λ (t : TableState). Lengthens 1 old.sectors new.sectors (directory_tables old) t) (sym same) (lengthened none);
+    chain = λ listed. subst (λ (t : TableState). IsListedChain t new.sectors) (sym same) (chain listed);
+    begun = begun;
+  }
+
+pub writes-whole : {T E : Type 0} (r : Result T E) (old new : DirectoryState)
+    → ((validation : Validation) → HoldsDirectory validation old → OnOk r (HoldsDirectory validation new))
+    → (directory_version old ≡ V4 → has_free old.entries ≡ false → word_at (directory_bytes new) 40 ≡ length new.sectors) → OnOk r (WritesDirectory old new)
+writes-whole (Err e) old new holds count = tt
+writes-whole (Ok x) old new holds count = record { holds = holds; count = count }
+
+-- where nothing has changed, all stays
+pub rest-same : (d : DirectoryState) (parent : ℕ) → SparesRest d d parent
+rest-same d parent = record {
+  spares = spares_refl d.sectors d.table;
+  header = λ i lt kept. refl;
+  header_kept = λ free i low lt. refl;
+  slots = λ validation held list children k lt used no_parent out. refl;
+}

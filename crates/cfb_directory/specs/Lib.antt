@@ -11,5 +11,6 @@ pub mod State
 pub mod Steps
 pub mod HeldLaws
 pub mod Growing
+pub mod Inserting
 pub mod Lending
 pub mod NameLaws

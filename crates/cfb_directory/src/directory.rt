@@ -1,18 +1,15 @@
 //! The directory of a file (MS-CFB 2.6): its entries in memory, and each change of them written into the slots of its sectors.
-ghost use Rattle.std.specs.Prelude.{◌≡◌, ◌≢◌, ◌↔◌, ◌⊎◌, ℕ, ◌*◌, ◌%◌, ◌<◌, ◌≤◌, ◌∷◌, List, [], length, map, min, chars, true, false, Contains, IsTrue, MatchOption, vec_len, IfOk, IfErr, IfSome, OnOk, slice_index};
-ghost use Rattle.cfb_format.specs.declared.objtype.ObjType.TheVariants.{Root, Storage, Stream};
-ghost use Rattle.cfb_format.specs.declared.version.Version.TheVariants.{V4};
-ghost use Rattle.cfb_format.specs.Names.{is_valid_name};
-ghost use Rattle.cfb_alloc.specs.ListedChain.{Lengthens};
-ghost use Rattle.cfb_directory.specs.Growing.{ArePlaced, IsListedChain};
+ghost use Rattle.std.specs.Prelude.{◌≡◌, ◌≢◌, ◌↔◌, ◌⊎◌, ℕ, ◌*◌, ◌%◌, ◌<◌, ◌≤◌, ◌∷◌, List, [], length, map, min, chars, true, false, Contains, IsTrue, MatchOption, vec_len, IfOk, IfErr, IfSome, OnOk};
+ghost use Rattle.cfb_format.specs.declared.objtype.ObjType.TheVariants.{Root};
+ghost use Rattle.cfb_directory.specs.Growing.{ArePlaced};
 ghost use Rattle.cfb_format.specs.declared.validate.Validation.{Validation};
-ghost use Rattle.cfb_format.specs.Bytes.{end_of_chain, entries_per_sector, max_regular_sector, no_stream, sector_len, word_at};
+ghost use Rattle.cfb_format.specs.Bytes.{end_of_chain, entries_per_sector, max_regular_sector, no_stream, sector_len};
 ghost use Rattle.cfb_format.specs.Chain.{IsChain};
 ghost use Rattle.cfb_format.specs.DirectoryEntry.{IsValidEntry};
 ghost use Rattle.cfb_format.specs.Reading.{IsOutline, Outline, numbers};
 ghost use Rattle.cfb_format.specs.Refused.{CountsFailure, IsInvalidOrMemory};
 ghost use Rattle.cfb_format.specs.Siblings.{entry_at};
-ghost use Rattle.cfb_codecs.specs.EntryModel.{entries_of, entry_of, new_entry};
+ghost use Rattle.cfb_codecs.specs.EntryModel.{entries_of, entry_of};
 ghost use Rattle.cfb_directory.specs.cfb_index.Index.{CountsSteps};
 ghost use Rattle.cfb_directory.specs.cfb_outline.Outlines.{AcceptsOutline, HasInside, IsReachedStorage};
 ghost use Rattle.cfb_directory.specs.cfb_siblings.Children.{HasChildren, IsAbsent, IsChildNamed, KeepsBalance};
@@ -28,10 +25,11 @@ ghost use Rattle.cfb_alloc.specs.Frame.{Spares};
 ghost use Rattle.cfb_entries.specs.declared.fields.Fields.{Fields};
 ghost use Rattle.cfb_format.specs.Full.{max_entries};
 ghost use Rattle.cfb_entries.specs.Clearing.{HasCleared};
-ghost use Rattle.cfb_entries.specs.EntryList.{AreInOrder, HaveShortNames, InsertsEntry, RemovesEntry, has_free};
+ghost use Rattle.cfb_entries.specs.EntryList.{AreInOrder, HaveShortNames, RemovesEntry};
 ghost use Rattle.cfb_entries.specs.Fields.{fields_in, entry_with_fields, entries_with_fields};
 ghost use Rattle.cfb_directory.specs.Clearing.{KeepsSlotsOutside};
-ghost use Rattle.cfb_directory.specs.State.{HoldsDirectory, IsFullForEntry, KeepsDirectoryHeader, KeepsDirectoryLimits, directory_bytes, directory_tables, directory_version, with_room};
+ghost use Rattle.cfb_directory.specs.Inserting.{CanInsert, InsertsObject, KeepsSectorsIfFree, SparesRest, WritesDirectory};
+ghost use Rattle.cfb_directory.specs.State.{HoldsDirectory, IsFullForEntry, KeepsDirectoryLimits, directory_bytes, directory_tables, directory_version};
 ghost use Rattle.cfb_directory.specs.Steps.{IsDirectoryNotHeld, KeepsOtherSlots, StaysRedApart, KeepsSlotsBut, KeepsWholeHeader, DirectoryStopsShort};
 
 use crate::changing::{change_fields, remove_entry};
@@ -348,38 +346,13 @@ impl<F: Medium, A: Heap + Clone> Directory<F, A> {
         kind: ObjType,
         moment: Timestamp,
     ) -> Result<u32, Error>
-        requires parent { IsReachedStorage self.old.cases self.old.entries parent }
-        requires valid { IsTrue (is_valid_name (chars name.now)) }
-        requires absent { (list : List ℕ) → HasChildren self.old.cases self.old.entries parent list
-            → IsAbsent self.old.cases self.old.entries (chars name.now) list }
-        requires kind { (kind ≡ Storage) ⊎ (kind ≡ Stream) }
-        ensures inserted { IfOk result (λ n. InsertsEntry self.old.cases (with_room self.old)
-            self.new.entries parent n (new_entry (chars name.now) kind moment)) }
-        ensures balanced { OnOk result (KeepsBalance self.old.entries self.new.entries parent) }
-        ensures red_apart { OnOk result (StaysRedApart self.old self.new parent) }
-        ensures kept { has_free self.old.entries ≡ true → (self.new.sectors ≡ self.old.sectors)
-            × (directory_tables self.new ≡ directory_tables self.old) }
-        ensures lengthened { has_free self.old.entries ≡ false
-            → OnOk result (Lengthens 1 self.old.sectors self.new.sectors
-            (directory_tables self.old) (directory_tables self.new)) }
-        ensures chain { IsListedChain (directory_tables self.old) self.old.sectors
-            → OnOk result (IsListedChain (directory_tables self.new) self.new.sectors) }
-        ensures holds { IsTrue F.tells
-            → (validation : Validation) → HoldsDirectory validation self.old
-            → OnOk result (HoldsDirectory validation self.new) }
-        ensures spares { IsTrue F.tells → Spares self.old.sectors self.old.table self.new.table }
-        ensures header { IsTrue F.tells → KeepsDirectoryHeader self.old self.new }
-        ensures header_kept { IsTrue F.tells → has_free self.old.entries ≡ true
-            → (i : ℕ) → i < 512 → i < length (directory_bytes self.old)
-            → slice_index (directory_bytes self.new) i ≡ slice_index (directory_bytes self.old) i }
-        ensures count { IsTrue F.tells
-            → directory_version self.old ≡ V4 → has_free self.old.entries ≡ false
-            → OnOk result (word_at (directory_bytes self.new) 40 ≡ length self.new.sectors) }
-        ensures slots { IsTrue F.tells → (validation : Validation)
-            → HoldsDirectory validation self.old → KeepsOtherSlots parent self.old self.new }
+        requires { CanInsert self.old parent (chars name.now) kind }
+        ensures inserted { IfOk result (λ n.
+            InsertsObject self.old self.new parent n (chars name.now) kind moment) }
+        ensures kept { KeepsSectorsIfFree self.old self.new }
+        ensures written { IsTrue F.tells → OnOk result (WritesDirectory self.old self.new) }
+        ensures spared { IsTrue F.tells → SparesRest self.old self.new parent }
         ensures limits { KeepsDirectoryLimits self.old self.new }
-        ensures begun { OnOk result (self.new.table.file.begun ≡ true) }
-        ensures enough { OnOk result (IsFullForEntry self.old → ⊥) }
         ensures refused { IfErr result (DirectoryStopsShort self.old self.new) }
         ensures err { IfErr result (ChangeRefused (IsDirectoryNotHeld self.old)
             (IsFullForEntry self.old → ⊥) (IsFullForEntry self.old) Unit) }

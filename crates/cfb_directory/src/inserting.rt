@@ -1,5 +1,5 @@
 //! How a directory takes a new entry: all memory first, then a sector where no slot is free, then the entries in memory, then their slots.
-ghost use Rattle.std.specs.Prelude.{◌≡◌, ◌⊎◌, ◌≢◌, ℕ, List, [], ◌++◌, ◌+◌, ◌^◌, ◌<◌, ◌≤◌, true, false, length, chars, vec_len, vec_capacity, slice_index, Contains, IsTrue, IfOk, IfErr, OnOk, OnErr};
+ghost use Rattle.std.specs.Prelude.{◌≡◌, ◌⊎◌, ◌≢◌, ℕ, [], ◌++◌, ◌+◌, ◌^◌, ◌<◌, ◌≤◌, true, false, length, chars, vec_len, vec_capacity, slice_index, Contains, IsTrue, IfOk, IfErr, OnOk, OnErr};
 ghost use Rattle.cfb_format.specs.declared.objtype.ObjType.TheVariants.{Storage, Stream};
 ghost use Rattle.cfb_format.specs.declared.validate.Validation.{Validation};
 ghost use Rattle.cfb_format.specs.declared.version.Version.TheVariants.{V3, V4};
@@ -10,7 +10,7 @@ ghost use Rattle.cfb_format.specs.Names.{is_valid_name};
 ghost use Rattle.cfb_format.specs.Refused.{AfterMedium, CountsFailure};
 ghost use Rattle.cfb_codecs.specs.EntryModel.{new_entry};
 ghost use Rattle.cfb_directory.specs.cfb_outline.Outlines.{IsReachedStorage};
-ghost use Rattle.cfb_directory.specs.cfb_siblings.Children.{HasChildren, IsAbsent, KeepsBalance};
+ghost use Rattle.cfb_directory.specs.cfb_siblings.Children.{KeepsBalance};
 ghost use Rattle.cfb_directory.specs.cfb_siblings.Laws.{grown_by};
 ghost use Rattle.cfb_sectors.specs.Sectors.{IsMediumError};
 ghost use Rattle.cfb_sectors.specs.declared.sector.SectorInit.TheVariants.{Dir};
@@ -24,8 +24,9 @@ ghost use Rattle.cfb_format.specs.Full.{max_entries};
 ghost use Rattle.cfb_entries.specs.EntryList.{InsertsEntry, has_free};
 ghost use Rattle.cfb_entries.specs.Insertions.{IsInsertionOf, name_in};
 ghost use Rattle.cfb_directory.specs.Growing.{ArePlaced, AreSectorsOf, IsListedChain, KeepsBounds, KeepsSlots};
+ghost use Rattle.cfb_directory.specs.Inserting.{CanInsert, InsertsObject, KeepsSectorsIfFree, SparesRest, WritesDirectory};
 ghost use Rattle.cfb_slots.specs.Slots.{IsLeastAbove};
-ghost use Rattle.cfb_directory.specs.State.{HoldsDirectory, IsFullForEntry, KeepsDirectoryHeader, KeepsDirectoryLimits, directory_bytes, directory_of, directory_version, with_room};
+ghost use Rattle.cfb_directory.specs.State.{HoldsDirectory, IsFullForEntry, KeepsDirectoryHeader, KeepsDirectoryLimits, directory_of, with_room};
 ghost use Rattle.cfb_directory.specs.Steps.{IsDirectoryNotHeld, KeepsOtherSlots, StaysRedApart, DirectoryStopsShort};
 
 use cfb_alloc::alloc::{Allocator, HeaderWord};
@@ -352,48 +353,23 @@ pub(crate) fn insert_entry<F: Medium, A: Heap + Clone>(
     moment: Timestamp,
 ) -> Result<u32, Error>
     requires above { IsLeastAbove sectors.old.items above.old }
-    requires parent { IsReachedStorage entries.old.cases entries.old.entries parent }
-    requires valid { IsTrue (is_valid_name (chars name.now)) }
-    requires absent { (list : List ℕ)
-        → HasChildren entries.old.cases entries.old.entries parent list
-        → IsAbsent entries.old.cases entries.old.entries (chars name.now) list }
-    requires kind { (kind ≡ Storage) ⊎ (kind ≡ Stream) }
+    requires possible { CanInsert (directory_of allocator.old sectors.old.items entries.old) parent
+        (chars name.now) kind }
     ensures above { IsLeastAbove sectors.new.items above.new }
-    ensures inserted { IfOk result (λ n. InsertsEntry entries.old.cases
-        (with_room (directory_of allocator.old sectors.old.items entries.old))
-        entries.new.entries parent n (new_entry (chars name.now) kind moment)) }
-    ensures balanced { OnOk result (KeepsBalance entries.old.entries entries.new.entries parent) }
-    ensures red_apart { OnOk result (StaysRedApart (directory_of allocator.old sectors.old.items
-        entries.old) (directory_of allocator.new sectors.new.items entries.new) parent) }
-    ensures kept { has_free entries.old.entries ≡ true
-        → (sectors.new.items ≡ sectors.old.items) × (allocator.new.tables ≡ allocator.old.tables) }
-    ensures lengthened { has_free entries.old.entries ≡ false → OnOk result (Lengthens
-        1 sectors.old.items sectors.new.items allocator.old.tables allocator.new.tables) }
-    ensures chain { IsListedChain allocator.old.tables sectors.old.items
-        → OnOk result (IsListedChain allocator.new.tables sectors.new.items) }
-    ensures holds { IsTrue F.tells → (validation : Validation)
-        → HoldsDirectory validation (directory_of allocator.old sectors.old.items entries.old)
-        → OnOk result
-        (HoldsDirectory validation (directory_of allocator.new sectors.new.items entries.new)) }
-    ensures spares { IsTrue F.tells → Spares sectors.old.items allocator.old allocator.new }
-    ensures header { IsTrue F.tells
-        → KeepsDirectoryHeader (directory_of allocator.old sectors.old.items entries.old)
+    ensures inserted { IfOk result (λ n.
+        InsertsObject (directory_of allocator.old sectors.old.items entries.old)
+        (directory_of allocator.new sectors.new.items entries.new)
+        parent n (chars name.now) kind moment) }
+    ensures kept { KeepsSectorsIfFree (directory_of allocator.old sectors.old.items entries.old)
         (directory_of allocator.new sectors.new.items entries.new) }
-    ensures count { IsTrue F.tells
-        → allocator.old.tables.version ≡ V4 → has_free entries.old.entries ≡ false
-        → OnOk result (word_at allocator.new.file.bytes 40 ≡ length sectors.new.items) }
-    ensures header_kept { IsTrue F.tells → has_free entries.old.entries ≡ true
-        → (i : ℕ) → i < 512 → i < length allocator.old.file.bytes
-        → slice_index allocator.new.file.bytes i ≡ slice_index allocator.old.file.bytes i }
-    ensures slots { IsTrue F.tells → (validation : Validation)
-        → HoldsDirectory validation (directory_of allocator.old sectors.old.items entries.old)
-        → KeepsOtherSlots parent (directory_of allocator.old sectors.old.items entries.old)
-        (directory_of allocator.new sectors.new.items entries.new) }
+    ensures written { IsTrue F.tells → OnOk result
+        (WritesDirectory (directory_of allocator.old sectors.old.items entries.old)
+        (directory_of allocator.new sectors.new.items entries.new)) }
+    ensures spared { IsTrue F.tells
+        → SparesRest (directory_of allocator.old sectors.old.items entries.old)
+        (directory_of allocator.new sectors.new.items entries.new) parent }
     ensures limits { KeepsDirectoryLimits (directory_of allocator.old sectors.old.items entries.old)
         (directory_of allocator.new sectors.new.items entries.new) }
-    ensures begun { OnOk result (allocator.new.file.begun ≡ true) }
-    ensures enough { OnOk result
-        (IsFullForEntry (directory_of allocator.old sectors.old.items entries.old) → ⊥) }
     ensures refused { IfErr result (DirectoryStopsShort (directory_of allocator.old
         sectors.old.items entries.old) (directory_of allocator.new sectors.new.items entries.new)) }
     ensures err { IfErr result (ChangeRefused

@@ -22,7 +22,7 @@ use Rattle.cfb_entry_changes.proofs.cfb_trees.Joined.{insertion-keeps-outline}
 use Rattle.cfb_entry_changes.proofs.cfb_trees.Members.{streams-are-by-kind}
 use Rattle.cfb_entry_changes.proofs.cfb_trees.Same.{growth-keeps-outline, same-fields}
 use Rattle.cfb_entry_changes.proofs.cfb_trees.Streams.{insertion-keeps-streams}
-use Rattle.cfb_entry_changes.specs.cfb_entries.EntryList.{has_free}
+use Rattle.cfb_entry_changes.specs.cfb_entries.EntryList.{InsertsEntry, has_free}
 use Rattle.cfb_entry_changes.specs.cfb_directory.State.{with_room}
 use Rattle.cfb_entry_changes.proofs.cfb_directory.InsertWhole.{has-room, roomy-longer, roomy-same}
 use Rattle.cfb_entry_changes.proofs.cfb_directory.NamesFound.{inserted-is-found}
@@ -56,6 +56,9 @@ module _ (old new : MiniState) (parent n : ℕ) (name : List ℕ) (kind : ObjTyp
   abbrev entry : Entry
   entry = new_entry name kind moment
 
+  abbrev into : InsertsEntry (cases_of old) room (entries_of new) parent n entry
+  into = put.inserts.entry
+
   -- each number stands for the entry that it stood for
   pub same : (k : ℕ) → entry_at room k ≡ entry_at (entries_of old) k
   same k = roomy-same old.directory room refl k
@@ -65,10 +68,10 @@ module _ (old new : MiniState) (parent n : ℕ) (name : List ℕ) (kind : ObjTyp
 
   -- the new entry is as it was made, links and colour aside
   pub len-is : len_of new n ≡ 0
-  len-is = ap (λ (x : Entry). x.stream_len) put.entry.inserted.entry_kept
+  len-is = ap (λ (x : Entry). x.stream_len) into.inserted.entry_kept
 
   pub kind-is : (entry_at (entries_of new) n).obj_type ≡ kind
-  kind-is = ap (λ (x : Entry). x.obj_type) put.entry.inserted.entry_kept
+  kind-is = ap (λ (x : Entry). x.obj_type) into.inserted.entry_kept
 
   module _ (o : Outline) (is : IsOutline (cases_of old) (entries_of old) o) where
     pub roomy : IsOutline (cases_of old) room o
@@ -79,8 +82,8 @@ module _ (old new : MiniState) (parent n : ℕ) (name : List ℕ) (kind : ObjTyp
     reached = subst (λ (p : Outline). IsReached p parent) (IsOutline-unique (cases_of old) (entries_of old) put.storage.outline o put.storage.is is) put.storage.reached
 
     pub has-more : HasMore (cases_of old) (entries_of new) o n
-    has-more = insertion-keeps-outline (cases_of old) room (entries_of new) o parent n entry put.entry.before put.entry.behind roomy reached no-stream put.entry.was_free put.kinds refl
-        put.entry.inserted
+    has-more = insertion-keeps-outline (cases_of old) room (entries_of new) o parent n entry into.before into.behind roomy reached no-stream into.was_free put.kinds refl
+        into.inserted
 
     is-stream : (k : ℕ) → Contains (stream_numbers o) k → (entry_at (entries_of old) k).obj_type ≡ Stream
     is-stream k m = ((streams-are-by-kind (cases_of old) (entries_of old) o k is).0 m).1
@@ -88,9 +91,9 @@ module _ (old new : MiniState) (parent n : ℕ) (name : List ℕ) (kind : ObjTyp
     -- a stream of the tree keeps all but its links
     pub kept-links : (k : ℕ) → Contains (stream_numbers o) k → ButLinks (entry_at (entries_of old) k) (entry_at (entries_of new) k)
     kept-links k m = subst (λ (x : Entry). ButLinks x (entry_at (entries_of new) k)) (same k)
-        (elim (Contains-or (put.entry.before ++ put.entry.behind) k) [
-          | inl c ↦ put.entry.inserted.siblings_kept k c
-          | inr out ↦ ap unlinked (put.entry.inserted.others_kept k no_parent no_new out)
+        (elim (Contains-or (into.before ++ into.behind) k) [
+          | inl c ↦ into.inserted.siblings_kept k c
+          | inr out ↦ ap unlinked (into.inserted.others_kept k no_parent no_new out)
         ])
       where
         no_parent : k ≢ parent
@@ -98,7 +101,7 @@ module _ (old new : MiniState) (parent n : ℕ) (name : List ℕ) (kind : ObjTyp
 
         no_new : k ≢ n
         no_new e =
-            let clash : Unallocated ≡ Stream = sym put.entry.was_free ∙ ap (λ (x : Entry). x.obj_type) (same n) ∙ ap (λ (j : ℕ). (entry_at (entries_of old) j).obj_type) (sym e) ∙ is-stream k m in
+            let clash : Unallocated ≡ Stream = sym into.was_free ∙ ap (λ (x : Entry). x.obj_type) (same n) ∙ ap (λ (j : ℕ). (entry_at (entries_of old) j).obj_type) (sym e) ∙ is-stream k m in
             cc
 
     module _ (after : Outline) (new_is : IsOutline (cases_of new) (entries_of new) after) where
@@ -107,8 +110,8 @@ module _ (old new : MiniState) (parent n : ℕ) (name : List ℕ) (kind : ObjTyp
 
       -- the streams are those that were there, and the new one
       pub streams : (k : ℕ) → Contains (stream_numbers after) k ↔ (((k ≡ n) × (kind ≡ Stream)) ⊎ Contains (stream_numbers o) k)
-      streams = insertion-keeps-streams (cases_of old) room (entries_of new) o after parent n entry put.entry.before put.entry.behind roomy now reached no-stream put.entry.was_free
-          put.kinds refl put.entry.inserted
+      streams = insertion-keeps-streams (cases_of old) room (entries_of new) o after parent n entry into.before into.behind roomy now reached no-stream into.was_free
+          put.kinds refl into.inserted
 
       -- ---- balance
 
@@ -117,9 +120,9 @@ module _ (old new : MiniState) (parent n : ℕ) (name : List ℕ) (kind : ObjTyp
         | inl e ↦
             let own : IsBalanced (entries_of old) parent = subst (λ (j : ℕ). IsBalanced (entries_of old) j) e
             (was (subst (λ (j : ℕ). IsReached o j) (sym e) reached) (λ s. put.storage.kind (ap (λ (j : ℕ). (entry_at (entries_of old) j).obj_type) (sym e) ∙ s))) in
-            subst (λ (j : ℕ). IsBalanced (entries_of new) j) (sym e) (put.balanced own.0 own.1)
-        | inr ne ↦ insertion-keeps-balance (cases_of old) room (entries_of new) o after parent n entry put.entry.before put.entry.behind roomy now reached no-stream put.entry.was_free
-            put.kinds refl put.entry.inserted k ne there ns
+            subst (λ (j : ℕ). IsBalanced (entries_of new) j) (sym e) (put.inserts.balanced own.0 own.1)
+        | inr ne ↦ insertion-keeps-balance (cases_of old) room (entries_of new) o after parent n entry into.before into.behind roomy now reached no-stream into.was_free
+            put.kinds refl into.inserted k ne there ns
             (λ r kind. fields-keep-balance (entries_of old) room k (roomy-longer old.directory room refl) (λ j. same-fields (entry_at (entries_of old) j) (entry_at room j) (same j))
             (was r (λ s. kind (ap (λ (x : Entry). x.obj_type) (same k) ∙ s))))
       ]
@@ -144,7 +147,7 @@ put-is-new old new parent n name kind moment put = record {
 
 pub put-is-found : PutObjectIsFound
 put-is-found old new parent n name kind moment put first names before after is new_is there last =
-    let finds = inserted-is-found old.directory new.directory parent n (new_entry name kind moment) before after (parent_names (first ∷ names)) put.entry put.storage.kind refl is
+    let finds = inserted-is-found old.directory new.directory parent n (new_entry name kind moment) before after (parent_names (first ∷ names)) put.inserts.entry put.storage.kind refl is
     (subst (λ c. IsOutline c (entries_of new) after) put.limits.cases new_is) there in
     subst (λ c. number_from c (entries_of new) 0 after (first ∷ names) ≡ Some n) (sym put.limits.cases)
     (subst (λ (path : List (List ℕ)). number_from (cases_of old) (entries_of new) 0 after path ≡ Some n)
@@ -154,13 +157,13 @@ put-is-found old new parent n name kind moment put first names before after is n
 pub put-keeps-root : PutKeepsRoot
 put-keeps-root old new parent n name kind moment put =
     let root = ap (λ (x : Entry). x.obj_type) (same old new parent n name kind moment put 0) ∙ put.storage.is.root in
-    (inserted-root (cases_of old) (with_room old.directory) (entries_of new) parent n (new_entry name kind moment) put.entry.before put.entry.behind put.entry.inserted put.entry.was_free root).len
+    (inserted-root (cases_of old) (with_room old.directory) (entries_of new) parent n (new_entry name kind moment) put.inserts.entry.before put.inserts.entry.behind put.inserts.entry.inserted put.inserts.entry.was_free root).len
     ∙ ap (λ (x : Entry). x.stream_len) (same old new parent n name kind moment put 0)
 
 pub put-is-snug-mini : PutIsSnugMini
 put-is-snug-mini old new parent n name kind moment put =
     let root = ap (λ (x : Entry). x.obj_type) (same old new parent n name kind moment put 0) ∙ put.storage.is.root in
-    let kept = inserted-root (cases_of old) (with_room old.directory) (entries_of new) parent n (new_entry name kind moment) put.entry.before put.entry.behind put.entry.inserted put.entry.was_free root in
+    let kept = inserted-root (cases_of old) (with_room old.directory) (entries_of new) parent n (new_entry name kind moment) put.inserts.entry.before put.inserts.entry.behind put.inserts.entry.inserted put.inserts.entry.was_free root in
     kept-is-snug-mini old new put.limits.version put.mini
     (kept.start ∙ ap (λ (x : Entry). x.start_sector) (same old new parent n name kind moment put 0))
     (put-keeps-root old new parent n name kind moment put)
@@ -168,12 +171,12 @@ put-is-snug-mini old new parent n name kind moment put =
 pub put-grows-tightly : PutGrowsTightly
 put-grows-tightly old new parent n name kind moment put longer = either (has_free (entries_of old))
     (λ free. absurd (let same = ap (λ t. length t.fat) (put.kept free).1 in omega (arith, longer, same)))
-    (λ none. ((put.lengthened none).taken.none_free longer, (put.lengthened none).taken.limited longer))
+    (λ none. ((put.inserts.lengthened none).taken.none_free longer, (put.inserts.lengthened none).taken.limited longer))
 
 pub put-is-exact : PutIsExact
 put-is-exact old new parent n name kind moment put exact = either (has_free (entries_of old))
     (λ free. subst (λ t. AreExactTables t) (sym (put.kept free).1) exact)
-    (λ none. (put.lengthened none).taken.exact exact)
+    (λ none. (put.inserts.lengthened none).taken.exact exact)
 
 pub put-is-balanced : PutIsBalanced
 put-is-balanced old new parent n name kind moment put before after is new_is = balanced old new parent n name kind moment put before is after new_is

@@ -79,8 +79,8 @@ put-storage-joins-tree v old new parent n name kind moment writes storage names 
     let p = put-has-outline old new parent n name kind moment put in
     becomes v old new parent n name kind moment writes names o is at (storage_added_at (cases_of old) moment names)
     (storage-is-added (cases_of old) (with_room old.directory) (entries_of new) (content_of old) (content_of new) o p.0 names parent n (new_entry name kind moment)
-    put.entry.before put.entry.behind moment (roomy old new parent n name kind moment put o is) (now old new parent n name kind moment put o is p.0 p.1)
-    (at-room v old new parent n name kind moment writes names o is at) (no-stream old new parent n name kind moment put) put.entry.was_free put.entry.inserted
+    put.inserts.entry.before put.inserts.entry.behind moment (roomy old new parent n name kind moment put o is) (now old new parent n name kind moment put o is p.0 p.1)
+    (at-room v old new parent n name kind moment writes names o is at) (no-stream old new parent n name kind moment put) put.inserts.entry.was_free put.inserts.entry.inserted
     (readable-ignores-links (bytes_of new) (parts_of new)) (contents v old new parent n name kind moment writes names o is at) storage refl (sym last)
     (ap (λ (k : ObjType). storage_info (new_entry name k moment)) storage))
 
@@ -91,7 +91,7 @@ put-stream-joins-tree v old new parent n name kind moment writes stream names o 
     let empty = empty-content new (new_entry name kind moment) refl in
     becomes v old new parent n name kind moment writes names o is at (stream_added_at (cases_of old) names)
     (stream-is-added (cases_of old) (with_room old.directory) (entries_of new) (content_of old) (content_of new) o p.0 names parent n (new_entry name kind moment)
-    put.entry.before put.entry.behind (roomy old new parent n name kind moment put o is) (now old new parent n name kind moment put o is p.0 p.1)
-    (at-room v old new parent n name kind moment writes names o is at) (no-stream old new parent n name kind moment put) put.entry.was_free put.entry.inserted
+    put.inserts.entry.before put.inserts.entry.behind (roomy old new parent n name kind moment put o is) (now old new parent n name kind moment put o is p.0 p.1)
+    (at-room v old new parent n name kind moment writes names o is at) (no-stream old new parent n name kind moment put) put.inserts.entry.was_free put.inserts.entry.inserted
     (readable-ignores-links (bytes_of new) (parts_of new)) (contents v old new parent n name kind moment writes names o is at) stream (sym last)
     (λ i. record { state_bits = 0; len = 0; content = empty i }))

@@ -136,7 +136,7 @@ module _ (v : Validation) (old new : MiniState) (parent n : ℕ) (name : List �
         subst (λ (t : List ℕ). UseChanges (tables_in old).fat (used_sectors (parts_with old o)) t (used_sectors (parts_with new after))) (sym (ap (λ t. t.fat) kept.1))
         (nothing-changes (tables_in old).fat (used_sectors (parts_with old o)) (used_sectors (parts_with new after)) grows))
         (λ none.
-        let l = writes.put.lengthened none in
+        let l = writes.put.inserts.lengthened none in
         let more = gained old.directory.sectors new.directory.sectors in
         let fats = l.taken.fats in
         let difats = l.taken.difats in

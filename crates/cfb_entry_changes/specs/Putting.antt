@@ -1,32 +1,25 @@
 -- A new object in the directory of a file, by what the layers below say of it (MS-CFB 2.6).
-use Rattle.std.specs.Prelude.{ℕ, ◌≡◌, ◌⊎◌, List, true, false}
+use Rattle.std.specs.Prelude.{ℕ, ◌≡◌, ◌⊎◌, List}
 use Rattle.cfb_format.specs.declared.objtype.ObjType.{ObjType}
 use Rattle.cfb_format.specs.declared.objtype.ObjType.TheVariants.{Storage, Stream}
 use Rattle.cfb_format.specs.declared.validate.Validation.{Validation}
-use Rattle.cfb_entry_changes.specs.cfb_codecs.EntryModel.{new_entry}
 use Rattle.cfb_format.specs.Reading.{IsOutline, Outline}
 use Rattle.cfb_format.specs.Siblings.{entry_at}
 use Rattle.cfb_entry_changes.specs.cfb_outline.Outlines.{IsReachedStorage}
-use Rattle.cfb_entry_changes.specs.cfb_siblings.Children.{KeepsBalance}
 use Rattle.cfb_entry_changes.specs.cfb_alloc.Frame.{Spares}
-use Rattle.cfb_entry_changes.specs.cfb_alloc.ListedChain.{Lengthens}
-use Rattle.cfb_entry_changes.specs.cfb_entries.EntryList.{InsertsEntry, has_free}
-use Rattle.cfb_entry_changes.specs.cfb_directory.State.{with_room}
-use Rattle.cfb_entry_changes.specs.cfb_mini_sectors.State.{HoldsMini, IsChangeable, MiniState, cases_of, entries_of, table_of, tables_in}
+use Rattle.cfb_entry_changes.specs.cfb_directory.Inserting.{InsertsObject, KeepsSectorsIfFree}
+use Rattle.cfb_entry_changes.specs.cfb_mini_sectors.State.{HoldsMini, IsChangeable, MiniState, cases_of, entries_of, table_of}
 use Rattle.cfb_entry_changes.specs.cfb_mini_sectors.Steps.{KeepsLimits, KeepsMini}
 use Rattle.cfb_entry_changes.specs.cfb_trees.Reached.{IsReached}
 use Rattle.cfb_content.specs.Contents.{len_of}
 
--- in memory an empty object of that name and kind was put into the free slot n, and among the children of the storage `parent`, which are in
--- balance still if they were. Where no slot was free the directory got one sector more, and else it has the sectors that it had; the mini
+-- in memory an empty object of that name and kind was put into the free slot n, and among the children of the storage `parent`; the mini
 -- sectors and the limits stay
 pub record PutsObject (old new : MiniState) (parent n : ℕ) (name : List ℕ) (kind : ObjType) (moment : ℕ) : Type 0 where
   pub storage : IsReachedStorage (cases_of old) (entries_of old) parent
   pub kinds : (kind ≡ Storage) ⊎ (kind ≡ Stream)
-  pub entry : InsertsEntry (cases_of old) (with_room old.directory) (entries_of new) parent n (new_entry name kind moment)
-  pub balanced : KeepsBalance (entries_of old) (entries_of new) parent
-  pub kept : has_free (entries_of old) ≡ true → (new.directory.sectors ≡ old.directory.sectors) × (tables_in new ≡ tables_in old)
-  pub lengthened : has_free (entries_of old) ≡ false → Lengthens 1 old.directory.sectors new.directory.sectors (tables_in old) (tables_in new)
+  pub inserts : InsertsObject old.directory new.directory parent n name kind moment
+  pub kept : KeepsSectorsIfFree old.directory new.directory
   pub mini : KeepsMini old new
   pub limits : KeepsLimits old new
 

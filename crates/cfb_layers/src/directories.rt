@@ -1,7 +1,7 @@
 //! Lines on the directory of a file. A path is a name in the root, or that of a storage there and a name in it, with a slash between.
-ghost use Rattle.std.specs.Prelude.{◌≡◌, ◌≢◌, ◌<◌, false, length, IsTrue, IfOk};
+ghost use Rattle.std.specs.Prelude.{◌≡◌, ◌≢◌, ◌⊎◌, ◌<◌, false, length, IsTrue, IfOk};
 ghost use Rattle.cfb_codecs.specs.EntryModel.{entries_of as entries_of_all};
-ghost use Rattle.cfb_format.specs.declared.objtype.ObjType.TheVariants.{Stream};
+ghost use Rattle.cfb_format.specs.declared.objtype.ObjType.TheVariants.{Storage, Stream};
 ghost use Rattle.cfb_format.specs.Siblings.{entry_at};
 ghost use Rattle.cfb_outline.specs.Outlines.{IsReachedStorage};
 ghost use Rattle.cfb_layers.specs.cfb_mini_sectors.State.{cases_of, entries_of};
@@ -60,6 +60,16 @@ pub fn storage_at<F: ReadMedium, A: Heap>(
     Ok(number)
 }
 
+/// The kind of what is put.
+fn kind_of(wants_stream: bool) -> ObjType
+    ensures { (result ≡ Storage) ⊎ (result ≡ Stream) }
+{
+    if wants_stream {
+        return ObjType::Stream;
+    }
+    ObjType::Storage
+}
+
 /// Puts a stream or a storage of this name into the storage at these names. `NotFound` where there is no such storage, and
 /// `AlreadyExists` where it has the name.
 fn put<F: Medium, A: Heap + Clone>(
@@ -75,12 +85,7 @@ fn put<F: Medium, A: Heap + Clone>(
         None => {}
         Some(_) => return Err(Error::AlreadyExists(Detail::text("the name is there"))),
     }
-    let moment = Timestamp::zero();
-    if wants_stream {
-        mini.insert_dir_entry(parent, name, ObjType::Stream, moment)
-    } else {
-        mini.insert_dir_entry(parent, name, ObjType::Storage, moment)
-    }
+    mini.insert_dir_entry(parent, name, kind_of(wants_stream), Timestamp::zero())
 }
 
 /// Whether a child hangs at the entry.

@@ -2,6 +2,7 @@
 use Rattle.std.proofs.Common.{◌≡◌, ◌≢◌, ◌⊎◌, ◌<◌, ◌≤◌, ◌+◌, ◌*◌, ◌/◌, inl, inr, ℕ, List, [], ◌++◌, true, false, refl, sym, ◌∙◌, ap, subst, length, take, arith}
 use Rattle.std.specs.Prelude.{Bool, Contains, Err, IfOk, Ok, OnOk, Result, nat_eq, slice_index}
 use Rattle.std.specs.List.{IsDistinct}
+use Rattle.cfb_format.specs.declared.objtype.ObjType.{ObjType}
 use Rattle.cfb_format.specs.declared.version.Version.{Version}
 use Rattle.cfb_format.specs.declared.version.Version.TheVariants.{V3, V4}
 use Rattle.cfb_format.specs.declared.validate.Validation.{Validation}
@@ -12,11 +13,12 @@ use Rattle.cfb_format.specs.Full.{max_mini_sectors}
 use Rattle.cfb_format.specs.Reading.{Outline, minifat_words, numbers}
 use Rattle.cfb_format.specs.DirectoryEntry.{Entry}
 use Rattle.cfb_format.specs.Siblings.{entry_at}
+use Rattle.cfb_codecs.specs.EntryModel.{new_entry}
 use Rattle.cfb_mini.specs.cfb_outline.Outlines.{HasInside, IsReachedStorage}
 use Rattle.cfb_mini.specs.cfb_entries.Clearing.{HasCleared}
 use Rattle.cfb_mini.specs.cfb_entries.declared.fields.Fields.{Fields}
 use Rattle.cfb_mini.specs.cfb_entries.Fields.{entries_with_fields, entry_with_fields}
-use Rattle.cfb_mini.specs.cfb_entries.EntryList.{InsertsEntry, RemovesEntry, has_free}
+use Rattle.cfb_mini.specs.cfb_entries.EntryList.{RemovesEntry, has_free}
 use Rattle.cfb_mini.specs.cfb_tables.Changes.{AreDisjoint}
 use Rattle.cfb_mini.specs.cfb_tables.Listed.{gained}
 use Rattle.cfb_mini.specs.cfb_tables.Tables.{AreSizes, first_or_end, sizes_of}
@@ -27,6 +29,7 @@ use Rattle.cfb_mini.specs.cfb_alloc.Frame.{Spares}
 use Rattle.cfb_mini.specs.cfb_alloc.ListedChain.{Lengthens}
 use Rattle.cfb_mini.proofs.cfb_alloc.Frames.{other-chains-spared}
 use Rattle.cfb_sectors.proofs.WordLemmas.{word_same}
+use Rattle.cfb_mini.specs.cfb_directory.Inserting.{InsertsObject, KeepsSectorsIfFree, SparesRest, WritesDirectory}
 use Rattle.cfb_mini.specs.cfb_directory.State.{DirectoryState, HoldsDirectory, IsKeptHeaderByte, KeepsDirectoryHeader, with_room}
 use Rattle.cfb_mini.specs.cfb_directory.Steps.{KeepsWholeHeader}
 use Rattle.cfb_mini.proofs.cfb_directory.ChangedFields.{changed_beside, changed_here}
@@ -172,26 +175,23 @@ held-rewritten validation s d h held spares header root same =
     (subst (λ (l : List ℕ). IsDistinct nat_eq (l ++ s.minifat_sectors ++ mini_stream_of s)) (sym same) h.apart)
 
 -- a new entry came: what the calls of the directory say of it is enough
-pub inserted-holds : {E : Type 0} (r : Result ℕ E) (validation : Validation) (s : MiniState) (d : DirectoryState) (parent : ℕ) (entry : Entry) → HoldsMini validation s
-    → IsReachedStorage s.directory.cases s.directory.entries parent → OnOk r (HoldsDirectory validation d)
-    → Spares s.directory.sectors (table_of s) d.table → KeepsDirectoryHeader s.directory d
-    → IfOk r (λ n. InsertsEntry s.directory.cases (with_room s.directory) d.entries parent n entry)
-    → (has_free s.directory.entries ≡ true → (d.sectors ≡ s.directory.sectors) × (d.table.tables ≡ tables_in s))
-    → (has_free s.directory.entries ≡ false → OnOk r (Lengthens 1 s.directory.sectors d.sectors (tables_in s) d.table.tables))
-    → OnOk r (HoldsMini validation (with_directory s d))
-inserted-holds (Err e) validation s d parent entry h p held spares header inserts kept longer = tt
-inserted-holds (Ok n) validation s d parent entry h p held spares header inserts kept longer =
+pub inserted-holds : {E : Type 0} (r : Result ℕ E) (validation : Validation) (s : MiniState) (d : DirectoryState) (parent : ℕ) (name : List ℕ) (kind : ObjType) (moment : ℕ)
+    → HoldsMini validation s → IsReachedStorage s.directory.cases s.directory.entries parent → IfOk r (λ n. InsertsObject s.directory d parent n name kind moment)
+    → KeepsSectorsIfFree s.directory d → OnOk r (WritesDirectory s.directory d) → SparesRest s.directory d parent → OnOk r (HoldsMini validation (with_directory s d))
+inserted-holds (Err e) validation s d parent name kind moment h p inserts kept written spared = tt
+inserted-holds (Ok n) validation s d parent name kind moment h p inserts kept written spared =
     let old = s.directory in
     let room = with_room old in
+    let put = inserts.entry in
     let same : entry_at room 0 ≡ entry_at old.entries 0 = roomy-same old room refl 0 in
     let root : SameContent (entry_at old.entries 0) (entry_at d.entries 0) =
     subst (λ (e : Entry). SameContent e (entry_at d.entries 0)) same
-    (inserted-root old.cases room d.entries parent n entry inserts.before inserts.behind inserts.inserted inserts.was_free (ap (λ (e : Entry). e.obj_type) same ∙ p.is.root)) in
-    held-inserted validation s d h held spares header root (go (has_free old.entries) refl)
+    (inserted-root old.cases room d.entries parent n (new_entry name kind moment) put.before put.behind put.inserted put.was_free (ap (λ (e : Entry). e.obj_type) same ∙ p.is.root)) in
+    held-inserted validation s d h (written.holds validation h.directory) spared.spares spared.header root (go (has_free old.entries) refl)
   where
     go : (b : Bool) → has_free s.directory.entries ≡ b → (d.sectors ≡ s.directory.sectors) ⊎ Lengthens 1 s.directory.sectors d.sectors (tables_in s) d.table.tables
     go true free = inl (kept free).0
-    go false full = inr (longer full)
+    go false full = inr (inserts.lengthened full)
 
 -- an entry went
 pub removed-holds : {T E : Type 0} (r : Result T E) (validation : Validation) (s : MiniState) (d : DirectoryState) (parent : ℕ) (name : List ℕ) → HoldsMini validation s

@@ -1,8 +1,7 @@
 //! The allocator of mini sectors (MS-CFB 2.4): mini chains are begun, extended, cut and freed, in the MiniFAT, in the mini stream and in
 //! the root's entry.
-ghost use Rattle.std.specs.Prelude.{◌≡◌, ◌≢◌, ◌↔◌, ◌⊎◌, ℕ, ◌+◌, ◌-◌, ◌/◌, ◌%◌, ◌^◌, ◌<◌, ◌≤◌, ◌∷◌, ◌++◌, List, [], Option, length, map, max, min, chars, take, drop, true, false, Contains, IsTrue, MatchOption, vec_len, option_map, unwrap_or, IfOk, IfErr, IfSome, IsErrAnd, OnOk, OnErr, slice_index};
-ghost use Rattle.cfb_format.specs.declared.objtype.ObjType.TheVariants.{Root, Storage, Stream};
-ghost use Rattle.cfb_format.specs.declared.version.Version.TheVariants.{V4};
+ghost use Rattle.std.specs.Prelude.{◌≡◌, ◌≢◌, ◌↔◌, ◌⊎◌, ℕ, ◌+◌, ◌-◌, ◌/◌, ◌%◌, ◌^◌, ◌<◌, ◌≤◌, ◌∷◌, ◌++◌, List, [], Option, length, map, max, min, chars, take, drop, true, false, Contains, IsTrue, MatchOption, vec_len, option_map, unwrap_or, IfOk, IfErr, IfSome, IsErrAnd, OnOk, OnErr};
+ghost use Rattle.cfb_format.specs.declared.objtype.ObjType.TheVariants.{Root};
 ghost use Rattle.cfb_format.specs.declared.validate.Validation.{Validation};
 ghost use Rattle.cfb_format.specs.Bytes.{end_of_chain, max_regular_sector, no_stream, sector_len, word_at};
 ghost use Rattle.cfb_format.specs.Chain.{IsChain, value};
@@ -11,11 +10,10 @@ ghost use Rattle.cfb_format.specs.DirectoryEntry.{IsValidEntry};
 ghost use Rattle.cfb_format.specs.Full.{max_mini_sectors};
 ghost use Rattle.cfb_format.specs.Header.{IfStrict};
 ghost use Rattle.cfb_format.specs.Medium.{ChangesOnlyBytes, part, written};
-ghost use Rattle.cfb_format.specs.Names.{is_valid_name};
 ghost use Rattle.cfb_format.specs.Reading.{IsOutline, Outline, numbers};
 ghost use Rattle.cfb_format.specs.Refused.{AfterMedium, CountsFailure, IsInvalidData, IsInvalidOrMemory, IsMemory};
 ghost use Rattle.cfb_format.specs.Siblings.{entry_at};
-ghost use Rattle.cfb_codecs.specs.EntryModel.{entry_of, new_entry};
+ghost use Rattle.cfb_codecs.specs.EntryModel.{entry_of};
 ghost use Rattle.cfb_codecs.specs.EntryModel.{entries_of as entries_in};
 ghost use Rattle.cfb_mini.specs.cfb_outline.Outlines.{IsReachedStorage};
 ghost use Rattle.cfb_mini.specs.cfb_siblings.Children.{HasChildren, IsAbsent, IsChildNamed, KeepsBalance};
@@ -29,14 +27,13 @@ ghost use Rattle.cfb_mini.specs.cfb_tables.Tables.{Extended, ExtendsFrom, GivesB
 ghost use Rattle.cfb_mini.specs.cfb_alloc.Alloc.{ChangesSectors, HoldsTables, IsAsFilled, IsUsable, OthersStay};
 ghost use Rattle.cfb_mini.specs.cfb_alloc.Broken.{BreaksOff};
 ghost use Rattle.cfb_mini.specs.cfb_alloc.Frame.{Spares};
-ghost use Rattle.cfb_mini.specs.cfb_alloc.ListedChain.{Lengthens};
 ghost use Rattle.cfb_mini.specs.cfb_entries.declared.fields.Fields.{Fields};
-ghost use Rattle.cfb_mini.specs.cfb_entries.EntryList.{AreInOrder, InsertsEntry, RemovesEntry, has_free};
+ghost use Rattle.cfb_mini.specs.cfb_entries.EntryList.{AreInOrder, RemovesEntry};
 ghost use Rattle.cfb_mini.specs.cfb_entries.Fields.{fields_in, entry_with_fields, entries_with_fields};
-ghost use Rattle.cfb_mini.specs.cfb_directory.Growing.{ArePlaced, IsListedChain};
+ghost use Rattle.cfb_mini.specs.cfb_directory.Growing.{ArePlaced};
+ghost use Rattle.cfb_mini.specs.cfb_directory.Inserting.{CanInsert, InsertsObject, KeepsSectorsIfFree, SparesRest, WritesDirectory};
 ghost use Rattle.cfb_mini.specs.cfb_slots.Slots.{IsLeastAbove};
-ghost use Rattle.cfb_mini.specs.cfb_directory.State.{HoldsDirectory, IsFullForEntry, with_room};
-ghost use Rattle.cfb_mini.specs.cfb_directory.State.{KeepsDirectoryHeader};
+ghost use Rattle.cfb_mini.specs.cfb_directory.State.{HoldsDirectory, IsFullForEntry};
 ghost use Rattle.cfb_mini.specs.cfb_directory.Steps.{KeepsOtherSlots, KeepsSlotsBut, KeepsWholeHeader, StaysRedApart};
 ghost use Rattle.cfb_mini.specs.cfb_directory.Steps.{IsDirectoryNotHeld};
 ghost use Rattle.cfb_mini.specs.cfb_mini_table.MiniTable.{AcceptsMini, IsTooFewMini, MiniGivesBack, TakesMini, read_entries};
@@ -835,45 +832,18 @@ impl<F: Medium, A: Heap + Clone> MiniAllocator<F, A> {
         kind: ObjType,
         moment: Timestamp,
     ) -> Result<u32, Error>
-        requires parent { IsReachedStorage self.old.directory.cases self.old.directory.entries parent }
-        requires valid { IsTrue (is_valid_name (chars name.now)) }
-        requires absent { (list : List ℕ)
-            → HasChildren self.old.directory.cases self.old.directory.entries parent list
-            → IsAbsent self.old.directory.cases self.old.directory.entries (chars name.now) list }
-        requires kind { (kind ≡ Storage) ⊎ (kind ≡ Stream) }
-        ensures inserted { IfOk result (λ n.
-            InsertsEntry self.old.directory.cases (with_room self.old.directory)
-            self.new.directory.entries parent n (new_entry (chars name.now) kind moment)) }
-        ensures balanced { OnOk result
-            (KeepsBalance self.old.directory.entries self.new.directory.entries parent) }
-        ensures red_apart { OnOk result
-            (StaysRedApart self.old.directory self.new.directory parent) }
-        ensures kept { has_free self.old.directory.entries ≡ true → (self.new.directory.sectors
-            ≡ self.old.directory.sectors) × (tables_in self.new ≡ tables_in self.old) }
-        ensures lengthened { has_free self.old.directory.entries ≡ false
-            → OnOk result (Lengthens 1 self.old.directory.sectors self.new.directory.sectors
-            (tables_in self.old) (tables_in self.new)) }
-        ensures chain { IsListedChain (tables_in self.old) self.old.directory.sectors
-            → OnOk result (IsListedChain (tables_in self.new) self.new.directory.sectors) }
+        requires { CanInsert self.old.directory parent (chars name.now) kind }
+        ensures inserted { IfOk result (λ n. InsertsObject self.old.directory self.new.directory
+            parent n (chars name.now) kind moment) }
+        ensures kept { KeepsSectorsIfFree self.old.directory self.new.directory }
+        ensures written { IsTrue F.tells
+            → OnOk result (WritesDirectory self.old.directory self.new.directory) }
         ensures holds { IsTrue F.tells → (validation : Validation)
             → HoldsMini validation self.old → OnOk result (HoldsMini validation self.new) }
-        ensures spares { IsTrue F.tells
-            → Spares self.old.directory.sectors (table_of self.old) (table_of self.new) }
-        ensures header { IsTrue F.tells
-            → KeepsDirectoryHeader self.old.directory self.new.directory }
-        ensures header_kept { IsTrue F.tells → has_free self.old.directory.entries ≡ true
-            → (i : ℕ) → i < 512 → i < length (bytes_of self.old)
-            → slice_index (bytes_of self.new) i ≡ slice_index (bytes_of self.old) i }
-        ensures count { IsTrue F.tells
-            → version_of self.old ≡ V4 → has_free self.old.directory.entries ≡ false
-            → OnOk result (word_at (bytes_of self.new) 40 ≡ length self.new.directory.sectors) }
-        ensures slots { IsTrue F.tells
-            → (validation : Validation) → HoldsDirectory validation self.old.directory
-            → KeepsOtherSlots parent self.old.directory self.new.directory }
+        ensures spared { IsTrue F.tells
+            → SparesRest self.old.directory self.new.directory parent }
         ensures limits { KeepsLimits self.old self.new }
         ensures mini { KeepsMini self.old self.new }
-        ensures begun { OnOk result ((table_of self.new).file.begun ≡ true) }
-        ensures enough { OnOk result (IsFullForEntry self.old.directory → ⊥) }
         ensures refused { IfErr result (StopsShort self.old self.new) }
         ensures err { IfErr result (ChangeRefused (IsDirectoryNotHeld self.old.directory)
             (IsFullForEntry self.old.directory → ⊥) (IsFullForEntry self.old.directory) Unit) }

@@ -56,7 +56,7 @@ put-at-end old new parent n name kind moment put all k now empty =
     let o = put.storage.outline in
     let is = put.storage.is in
     elim ((streams old new parent n name kind moment put o is now.outline now.is k).0 now.reached) [
-      | inl w ↦ ap (λ j. (entry_at (entries_of new) j).start_sector) w.0 ∙ ap (λ (x : Entry). x.start_sector) put.entry.inserted.entry_kept
+      | inl w ↦ ap (λ j. (entry_at (entries_of new) j).start_sector) w.0 ∙ ap (λ (x : Entry). x.start_sector) put.inserts.entry.inserted.entry_kept
           ∙ ap (λ (t : ObjType). unless_storage t end_of_chain) w.1
       | inr c ↦
           let links = kept-links old new parent n name kind moment put o is k c in

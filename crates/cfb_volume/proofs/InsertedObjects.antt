@@ -10,16 +10,13 @@ use Rattle.cfb_format.specs.declared.validate.Validation.TheVariants.{Permissive
 use Rattle.cfb_format.specs.Full.{IsFull}
 use Rattle.cfb_format.specs.Reading.{IsOutline, Outline}
 use Rattle.cfb_format.specs.Refused.{AfterMedium, IsBreak}
-use Rattle.cfb_codecs.specs.EntryModel.{new_entry}
 use Rattle.cfb_outline.specs.Outlines.{IsReachedStorage}
 use Rattle.cfb_volume.specs.cfb_rules.Finding.{last_name, parent_names}
-use Rattle.cfb_volume.specs.cfb_siblings.Children.{KeepsBalance}
 use Rattle.cfb_volume.specs.cfb_siblings.Paths.{number_from}
 use Rattle.cfb_volume.specs.cfb_tables.Refused.{ChangeRefused}
 use Rattle.cfb_volume.specs.cfb_alloc.Frame.{Spares}
-use Rattle.cfb_volume.specs.cfb_alloc.ListedChain.{Lengthens}
-use Rattle.cfb_volume.specs.cfb_entries.EntryList.{InsertsEntry, has_free}
-use Rattle.cfb_volume.specs.cfb_directory.State.{IsFullForEntry, with_room}
+use Rattle.cfb_volume.specs.cfb_directory.Inserting.{InsertsObject, KeepsSectorsIfFree}
+use Rattle.cfb_volume.specs.cfb_directory.State.{IsFullForEntry}
 use Rattle.cfb_volume.specs.cfb_directory.Steps.{IsDirectoryNotHeld}
 use Rattle.cfb_volume.specs.cfb_objects.Laws.{BecomesTree}
 use Rattle.cfb_volume.proofs.cfb_objects.Balance.{all-stay-balanced}
@@ -58,20 +55,14 @@ same-file start mid now sound limit file view e i = record { base = sym e i; is_
 
 -- what the layers below say of themselves, said of those of the file
 pub puts-object : (start s mid : MiniState) (parent n : ℕ) (name : List ℕ) (kind : ObjType) (moment : ℕ) → start ≡ s
-    → IsReachedStorage (cases_of s) (entries_of s) parent → (kind ≡ Storage) ⊎ (kind ≡ Stream)
-    → InsertsEntry (cases_of start) (with_room start.directory) (entries_of mid) parent n (new_entry name kind moment)
-    → KeepsBalance (entries_of start) (entries_of mid) parent
-    → (has_free (entries_of start) ≡ true → (mid.directory.sectors ≡ start.directory.sectors) × (tables_in mid ≡ tables_in start))
-    → (has_free (entries_of start) ≡ false → Lengthens 1 start.directory.sectors mid.directory.sectors (tables_in start) (tables_in mid))
-    → KeepsMini start mid → KeepsLimits start mid → PutsObject s mid parent n name kind moment
-puts-object start s mid parent n name kind moment e storage kinds entry balanced kept lengthened mini limits =
+    → IsReachedStorage (cases_of s) (entries_of s) parent → (kind ≡ Storage) ⊎ (kind ≡ Stream) → InsertsObject start.directory mid.directory parent n name kind moment
+    → KeepsSectorsIfFree start.directory mid.directory → KeepsMini start mid → KeepsLimits start mid → PutsObject s mid parent n name kind moment
+puts-object start s mid parent n name kind moment e storage kinds inserts kept mini limits =
     subst (λ (x : MiniState). PutsObject x mid parent n name kind moment) e (record {
       storage = subst (λ (x : MiniState). IsReachedStorage (cases_of x) (entries_of x) parent) (sym e) storage;
       kinds = kinds;
-      entry = entry;
-      balanced = balanced;
+      inserts = inserts;
       kept = kept;
-      lengthened = lengthened;
       mini = mini;
       limits = limits;
     })
@@ -109,7 +100,7 @@ module _ (old : FileState) (mid : MiniState) (parent n : ℕ) (name : List ℕ) 
       made-flagged mid (table_of mid).file.failures false (record {
         changeable = put-is-changeable Strict old.base mid parent n name kind moment all;
         tidy = record {
-          whole = put-whole Strict old.base mid held put.kept put.lengthened spares.no_shorter made.tidy.whole;
+          whole = put-whole Strict old.base mid held put.kept put.inserts.lengthened spares.no_shorter made.tidy.whole;
           counted = counted;
           ended = put-at-end old.base mid parent n name kind moment put made.tidy.ended;
         };

@@ -27,17 +27,17 @@ use Rattle.cfb_volume.proofs.cfb_resizing.Tightness.{taken-stays-full}
 
 module _ (old new : MiniState) (parent n : ℕ) (name : List ℕ) (kind : ObjType) (moment : ℕ) (put : PutsObject old new parent n name kind moment) where
   pub put-is-childless : (entry_at (entries_of new) n).child ≡ no_stream
-  put-is-childless = ap (λ (e : Entry). e.child) put.entry.inserted.entry_kept
+  put-is-childless = ap (λ (e : Entry). e.child) put.inserts.entry.inserted.entry_kept
 
   pub put-no-shorter : length (tables_in old).fat ≤ length (tables_in new).fat
   put-no-shorter = either (has_free (entries_of old))
       (λ free. let same = ap (λ (t : TableState). length t.fat) (put.kept free).1 in omega (arith, same))
-      (λ none. (put.lengthened none).taken.longer)
+      (λ none. (put.inserts.lengthened none).taken.longer)
 
   pub put-stays-full : NoneFree (tables_in old).fat → NoneFree (tables_in new).fat
   put-stays-full full = either (has_free (entries_of old))
       (λ free. subst (λ (t : TableState). NoneFree t.fat) (sym (put.kept free).1) full)
-      (λ none. taken-stays-full (tables_in old) (tables_in new) _ _ (put.lengthened none).taken full)
+      (λ none. taken-stays-full (tables_in old) (tables_in new) _ _ (put.inserts.lengthened none).taken full)
 
   -- a slot that was free, or one of a sector that came behind the directory
   pub put-takes-slot : TakesSlot old (ended new)
@@ -64,6 +64,6 @@ module _ (old new : MiniState) (parent n : ℕ) (name : List ℕ) (kind : ObjTyp
   pub put-keeps-found : KeepsFound old new
   put-keeps-found before after is new_is names k at =
       let there = reached-is-found (cases_of old) (entries_of old) before parent is (reached old new parent n name kind moment put before is) in
-      let finds = inserted-is-found old.directory new.directory parent n (new_entry name kind moment) before after there.0 put.entry put.storage.kind refl is
+      let finds = inserted-is-found old.directory new.directory parent n (new_entry name kind moment) before after there.0 put.inserts.entry put.storage.kind refl is
       (subst (λ c. IsOutline c (entries_of new) after) put.limits.cases new_is) there.1 in
       subst (λ c. number_from c (entries_of new) 0 after names ≡ Some k) (sym put.limits.cases) (finds.kept names k at)

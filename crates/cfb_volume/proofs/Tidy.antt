@@ -1,20 +1,19 @@
 -- The file is tidy still, whatever became of the entries: the header counts the directory's sectors, and the file is a whole number of them.
-use Rattle.std.proofs.Common.{◌≡◌, ◌<◌, ◌≤◌, ℕ, List, true, false, sym, ◌∙◌, ap, subst, length, arith}
-use Rattle.std.specs.Prelude.{Contains, slice_index}
+use Rattle.std.proofs.Common.{◌≡◌, ◌≤◌, ℕ, List, false, sym, ◌∙◌, ap, subst, length, arith}
+use Rattle.std.specs.Prelude.{Contains}
 use Rattle.std.proofs.lemmas.List.Elements.{Contains-append_right}
 use Rattle.cfb_format.specs.declared.validate.Validation.{Validation}
-use Rattle.cfb_format.specs.declared.version.Version.TheVariants.{V4}
 use Rattle.cfb_volume.specs.cfb_tables.Listed.{ends_of, gained}
 use Rattle.cfb_volume.specs.cfb_tables.Tables.{TableState}
 use Rattle.cfb_volume.specs.cfb_alloc.Frame.{Spares}
 use Rattle.cfb_volume.specs.cfb_alloc.ListedChain.{Lengthens}
 use Rattle.cfb_volume.specs.cfb_entries.EntryList.{has_free}
+use Rattle.cfb_volume.specs.cfb_directory.Inserting.{KeepsSectorsIfFree, SparesRest, WritesDirectory}
 use Rattle.cfb_volume.specs.cfb_directory.Steps.{KeepsWholeHeader}
-use Rattle.cfb_volume.specs.cfb_mini_sectors.State.{HoldsMini, MiniState, bytes_of, entries_of, table_of, tables_in, version_of}
+use Rattle.cfb_volume.specs.cfb_mini_sectors.State.{HoldsMini, MiniState, bytes_of, entries_of, table_of, tables_in}
 use Rattle.cfb_volume.specs.cfb_mini_sectors.Steps.{KeepsLimits}
 use Rattle.cfb_volume.specs.cfb_mini.MiniSectors.{IsOfWholeSectors}
 use Rattle.cfb_volume.proofs.cfb_mini.WholeFiles.{same-whole, taken-whole}
-use Rattle.cfb_volume.specs.cfb_content.Contents.{dir_count_of}
 use Rattle.cfb_volume.proofs.cfb_content.DirCount.{count-stays}
 use Rattle.cfb_entry_changes.specs.Standing.{KeepsAllButEntries}
 use Rattle.cfb_entry_changes.proofs.Entries.{either}
@@ -38,18 +37,15 @@ slots-tidy v old new before after kept header spares = stays-tidy old new kept.l
 })
 
 -- where a new object came in: with a sector more the header says how many there are
-pub put-counted : (v : Validation) (old new : MiniState) → HoldsMini v old → KeepsLimits old new
-    → (has_free (entries_of old) ≡ true → (new.directory.sectors ≡ old.directory.sectors) × (tables_in new ≡ tables_in old))
-    → (has_free (entries_of old) ≡ true → (i : ℕ) → i < 512 → i < length (bytes_of old) → slice_index (bytes_of new) i ≡ slice_index (bytes_of old) i)
-    → (version_of old ≡ V4 → has_free (entries_of old) ≡ false → dir_count_of new ≡ length new.directory.sectors) → IsCounted old → IsCounted new
-put-counted v old new held limits kept header count counted four = either (has_free (entries_of old))
+pub put-counted : (v : Validation) (old new : MiniState) (parent : ℕ) → HoldsMini v old → KeepsLimits old new → KeepsSectorsIfFree old.directory new.directory
+    → WritesDirectory old.directory new.directory → SparesRest old.directory new.directory parent → IsCounted old → IsCounted new
+put-counted v old new parent held limits kept written spared counted four = either (has_free (entries_of old))
     (λ free. same-counted old new limits (kept free).0
-    (count-stays v old new held (λ i lt out. header free i (let low = below_words i out in omega (arith, low)) lt)) counted four)
-    (λ none. count (sym limits.version ∙ four) none)
+    (count-stays v old new held (λ i lt out. spared.header_kept free i (let low = below_words i out in omega (arith, low)) lt)) counted four)
+    (λ none. written.count (sym limits.version ∙ four) none)
 
 -- where a new object came in: the sector that the directory got is whole
-pub put-whole : (v : Validation) (old new : MiniState) → HoldsMini v new
-    → (has_free (entries_of old) ≡ true → (new.directory.sectors ≡ old.directory.sectors) × (tables_in new ≡ tables_in old))
+pub put-whole : (v : Validation) (old new : MiniState) → HoldsMini v new → KeepsSectorsIfFree old.directory new.directory
     → (has_free (entries_of old) ≡ false → Lengthens 1 old.directory.sectors new.directory.sectors (tables_in old) (tables_in new))
     → length (bytes_of old) ≤ length (bytes_of new) → IsOfWholeSectors (table_of old) → IsOfWholeSectors (table_of new)
 put-whole v old new held kept lengthened longer whole = either (has_free (entries_of old))

@@ -1,19 +1,24 @@
-use Rattle.std.proofs.Common.{subst}
-use Rattle.std.specs.Prelude.{OnOk}
-use Rattle.cfb_directory.specs.cfb_siblings.Children.{KeepsBalance}
-use Rattle.cfb_directory.specs.State.{DirectoryState, HoldsDirectory, IsFullForEntry}
-use Rattle.cfb_directory.specs.Steps.{KeepsOtherSlots}
+use Rattle.std.proofs.Common.{sym, subst}
+use Rattle.std.specs.Prelude.{IfOk, OnOk, chars}
+use Rattle.cfb_directory.specs.Inserting.{CanInsert, InsertsObject, SparesRest, WritesDirectory}
+use Rattle.cfb_directory.specs.State.{DirectoryState, directory_of}
 use Rattle.cfb_directory.proofs.directory.Directory.insert_dir_entry.Goals as goal
 
-pub returns-clause-balanced : goal.returns-clause-balanced
-returns-clause-balanced g c =
-    subst (λ (d : DirectoryState). OnOk c.insert_entry.result (KeepsBalance d.entries c.insert_entry.new.entries.entries c.args.parent)) c.self.view_is c.insert_entry.ensures.balanced
+pub insert_entry-requires-clause-possible : goal.insert_entry-requires-clause-possible
+insert_entry-requires-clause-possible g c = subst (λ (d : DirectoryState). CanInsert d c.args.parent (chars c.args.name.now) c.args.kind) (sym c.self.view_is) c.requires
 
-pub returns-clause-slots : goal.returns-clause-slots
-returns-clause-slots g c told validation =
-    subst (λ (d : DirectoryState). HoldsDirectory validation d
-    → KeepsOtherSlots c.args.parent d (record { table = c.insert_entry.new.allocator; sectors = c.insert_entry.new.sectors.items; cases = c.insert_entry.new.entries.cases; entries = c.insert_entry.new.entries.entries }))
-    c.self.view_is (c.insert_entry.ensures.slots told validation)
+pub returns-clause-inserted : goal.returns-clause-inserted
+returns-clause-inserted g c =
+    let new = directory_of c.insert_entry.new.allocator c.insert_entry.new.sectors.items c.insert_entry.new.entries in
+    subst (λ (d : DirectoryState). IfOk c.insert_entry.result (λ n. InsertsObject d new c.args.parent n (chars c.args.name.now) c.args.kind c.args.moment)) c.self.view_is
+    c.insert_entry.ensures.inserted
 
-pub returns-clause-enough : goal.returns-clause-enough
-returns-clause-enough g c = subst (λ (d : DirectoryState). OnOk c.insert_entry.result (IsFullForEntry d → ⊥)) c.self.view_is c.insert_entry.ensures.enough
+pub returns-clause-written : goal.returns-clause-written
+returns-clause-written g c told =
+    let new = directory_of c.insert_entry.new.allocator c.insert_entry.new.sectors.items c.insert_entry.new.entries in
+    subst (λ (d : DirectoryState). OnOk c.insert_entry.result (WritesDirectory d new)) c.self.view_is (c.insert_entry.ensures.written told)
+
+pub returns-clause-spared : goal.returns-clause-spared
+returns-clause-spared g c told =
+    let new = directory_of c.insert_entry.new.allocator c.insert_entry.new.sectors.items c.insert_entry.new.entries in
+    subst (λ (d : DirectoryState). SparesRest d new c.args.parent) c.self.view_is (c.insert_entry.ensures.spared told)

@@ -11,6 +11,7 @@ use Rattle.cfb_volume.specs.cfb_trees.Reached.{IsReached}
 use Rattle.cfb_volume.specs.cfb_tables.Changes.{NoneFree}
 use Rattle.cfb_volume.specs.cfb_tables.Refused.{ChangeRefused}
 use Rattle.cfb_volume.specs.cfb_alloc.Frame.{Spares}
+use Rattle.cfb_volume.specs.cfb_directory.Inserting.{CanInsert}
 use Rattle.cfb_volume.specs.cfb_directory.State.{IsFullForEntry}
 use Rattle.cfb_volume.specs.cfb_directory.Steps.{IsDirectoryNotHeld}
 use Rattle.cfb_volume.specs.cfb_objects.Laws.{BecomesTree}
@@ -30,6 +31,10 @@ use Rattle.cfb_volume.proofs.PutObjects.{put-is-childless, put-keeps-found, put-
 use Rattle.cfb_volume.proofs.InsertedObjects.{ended, header-ended, insert-holds, insert-keeps-streams, insert-made, insert-tree, puts-object, refused-agrees, refused-full, refused-reason, same-file, streams-ended}
 use Rattle.cfb_volume.proofs.volume.Volume.insert.Goals as goal
 
+pub insert_dir_entry-requires : goal.insert_dir_entry-requires
+insert_dir_entry-requires g c = subst (λ (f : FileState). CanInsert f.base.directory c.args.parent (chars c.args.name.now) c.args.kind) (sym c.self.view_is)
+    (record { storage = c.requires.parent; valid = c.requires.valid; absent = c.requires.absent; kinds = c.requires.kind })
+
 -- ---- refused
 
 pub returns-in_err-number-clause-others : goal.returns-in_err-number-clause-others
@@ -38,12 +43,12 @@ returns-in_err-number-clause-others g c told holds =
     let mid = c.insert_dir_entry.new.self in
     let e = ap (λ (f : FileState). f.base) c.self.view_is in
     insert-keeps-streams c.args.self.now mid c.requires.sound holds
-    (subst (λ (s : MiniState). Spares s.directory.sectors (table_of s) (table_of mid)) e (was.spares told)) (subst (λ (s : MiniState). KeepsMini s mid) e was.mini)
+    (subst (λ (s : MiniState). Spares s.directory.sectors (table_of s) (table_of mid)) e (was.spared told).spares) (subst (λ (s : MiniState). KeepsMini s mid) e was.mini)
 
 pub returns-in_err-number-clause-header : goal.returns-in_err-number-clause-header
 returns-in_err-number-clause-header g c told =
     let mid = c.insert_dir_entry.new.self in
-    subst (λ (f : FileState). KeepsFixedHeader f.base mid) c.self.view_is (spared-keeps-header _ c.self.inside.mini mid (c.insert_dir_entry.ensures.spares told))
+    subst (λ (f : FileState). KeepsFixedHeader f.base mid) c.self.view_is (spared-keeps-header _ c.self.inside.mini mid (c.insert_dir_entry.ensures.spared told).spares)
 
 pub returns-in_err-number-clause-agrees : goal.returns-in_err-number-clause-agrees
 returns-in_err-number-clause-agrees g c told holds =
@@ -79,7 +84,7 @@ returns-clause-named g c =
     let w = c.in_ok-number.ensures in
     let mid = c.insert_dir_entry.new.self in
     let put = puts-object c.self.inside.mini c.args.self.now.base mid c.args.parent c.in_ok-number.number (chars c.args.name.now) c.args.kind c.args.moment
-    (ap (λ (f : FileState). f.base) c.self.view_is) c.requires.parent c.requires.kind w.inserted w.balanced w.kept w.lengthened w.mini w.limits in
+    (ap (λ (f : FileState). f.base) c.self.view_is) c.requires.parent c.requires.kind w.inserted w.kept w.mini w.limits in
     subst (λ (s : MiniState). (o : Outline) → IsOutline (cases_of s) (entries_of s) o → IsReached o c.in_ok-number.number) (sym c.end_change.ensures)
     (put-is-new c.args.self.now.base mid c.args.parent c.in_ok-number.number (chars c.args.name.now) c.args.kind c.args.moment put).reached
 
@@ -90,12 +95,12 @@ returns-clause-tree g c told holds =
     let old = c.args.self.now in
     let e = ap (λ (f : FileState). f.base) c.self.view_is in
     let put = puts-object c.self.inside.mini c.args.self.now.base mid c.args.parent c.in_ok-number.number (chars c.args.name.now) c.args.kind c.args.moment
-    e c.requires.parent c.requires.kind w.inserted w.balanced w.kept w.lengthened w.mini w.limits in
+    e c.requires.parent c.requires.kind w.inserted w.kept w.mini w.limits in
     subst (λ (s : MiniState). (names : List (List ℕ)) (o : Outline) → IsOutline (cases_of old.base) (entries_of old.base) o
     → number_from (cases_of old.base) (entries_of old.base) 0 o (parent_names names) ≡ Some c.args.parent → last_name names ≡ chars c.args.name.now
     → BecomesTree (cases_of old.base) (bytes_of old.base) (bytes_of s) (object_added_at (cases_of old.base) c.args.kind c.args.moment names)) (sym c.end_change.ensures)
     (insert-tree old mid c.args.parent c.in_ok-number.number (chars c.args.name.now) c.args.kind c.args.moment put
-    (subst (λ (s : MiniState). Spares s.directory.sectors (table_of s) (table_of mid)) e (w.spares told)) c.requires.sound holds
+    (subst (λ (s : MiniState). Spares s.directory.sectors (table_of s) (table_of mid)) e (w.spared told).spares) c.requires.sound holds
     (w.holds told Permissive (subst (λ (s : MiniState). HoldsMini Permissive s) (sym e) (holds.sound c.requires.sound).held)))
 
 pub returns-clause-found : goal.returns-clause-found
@@ -104,7 +109,7 @@ returns-clause-found g c =
     let mid = c.insert_dir_entry.new.self in
     let old = c.args.self.now in
     let put = puts-object c.self.inside.mini c.args.self.now.base mid c.args.parent c.in_ok-number.number (chars c.args.name.now) c.args.kind c.args.moment
-    (ap (λ (f : FileState). f.base) c.self.view_is) c.requires.parent c.requires.kind w.inserted w.balanced w.kept w.lengthened w.mini w.limits in
+    (ap (λ (f : FileState). f.base) c.self.view_is) c.requires.parent c.requires.kind w.inserted w.kept w.mini w.limits in
     subst (λ (s : MiniState). (first : List ℕ) (names : List (List ℕ)) (before after : Outline) → IsOutline (cases_of old.base) (entries_of old.base) before
     → IsOutline (cases_of s) (entries_of s) after
     → number_from (cases_of old.base) (entries_of old.base) 0 before (parent_names (first ∷ names)) ≡ Some c.args.parent → last_name (first ∷ names) ≡ chars c.args.name.now
@@ -118,13 +123,13 @@ returns-clause-others g c told holds =
     let e = ap (λ (f : FileState). f.base) c.self.view_is in
     subst (λ (s : MiniState). KeepsStreams c.args.self.now.base s) (sym c.end_change.ensures) (streams-ended c.args.self.now.base mid
     (insert-keeps-streams c.args.self.now mid c.requires.sound holds
-    (subst (λ (s : MiniState). Spares s.directory.sectors (table_of s) (table_of mid)) e (was.spares told)) (subst (λ (s : MiniState). KeepsMini s mid) e was.mini)))
+    (subst (λ (s : MiniState). Spares s.directory.sectors (table_of s) (table_of mid)) e (was.spared told).spares) (subst (λ (s : MiniState). KeepsMini s mid) e was.mini)))
 
 pub returns-clause-header : goal.returns-clause-header
 returns-clause-header g c told =
     let mid = c.insert_dir_entry.new.self in
     subst (λ (s : MiniState). KeepsFixedHeader c.args.self.now.base s) (sym c.end_change.ensures) (header-ended c.args.self.now.base mid
-    (subst (λ (f : FileState). KeepsFixedHeader f.base mid) c.self.view_is (spared-keeps-header _ c.self.inside.mini mid (c.insert_dir_entry.ensures.spares told))))
+    (subst (λ (f : FileState). KeepsFixedHeader f.base mid) c.self.view_is (spared-keeps-header _ c.self.inside.mini mid (c.insert_dir_entry.ensures.spared told).spares)))
 
 pub returns-clause-made : goal.returns-clause-made
 returns-clause-made g c told holds made =
@@ -133,19 +138,19 @@ returns-clause-made g c told holds made =
     let old = c.args.self.now in
     let e = ap (λ (f : FileState). f.base) c.self.view_is in
     let put = puts-object c.self.inside.mini c.args.self.now.base mid c.args.parent c.in_ok-number.number (chars c.args.name.now) c.args.kind c.args.moment
-    e c.requires.parent c.requires.kind w.inserted w.balanced w.kept w.lengthened w.mini w.limits in
+    e c.requires.parent c.requires.kind w.inserted w.kept w.mini w.limits in
     let before = subst (λ (s : MiniState). HoldsMini Strict s) (sym e) made.changeable.held in
-    let counted = put-counted Strict c.self.inside.mini mid before w.limits w.kept (w.header_kept told) (w.count told) (subst IsCounted (sym e) made.tidy.counted) in
+    let counted = put-counted Strict c.self.inside.mini mid c.args.parent before w.limits w.kept (w.written told) (w.spared told) (subst IsCounted (sym e) made.tidy.counted) in
     subst (λ (s : MiniState). IsAsMade s) (sym c.end_change.ensures)
     (insert-made old mid c.args.parent c.in_ok-number.number (chars c.args.name.now) c.args.kind c.args.moment put
-    (subst (λ (s : MiniState). Spares s.directory.sectors (table_of s) (table_of mid)) e (w.spares told)) made (w.holds told Strict before) counted)
+    (subst (λ (s : MiniState). Spares s.directory.sectors (table_of s) (table_of mid)) e (w.spared told).spares) made (w.holds told Strict before) counted)
 
 pub returns-clause-grows : goal.returns-clause-grows
 returns-clause-grows g c =
     let w = c.in_ok-number.ensures in
     let mid = c.insert_dir_entry.new.self in
     let put = puts-object c.self.inside.mini c.args.self.now.base mid c.args.parent c.in_ok-number.number (chars c.args.name.now) c.args.kind c.args.moment
-    (ap (λ (f : FileState). f.base) c.self.view_is) c.requires.parent c.requires.kind w.inserted w.balanced w.kept w.lengthened w.mini w.limits in
+    (ap (λ (f : FileState). f.base) c.self.view_is) c.requires.parent c.requires.kind w.inserted w.kept w.mini w.limits in
     subst (λ (s : MiniState). GrowsTightly c.args.self.now.base s) (sym c.end_change.ensures)
     (put-grows-tightly c.args.self.now.base mid c.args.parent c.in_ok-number.number (chars c.args.name.now) c.args.kind c.args.moment put)
 
@@ -154,7 +159,7 @@ returns-clause-balanced g c =
     let w = c.in_ok-number.ensures in
     let mid = c.insert_dir_entry.new.self in
     let put = puts-object c.self.inside.mini c.args.self.now.base mid c.args.parent c.in_ok-number.number (chars c.args.name.now) c.args.kind c.args.moment
-    (ap (λ (f : FileState). f.base) c.self.view_is) c.requires.parent c.requires.kind w.inserted w.balanced w.kept w.lengthened w.mini w.limits in
+    (ap (λ (f : FileState). f.base) c.self.view_is) c.requires.parent c.requires.kind w.inserted w.kept w.mini w.limits in
     subst (λ (s : MiniState). AllStayBalanced c.args.self.now.base s) (sym c.end_change.ensures)
     (put-is-balanced c.args.self.now.base mid c.args.parent c.in_ok-number.number (chars c.args.name.now) c.args.kind c.args.moment put)
 
@@ -163,7 +168,7 @@ returns-clause-root_len g c =
     let w = c.in_ok-number.ensures in
     let mid = c.insert_dir_entry.new.self in
     let put = puts-object c.self.inside.mini c.args.self.now.base mid c.args.parent c.in_ok-number.number (chars c.args.name.now) c.args.kind c.args.moment
-    (ap (λ (f : FileState). f.base) c.self.view_is) c.requires.parent c.requires.kind w.inserted w.balanced w.kept w.lengthened w.mini w.limits in
+    (ap (λ (f : FileState). f.base) c.self.view_is) c.requires.parent c.requires.kind w.inserted w.kept w.mini w.limits in
     subst (λ (s : MiniState). len_of s 0 ≡ len_of c.args.self.now.base 0) (sym c.end_change.ensures)
     (put-keeps-root c.args.self.now.base mid c.args.parent c.in_ok-number.number (chars c.args.name.now) c.args.kind c.args.moment put)
 
@@ -174,11 +179,11 @@ returns-clause-agrees g c told holds unfailed =
     let old = c.args.self.now in
     let e = ap (λ (f : FileState). f.base) c.self.view_is in
     let put = puts-object c.self.inside.mini c.args.self.now.base mid c.args.parent c.in_ok-number.number (chars c.args.name.now) c.args.kind c.args.moment
-    e c.requires.parent c.requires.kind w.inserted w.balanced w.kept w.lengthened w.mini w.limits in
+    e c.requires.parent c.requires.kind w.inserted w.kept w.mini w.limits in
     subst (λ (f : FileState). Holds f)
     (same-file c.self.inside.mini (ended mid) c.end_change.new.self c.self.inside.is_sound c.self.inside.buffer_limit c.args.self.now c.self.view_is c.end_change.ensures)
     (insert-holds old mid c.args.parent c.in_ok-number.number (chars c.args.name.now) c.args.kind c.args.moment put
-    (subst (λ (s : MiniState). Spares s.directory.sectors (table_of s) (table_of mid)) e (w.spares told)) c.requires.sound holds
+    (subst (λ (s : MiniState). Spares s.directory.sectors (table_of s) (table_of mid)) e (w.spared told).spares) c.requires.sound holds
     (w.holds told Permissive (subst (λ (s : MiniState). HoldsMini Permissive s) (sym e) (holds.sound c.requires.sound).held)))
 
 pub returns-clause-childless : goal.returns-clause-childless
@@ -186,7 +191,7 @@ returns-clause-childless g c =
     let w = c.in_ok-number.ensures in
     let mid = c.insert_dir_entry.new.self in
     let put = puts-object c.self.inside.mini c.args.self.now.base mid c.args.parent c.in_ok-number.number (chars c.args.name.now) c.args.kind c.args.moment
-    (ap (λ (f : FileState). f.base) c.self.view_is) c.requires.parent c.requires.kind w.inserted w.balanced w.kept w.lengthened w.mini w.limits in
+    (ap (λ (f : FileState). f.base) c.self.view_is) c.requires.parent c.requires.kind w.inserted w.kept w.mini w.limits in
     subst (λ (s : MiniState). (entry_at (entries_of s) c.in_ok-number.number).child ≡ no_stream) (sym c.end_change.ensures)
     (put-is-childless c.args.self.now.base mid c.args.parent c.in_ok-number.number (chars c.args.name.now) c.args.kind c.args.moment put)
 
@@ -195,7 +200,7 @@ returns-clause-stays g c =
     let w = c.in_ok-number.ensures in
     let mid = c.insert_dir_entry.new.self in
     let put = puts-object c.self.inside.mini c.args.self.now.base mid c.args.parent c.in_ok-number.number (chars c.args.name.now) c.args.kind c.args.moment
-    (ap (λ (f : FileState). f.base) c.self.view_is) c.requires.parent c.requires.kind w.inserted w.balanced w.kept w.lengthened w.mini w.limits in
+    (ap (λ (f : FileState). f.base) c.self.view_is) c.requires.parent c.requires.kind w.inserted w.kept w.mini w.limits in
     subst (λ (s : MiniState). KeepsFound c.args.self.now.base s) (sym c.end_change.ensures)
     (put-keeps-found c.args.self.now.base mid c.args.parent c.in_ok-number.number (chars c.args.name.now) c.args.kind c.args.moment put)
 
@@ -204,7 +209,7 @@ returns-clause-still g c =
     let w = c.in_ok-number.ensures in
     let mid = c.insert_dir_entry.new.self in
     let put = puts-object c.self.inside.mini c.args.self.now.base mid c.args.parent c.in_ok-number.number (chars c.args.name.now) c.args.kind c.args.moment
-    (ap (λ (f : FileState). f.base) c.self.view_is) c.requires.parent c.requires.kind w.inserted w.balanced w.kept w.lengthened w.mini w.limits in
+    (ap (λ (f : FileState). f.base) c.self.view_is) c.requires.parent c.requires.kind w.inserted w.kept w.mini w.limits in
     subst (λ (s : MiniState). StandStill c.args.self.now.base s) (sym c.end_change.ensures)
     (put-stands-still c.args.self.now.base mid c.args.parent c.in_ok-number.number (chars c.args.name.now) c.args.kind c.args.moment put)
 
@@ -213,7 +218,7 @@ returns-clause-no_shorter g c =
     let w = c.in_ok-number.ensures in
     let mid = c.insert_dir_entry.new.self in
     let put = puts-object c.self.inside.mini c.args.self.now.base mid c.args.parent c.in_ok-number.number (chars c.args.name.now) c.args.kind c.args.moment
-    (ap (λ (f : FileState). f.base) c.self.view_is) c.requires.parent c.requires.kind w.inserted w.balanced w.kept w.lengthened w.mini w.limits in
+    (ap (λ (f : FileState). f.base) c.self.view_is) c.requires.parent c.requires.kind w.inserted w.kept w.mini w.limits in
     subst (λ (s : MiniState). length (tables_in c.args.self.now.base).fat ≤ length (tables_in s).fat) (sym c.end_change.ensures)
     (put-no-shorter c.args.self.now.base mid c.args.parent c.in_ok-number.number (chars c.args.name.now) c.args.kind c.args.moment put)
 
@@ -222,7 +227,7 @@ returns-clause-stays_full g c none =
     let w = c.in_ok-number.ensures in
     let mid = c.insert_dir_entry.new.self in
     let put = puts-object c.self.inside.mini c.args.self.now.base mid c.args.parent c.in_ok-number.number (chars c.args.name.now) c.args.kind c.args.moment
-    (ap (λ (f : FileState). f.base) c.self.view_is) c.requires.parent c.requires.kind w.inserted w.balanced w.kept w.lengthened w.mini w.limits in
+    (ap (λ (f : FileState). f.base) c.self.view_is) c.requires.parent c.requires.kind w.inserted w.kept w.mini w.limits in
     subst (λ (s : MiniState). NoneFree (tables_in s).fat) (sym c.end_change.ensures)
     (put-stays-full c.args.self.now.base mid c.args.parent c.in_ok-number.number (chars c.args.name.now) c.args.kind c.args.moment put none)
 
@@ -231,6 +236,27 @@ returns-clause-slots g c =
     let w = c.in_ok-number.ensures in
     let mid = c.insert_dir_entry.new.self in
     let put = puts-object c.self.inside.mini c.args.self.now.base mid c.args.parent c.in_ok-number.number (chars c.args.name.now) c.args.kind c.args.moment
-    (ap (λ (f : FileState). f.base) c.self.view_is) c.requires.parent c.requires.kind w.inserted w.balanced w.kept w.lengthened w.mini w.limits in
+    (ap (λ (f : FileState). f.base) c.self.view_is) c.requires.parent c.requires.kind w.inserted w.kept w.mini w.limits in
     subst (λ (s : MiniState). TakesSlot c.args.self.now.base s) (sym c.end_change.ensures)
     (put-takes-slot c.args.self.now.base mid c.args.parent c.in_ok-number.number (chars c.args.name.now) c.args.kind c.args.moment put)
+
+pub returns-clause-is_kind : goal.returns-clause-is_kind
+returns-clause-is_kind g c =
+    let w = c.in_ok-number.ensures in
+    let mid = c.insert_dir_entry.new.self in
+    let put = puts-object c.self.inside.mini c.args.self.now.base mid c.args.parent c.in_ok-number.number (chars c.args.name.now) c.args.kind c.args.moment
+    (ap (λ (f : FileState). f.base) c.self.view_is) c.requires.parent c.requires.kind w.inserted w.kept w.mini w.limits in
+    subst (λ (s : MiniState). (entry_at (entries_of s) c.in_ok-number.number).obj_type ≡ c.args.kind) (sym c.end_change.ensures)
+    (put-is-new c.args.self.now.base mid c.args.parent c.in_ok-number.number (chars c.args.name.now) c.args.kind c.args.moment put).is_kind
+
+pub returns-clause-empty : goal.returns-clause-empty
+returns-clause-empty g c =
+    let w = c.in_ok-number.ensures in
+    let mid = c.insert_dir_entry.new.self in
+    let put = puts-object c.self.inside.mini c.args.self.now.base mid c.args.parent c.in_ok-number.number (chars c.args.name.now) c.args.kind c.args.moment
+    (ap (λ (f : FileState). f.base) c.self.view_is) c.requires.parent c.requires.kind w.inserted w.kept w.mini w.limits in
+    subst (λ (s : MiniState). len_of s c.in_ok-number.number ≡ 0) (sym c.end_change.ensures)
+    (put-is-new c.args.self.now.base mid c.args.parent c.in_ok-number.number (chars c.args.name.now) c.args.kind c.args.moment put).empty
+
+pub returns-clause-enough : goal.returns-clause-enough
+returns-clause-enough g c = subst (λ (f : FileState). IsFullForEntry f.base.directory → ⊥) c.self.view_is c.in_ok-number.ensures.inserted.enough
