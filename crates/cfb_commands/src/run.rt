@@ -24,7 +24,8 @@ fn run_one<F: Medium, A: Heap + Clone>(
     ensures of_kind { IsOfKind (kind_of_command command.now) result }
     ensures asked { IsAsked result }
     ensures given { IsTrue F.tells → IsGiven (λ f. F.read_faults f || F.write_faults f) result }
-    ensures answers { IsTrue F.tells → AnswersCommand (λ f. F.read_faults f || F.write_faults f) file.old
+    ensures answers { IsTrue F.tells
+        → AnswersCommand (λ f. F.read_faults f || F.write_faults f) file.old
         (command_of command.now) (command_reply_of result) file.new }
 {
     match command {

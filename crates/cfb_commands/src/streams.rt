@@ -130,8 +130,8 @@ fn opened<'f, F: Medium, A: Heap + Clone>(
         → IfErr result (CanBeGiven (λ f. F.read_faults f || F.write_faults f)) }
     ensures* refused { sem 𝓛 (file_rests F.row A.row F.ReadMedium F.Medium.own A.Allocator
         (λ old last e. IsTrue F.tells → CallKeeps (λ f. F.read_faults f || F.write_faults f) old
-        (opening_call (opening_of how) (chars path.now)) (refused (refusal_of_error e)) last) file.entry
-        result) }
+        (opening_call (opening_of how) (chars path.now))
+        (refused (refusal_of_error e)) last) file.entry result) }
 {
     // What the file keeps in memory is what its bytes say.
     let _is_failed = file.is_failed();
@@ -155,7 +155,8 @@ pub(crate) fn run_on_stream<F: Medium, A: Heap + Clone>(
         map kind_of_answer works.0.items ≡ map kind_of_op ops.now) }
     ensures given { IsTrue F.tells
         → IsWorkGiven (λ f. F.read_faults f || F.write_faults f) result }
-    ensures answers { IsTrue F.tells → AnswersCommand (λ f. F.read_faults f || F.write_faults f) file.old
+    ensures answers { IsTrue F.tells
+        → AnswersCommand (λ f. F.read_faults f || F.write_faults f) file.old
         (on_stream (opening_of how) (chars path.now) (map stream_call_of ops.now))
         (streamed_reply result) file.new }
 {

@@ -152,7 +152,8 @@ impl<F: Medium, A: Heap + Clone> Contents for CompoundFile<F, A> {
 
     ghost reads_keep = { λ id first old new same keeps. reads_keep id first old new same keeps };
 
-    ghost reads_are_tight = { λ first old new same tight. reads_are_tight first old new same tight };
+    ghost reads_are_tight = { λ first old new same tight.
+        reads_are_tight first old new same tight };
 
     ghost still_is_tight = { λ file. still_is_tight file };
 }

@@ -111,8 +111,9 @@ impl<'a, F: Medium, A: Heap + Clone> Seek for Stream<'a, F, A> {
     ghost stream_bytes = { λ s. known_bytes_in F.tells (open_of s) };
 
     fn seek(&mut self, to: SeekFrom) -> io::Result<u64>
-        ensures moves { SeekMoves (known_place_in F.tells (open_of self.old))
-            (known_place_in F.tells (open_of self.new)) (known_bytes_in F.tells (open_of self.old)) to result }
+        ensures moves { SeekMoves
+            (known_place_in F.tells (open_of self.old)) (known_place_in F.tells (open_of self.new))
+            (known_bytes_in F.tells (open_of self.old)) to result }
         ensures bytes { Keeps (known_bytes_in F.tells (open_of self.old))
             (known_bytes_in F.tells (open_of self.new)) }
         ensures same_file { (file_of self.new).ghost_name ≡ (file_of self.old).ghost_name }

@@ -553,7 +553,8 @@ impl<F: Medium, A: Heap> MiniAllocator<F, A> {
         ensures room { 0 < count
             → OnOk result ((m : ℕ) → m < length self.new.minifat → HasMiniSector self.new m) }
         ensures whole { IsTrue F.tells → (validation : Validation) → HoldsMini validation self.old
-            → IsOfWholeSectors (table_of self.old) → OnOk result (IsOfWholeSectors (table_of self.new)) }
+            → IsOfWholeSectors (table_of self.old)
+            → OnOk result (IsOfWholeSectors (table_of self.new)) }
         ensures spares { IsTrue F.tells
             → Spares (system_sectors self.old) (table_of self.old) (table_of self.new) }
         ensures mini_spares { IsTrue F.tells → (validation : Validation)
@@ -860,7 +861,8 @@ impl<F: Medium, A: Heap + Clone> MiniAllocator<F, A> {
     /// changed. After `Medium`, where the medium fails, the entry is gone in memory, and of the file's bytes those of the touched slots
     /// alone may have changed.
     pub fn remove_dir_entry(&mut self, parent: u32, name: &str) -> Result<(), Error>
-        requires parent { IsReachedStorage self.old.directory.cases self.old.directory.entries parent }
+        requires parent { IsReachedStorage self.old.directory.cases
+            self.old.directory.entries parent }
         requires there { (list : List ℕ)
             → HasChildren self.old.directory.cases self.old.directory.entries parent list
             → (n : ℕ) × IsChildNamed self.old.directory.cases self.old.directory.entries

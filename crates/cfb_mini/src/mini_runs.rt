@@ -38,7 +38,8 @@ pub(crate) fn stretch_len<F: ReadMedium, A: Heap>(
     ensures few { result ≤ count }
     ensures run { IsRun allocator.now.tables.version stream.now at result }
     ensures known { (k : ℕ) → k < result → IsKnown allocator.now stream.now (at + k) }
-    ensures none { result ≡ 0 → IsListed allocator.now stream.now at → IsKnown allocator.now stream.now at → ⊥ }
+    ensures none { result ≡ 0 → IsListed allocator.now stream.now at
+        → IsKnown allocator.now stream.now at → ⊥ }
 {
     let sector_len = allocator.sector_len();
     let Some(sector) = stream.get((at / sector_len as u64) as usize) else {

@@ -70,18 +70,22 @@ impl<F: Medium, A: Heap + Clone> Volume<F, A> {
         requires sound { self.old.is_sound ≡ true }
         requires unfailed { is_failed self.old ≡ false }
         requires top { IsReachedStorage (cases_of self.old.base) (entries_of self.old.base) top }
-        requires all { (o : Outline) → HasInside (cases_of self.old.base) (entries_of self.old.base) top o
+        requires all { (o : Outline)
+            → HasInside (cases_of self.old.base) (entries_of self.old.base) top o
             → inside.now ≡ numbers o }
-        requires empty { (o : Outline) → HasInside (cases_of self.old.base) (entries_of self.old.base) top o
+        requires empty { (o : Outline)
+            → HasInside (cases_of self.old.base) (entries_of self.old.base) top o
             → (k : ℕ) → Contains (stream_numbers o) k → len_of self.old.base k ≡ 0 }
         ensures setting { SameSetting self.old self.new }
         ensures cleared { OnOk result (ClearsStorage self.old.base self.new.base top) }
-        ensures tree { IsTrue F.tells → Holds self.old → OnOk result ((names : List (List ℕ)) (o : Outline)
+        ensures tree { IsTrue F.tells → Holds self.old
+            → OnOk result ((names : List (List ℕ)) (o : Outline)
             → IsOutline (cases_of self.old.base) (entries_of self.old.base) o
             → number_from (cases_of self.old.base) (entries_of self.old.base) 0 o names ≡ Some top
-            → BecomesTree (cases_of self.old.base) (bytes_of self.old.base)
-            (bytes_of self.new.base) (emptied_at self.old names)) }
-        ensures others { IsTrue F.tells → Holds self.old → KeepsStreams self.old.base self.new.base }
+            → BecomesTree (cases_of self.old.base)
+            (bytes_of self.old.base) (bytes_of self.new.base) (emptied_at self.old names)) }
+        ensures others { IsTrue F.tells → Holds self.old
+            → KeepsStreams self.old.base self.new.base }
         ensures header { IsTrue F.tells → KeepsFixedHeader self.old.base self.new.base }
         ensures made { IsTrue F.tells
             → Holds self.old → IsAsMade self.old.base → OnOk result (IsAsMade self.new.base) }
