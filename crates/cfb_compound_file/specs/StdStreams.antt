@@ -1,5 +1,8 @@
--- What std's traits are told of an open stream: the bytes that are left, the position, and all bytes, where they are known.
-use Rattle.std.specs.Prelude.{ℕ, Bool, false, List, Option}
+-- What std's traits are told of an open stream: the bytes that are left, the position, and all bytes, where they are known; and where it is full.
+use Rattle.std.specs.Prelude.{ℕ, ◌≡◌, Bool, false, List, Option}
+use Rattle.std.specs.IoError.{error_kind}
+use Rattle.std.specs.declared.io.Error.{Error as StdError}
+use Rattle.std.specs.declared.io.ErrorKind.TheVariants.{StorageFull}
 use Rattle.cfb_agreement.specs.Files.{is_failed}
 use Rattle.cfb_std_streams.specs.Known.{is_known, known_content, known_position, known_rest}
 use Rattle.cfb_compound_file.specs.StreamAnswers.{OpenStream, stored_in}
@@ -31,3 +34,9 @@ known_place_in tells s = known_position (is_known_in tells s) s.window
 
 abbrev pub known_bytes_in : Bool → OpenStream → Option (List ℕ)
 known_bytes_in tells s = known_content (is_known_in tells s) (stored_in s) s.window
+
+-- ---- fullness
+
+-- the error tells of a full file only where so much holds
+abbrev pub FullOnlyWhere : Type 0 → StdError → Type 0
+FullOnlyWhere holds e = error_kind e ≡ StorageFull → holds

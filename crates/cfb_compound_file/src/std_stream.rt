@@ -3,8 +3,6 @@
 ghost use Rattle.std.specs.Prelude.{◌≡◌, ◌+◌, ◌<◌, ◌≤◌, ◌||◌, [], IfErr, IfOk, IfSome, IsTrue, None, OnOk, Some, false, length, min, take, drop};
 ghost use Rattle.std.specs.Borrow.{sem};
 ghost use Rattle.std.specs.Io.{ReadsAtMost, StartsWith, WritesAtMost};
-ghost use Rattle.std.specs.IoError.{error_kind};
-ghost use Rattle.std.specs.declared.io.ErrorKind.TheVariants.{StorageFull};
 ghost use Rattle.std.specs.Io.BufRead.{DropsConsumable};
 ghost use Rattle.std.specs.Io.KnownBytes.{Keeps, ReadConsumes, WriteAppends};
 ghost use Rattle.std.specs.Io.Seek.{SeekMoves};
@@ -16,8 +14,8 @@ ghost use Rattle.cfb_compound_file.specs.Buffering.{BuffersRead, BuffersSeek, Bu
 ghost use Rattle.cfb_compound_file.specs.Stored.{ChangesStream, kept_of};
 ghost use Rattle.cfb_compound_file.specs.Streams.{entry_of, file_of, open_of, window_of};
 ghost use Rattle.cfb_compound_file.specs.StdLending.{IsLendingRefused, IsLentFrom, keeps};
-ghost use Rattle.cfb_compound_file.specs.StdStreams.{known_bytes_in, known_place_in, known_rest_in};
-ghost use Rattle.cfb_compound_file.specs.StreamAnswers.{ClosesTree, GoesOn, GoesOnInTurn, IsFailed, IsStreamRefused, StreamHeedsFlags, StreamHeedsWritingOut, StreamRunsOn, stream_in};
+ghost use Rattle.cfb_compound_file.specs.StdStreams.{FullOnlyWhere, known_bytes_in, known_place_in, known_rest_in};
+ghost use Rattle.cfb_compound_file.specs.StreamAnswers.{ClosesTree, GoesOn, GoesOnInTurn, IsFailed, IsStreamRefused, LacksRoomToWrite, LacksRoomToWriteOut, StreamHeedsFlags, StreamHeedsWritingOut, StreamRunsOn, stream_in};
 ghost use Rattle.cfb_compound_file.specs.cfb_rules.StreamCalls.{consume, count, flush, got, offset, read, ready, seek, write};
 
 use crate::stream::Stream;
@@ -46,6 +44,8 @@ impl<'a, F: Medium, A: Heap + Clone> Read for Stream<'a, F, A> {
         ensures refused { IsTrue F.tells → IfErr result (StandsFor (IsStreamRefused
             (causes_of (file_of self.old).now (file_of self.new).now) (λ f. F.read_faults f
             || F.write_faults f) (open_of self.old) (read (length into.old)) (open_of self.new))) }
+        ensures foreseen { IsTrue F.tells
+            → IfErr result (FullOnlyWhere (LacksRoomToWriteOut (open_of self.old))) }
         ensures goes_on { GoesOn F.tells (open_of self.old) (open_of self.new) }
         ensures counts { IsTrue F.tells → OnOk result
             (failures_of (file_of self.new).now ≡ failures_of (file_of self.old).now) }
@@ -77,6 +77,8 @@ impl<'a, F: Medium, A: Heap + Clone> BufRead for Stream<'a, F, A> {
             (keeps F.row A.row F.ReadMedium F.Medium.own A.Allocator self.entry result) }
         ensures refused { IsTrue F.tells → IfErr result (StandsFor (IsLendingRefused (λ f.
             F.read_faults f || F.write_faults f) (open_of self.old))) }
+        ensures foreseen { IsTrue F.tells
+            → IfErr result (FullOnlyWhere (LacksRoomToWriteOut (open_of self.old))) }
         ensures unfailed { IsTrue F.tells
             → OnOk result (is_failed (file_of self.old).now ≡ false) }
         ensures lent { IsTrue F.tells
@@ -124,6 +126,8 @@ impl<'a, F: Medium, A: Heap + Clone> Seek for Stream<'a, F, A> {
         ensures refused { IsTrue F.tells → IfErr result (StandsFor (IsStreamRefused
             (causes_of (file_of self.old).now (file_of self.new).now) (λ f. F.read_faults f
             || F.write_faults f) (open_of self.old) (seek (whence_of to)) (open_of self.new))) }
+        ensures foreseen { IsTrue F.tells
+            → IfErr result (FullOnlyWhere (LacksRoomToWriteOut (open_of self.old))) }
         ensures goes_on { GoesOn F.tells (open_of self.old) (open_of self.new) }
         ensures counts { IsTrue F.tells → OnOk result
             (failures_of (file_of self.new).now ≡ failures_of (file_of self.old).now) }
@@ -151,6 +155,8 @@ impl<'a, F: Medium, A: Heap + Clone> Write for Stream<'a, F, A> {
         ensures refused { IsTrue F.tells → IfErr result (StandsFor (IsStreamRefused
             (causes_of (file_of self.old).now (file_of self.new).now) (λ f. F.read_faults f
             || F.write_faults f) (open_of self.old) (write bytes.now) (open_of self.new))) }
+        ensures foreseen { IsTrue F.tells → IfErr result (FullOnlyWhere
+            (LacksRoomToWrite (open_of self.old) (length bytes.now) (open_of self.new))) }
         ensures goes_on { GoesOnInTurn F.tells (open_of self.old) (open_of self.new) }
         ensures once { IsTrue F.tells → length bytes.now < 65536 → ChangesStream
             (entry_of self.old) (file_of self.old).now (file_of self.new).now }
@@ -163,7 +169,7 @@ impl<'a, F: Medium, A: Heap + Clone> Write for Stream<'a, F, A> {
             (open_of self.old) (open_of self.new) result (length bytes.now) }
         ensures inside { IsTrue F.tells → (window_of self.old).pending ≡ false
             → (window_of self.old).base + (window_of self.old).cursor + min 1 (length bytes.now)
-            ≤ (window_of self.old).size → IfErr result (λ e. error_kind e ≡ StorageFull → ⊥) }
+            ≤ (window_of self.old).size → IfErr result (FullOnlyWhere ⊥) }
     {
         match self.write(bytes) {
             Ok(count) => Ok(count),
@@ -180,6 +186,8 @@ impl<'a, F: Medium, A: Heap + Clone> Write for Stream<'a, F, A> {
         ensures refused { IsTrue F.tells → IfErr result (StandsFor
             (IsStreamRefused (causes_of (file_of self.old).now (file_of self.new).now) (λ f.
             F.read_faults f || F.write_faults f) (open_of self.old) flush (open_of self.new))) }
+        ensures foreseen { IsTrue F.tells
+            → IfErr result (FullOnlyWhere (LacksRoomToWriteOut (open_of self.old))) }
         ensures goes_on { GoesOn F.tells (open_of self.old) (open_of self.new) }
         ensures counts { IsTrue F.tells → OnOk result
             (failures_of (file_of self.new).now ≡ failures_of (file_of self.old).now) }

@@ -4,7 +4,7 @@ use Rattle.cfb_std_streams.proofs.Knowing.{calm_then, lent_ahead, lent_end, lent
 use Rattle.cfb_compound_file.specs.Stored.{stored_of}
 use Rattle.cfb_compound_file.specs.StdStreams.{known_rest_in}
 use Rattle.cfb_compound_file.specs.StreamAnswers.{open_stream_of}
-use Rattle.cfb_compound_file.proofs.StdStreams.{same_failed}
+use Rattle.cfb_compound_file.proofs.StdStreams.{full_to_std, same_failed}
 use Rattle.cfb_compound_file.proofs.StoredStreams.{changed_once}
 use Rattle.cfb_compound_file.proofs.StreamCalls.{goes_on_by, stays_or_fails}
 use Rattle.cfb_compound_file.specs.cfb_rules.StreamCalls.{fill_buf}
@@ -41,6 +41,7 @@ returns-in-Ok g c =
         end = lent_end g.F.ReadMedium.tells (causes_of old.file.now c.fill.new.content) (stored_of old.file.now old.entry) (stored_of c.fill.new.content old.entry) old.window c.fill.new.self
             old.window.pending c.fill.new.self.pending (λ told. old.is_open told) (calm_then old.window.pending c.fill.new.self.pending) c.rest.result.now _ c.rest.ensures (λ told. c.in-Ok.ensures.runs (record { told = told; suits = old.is_open told }));
         refused = λ told. tt;
+        foreseen = λ told. tt;
         unfailed = lent_unfailed g.F.ReadMedium.tells (causes_of old.file.now c.fill.new.content) (stored_of old.file.now old.entry) (stored_of c.fill.new.content old.entry) old.window c.fill.new.self
             old.window.pending c.fill.new.self.pending (λ told. old.is_open told) (calm_then old.window.pending c.fill.new.self.pending) c.rest.result.now _ c.rest.ensures (λ told. c.in-Ok.ensures.runs (record { told = told; suits = old.is_open told }));
         lent = λ told. (let k = (lent_from g.F.ReadMedium.tells (causes_of old.file.now c.fill.new.content) (stored_of old.file.now old.entry) (stored_of c.fill.new.content old.entry) old.window c.fill.new.self
@@ -88,6 +89,8 @@ returns-in-Err g c =
             record { rules = why.rules; stops = why.stops; stays = stays_or_fails _ _ (c.in-Err.ensures.around told).stays; untouched = why.untouched; counts = (c.in-Err.ensures.around told).counts },
           ),
         ));
+        foreseen = λ told. full_to_std c.in-Err.error c.std_error.result _ c.std_error.ensures
+            (λ full. (let k = c.in-Err.ensures.foreseen (record { told = told; suits = old.is_open told }) full in record { pending = k.pending; past = k.past; too_long = k.too_long }));
         unfailed = λ told. tt;
         lent = λ told. tt;
         after_borrow = tt;

@@ -3,6 +3,7 @@ use Rattle.cfb_agreement.specs.Files.{FileState, is_failed}
 use Rattle.cfb_std_streams.proofs.Knowing.{calm_then, content_stays, position_stays, seek_content, seek_moves}
 use Rattle.cfb_compound_file.specs.Stored.{stored_of}
 use Rattle.cfb_path_changes.specs.Answers.{causes_of}
+use Rattle.cfb_compound_file.proofs.StdStreams.{full_to_std}
 use Rattle.cfb_compound_file.proofs.Heeding.{std_done, std_refused}
 use Rattle.cfb_compound_file.proofs.std_stream.StreamSeek.seek.Goals as goal
 
@@ -50,3 +51,6 @@ returns-in-Ok-clause-any g c = std_done _ _ c.in-Ok.at c.in-Ok.ensures.any
 
 pub returns-in-Err-clause-any : goal.returns-in-Err-clause-any
 returns-in-Err-clause-any g c = std_refused _ _ c.in-Err.error _ c.std_error.ensures c.in-Err.ensures.any
+
+pub returns-in-Err-clause-foreseen : goal.returns-in-Err-clause-foreseen
+returns-in-Err-clause-foreseen g c = λ told. full_to_std c.in-Err.error c.std_error.result _ c.std_error.ensures (c.in-Err.ensures.foreseen told)
