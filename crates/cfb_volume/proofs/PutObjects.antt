@@ -43,7 +43,7 @@ module _ (old new : MiniState) (parent n : ℕ) (name : List ℕ) (kind : ObjTyp
   pub put-takes-slot : TakesSlot old (ended new)
   put-takes-slot =
       let per = entries_per_sector (version_of old) in
-      let longer : length (entries_of new) ≡ length (if has_free (entries_of old) then entries_of old else grown_by (entries_of old) per) = put.entry.inserted.longer in
+      let longer : length (entries_of new) ≡ length (if has_free (entries_of old) then entries_of old else grown_by (entries_of old) per) = put.inserts.entry.inserted.longer in
       record {
         free = λ free. record {
           slots = longer ∙ ap (λ (b : Bool). length (if b then entries_of old else grown_by (entries_of old) per)) free;
