@@ -1,5 +1,7 @@
 //! What the program tells of itself.
-use cfb_tool::word::Word;
+use cfb_tool::word::{Change, Word};
+
+mod texts;
 
 /// The words, on one screen.
 pub(crate) const HELP: &str =
@@ -27,7 +29,38 @@ Status: 0 done, 1 refused, 2 wrong words. More: cfbtool help WORD.
 /// The version.
 pub(crate) const VERSION: &str = "cfbtool 0.16.0 (kit 13f)\n";
 
+/// What a word that makes one change does.
+fn help_on_change(change: Change) -> &'static str {
+    match change {
+        Change::Mkdir => texts::MKDIR,
+        Change::Mkdirs => texts::MKDIRS,
+        Change::Rmdir => texts::RMDIR,
+        Change::Rmtree => texts::RMTREE,
+        Change::Rm => texts::RM,
+        Change::Touch => texts::TOUCH,
+        Change::Bits => texts::BITS,
+        Change::Len => texts::LEN,
+        Change::Clsid => texts::CLSID,
+        Change::Add => texts::ADD,
+    }
+}
+
 /// What a word does.
-pub(crate) fn help_on(_word: Word) -> &'static str {
-    HELP
+pub(crate) fn help_on(word: Word) -> &'static str {
+    match word {
+        Word::Ls => texts::LS,
+        Word::Tree => texts::TREE,
+        Word::Info => texts::INFO,
+        Word::Map => texts::MAP,
+        Word::Check => texts::CHECK,
+        Word::Cat => texts::CAT,
+        Word::Extract => texts::EXTRACT,
+        Word::Dump => texts::DUMP,
+        Word::Create => texts::CREATE,
+        Word::Put => texts::PUT,
+        Word::Changing(change) => help_on_change(change),
+        Word::Run => texts::RUN,
+        Word::Compact => texts::COMPACT,
+        Word::Salvage => texts::SALVAGE,
+    }
 }

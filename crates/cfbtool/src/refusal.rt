@@ -61,7 +61,6 @@ impl Refusal {
     pub(crate) fn of_system(e: io::Error) -> Refusal {
         match e.kind() {
             ErrorKind::OutOfMemory => Refusal::Of(Error::Memory),
-            ErrorKind::WouldBlock => Refusal::Busy,
             _ => Refusal::System(e),
         }
     }

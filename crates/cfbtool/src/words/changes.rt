@@ -10,6 +10,7 @@ use crate::refusal::Refusal;
 use cfb::{Command, Error, Medium};
 use cfb_lines::LinesError;
 use cfb_lines::lines::commands_in;
+use cfb_text::meant::meant;
 use cfb_tool::content::put_content;
 use cfb_tool::playing::play;
 use std::alloc::Global;
@@ -57,8 +58,10 @@ fn put_bytes<H: Files<File = File> + AllocGlobal>(
     stream: &str,
     bytes: &[u8],
 ) -> Result<(), Refusal> {
+    let object = meant(rt.alloc(), stream)?;
     let mut medium = to_change(rt, path)?;
-    put_into(rt.alloc(), Lent(&mut medium), stream, bytes)
+    let done = put_into(rt.alloc(), Lent(&mut medium), object.as_str(), bytes);
+    done.map_err(|refusal| refusal.because(medium.last_error()))
 }
 
 fn put_into<F: Medium>(
@@ -112,7 +115,7 @@ fn run_commands<H: Files<File = File> + AllocGlobal, W: Write>(
     let mut lines = room_for_lines(rt.alloc(), commands.len())?;
     let mut medium = to_change(rt, path)?;
     let played = play_in(rt.alloc(), Lent(&mut medium), commands, &mut lines);
-    let is_done = played?;
+    let is_done = played.map_err(|refusal| refusal.because(medium.last_error()))?;
     print(lines.as_slice(), out)?;
     if is_done { Ok(()) } else { Err(Refusal::Told) }
 }

@@ -1,8 +1,8 @@
 //! The words that make a new file of FILE.
-use super::files::{is_there, opened, to_read};
+use super::files::{is_there, opened, to_make, to_read};
 use crate::lent::Lent;
 use crate::refusal::Refusal;
-use cfb::{CompoundFile, FileMedium, ReadMedium};
+use cfb::{CompoundFile, Error, Medium, ReadMedium};
 use std::fs::File;
 use std::io::Write;
 use std::rt::Files;
@@ -17,16 +17,28 @@ pub(super) fn compact<H: Files<File = File> + AllocGlobal>(
         return Err(Refusal::TargetExists);
     }
     let mut medium = to_read(rt, path)?;
-    let mut file = opened(rt.alloc(), Lent(&mut medium))?;
-    copy_into(rt, &mut file, target)
+    let done = copy_to(rt, Lent(&mut medium), target);
+    done.map_err(|refusal| refusal.because(medium.last_error()))
 }
 
-fn copy_into<H: Files<File = File>, F: ReadMedium>(
+fn copy_to<H: Files<File = File> + AllocGlobal, F: ReadMedium>(
     rt: &H,
-    file: &mut CompoundFile<F>,
+    medium: F,
     target: &str,
 ) -> Result<(), Refusal> {
-    let medium = FileMedium::create_new(rt, target)?;
+    let mut file = opened(rt.alloc(), medium)?;
+    let mut made = to_make(rt, target)?;
+    let copied = copy_into(&mut file, Lent(&mut made));
+    match (copied, made.last_error()) {
+        (Err(Refusal::Of(Error::Medium(_))), Some(e)) => Err(Refusal::of_other_system(e)),
+        (copied, _) => copied,
+    }
+}
+
+fn copy_into<F: ReadMedium, T: Medium>(
+    file: &mut CompoundFile<F>,
+    medium: T,
+) -> Result<(), Refusal> {
     let _copy = file.copy_to(medium)?;
     Ok(())
 }

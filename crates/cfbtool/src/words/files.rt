@@ -1,23 +1,62 @@
 //! Files of the system, opened for the words.
 use crate::lent::Lent;
 use crate::refusal::Refusal;
-use cfb::{CompoundFile, FileMedium, FileReadMedium, ReadMedium, Version};
+use cfb::{CompoundFile, FileMedium, FileReadMedium, Medium, ReadMedium, Version};
+use cfb_files::locking;
 use std::alloc::Global;
-use std::fs;
 use std::fs::File;
+use std::io::ErrorKind;
 use std::rt::Files;
+use std::{fs, io};
 
 /// FILE, to be read.
 pub(super) fn to_read<H: Files<File = File>>(
     rt: &H,
     path: &str,
 ) -> Result<FileReadMedium, Refusal> {
-    FileReadMedium::open(rt, path).map_err(Refusal::Opening)
+    match no_folder(rt, path) {
+        Ok(file) => Ok(FileReadMedium::from_file(file)),
+        Err(e) => Err(Refusal::of_system(e)),
+    }
 }
 
-/// FILE, to be read and changed.
+/// What the system says of a folder that is read as a file.
+const IS_A_FOLDER: i32 = 21;
+
+/// The file at this path, to be read. Some systems open a folder so, and tell a length of it.
+fn no_folder<H: Files<File = File>>(rt: &H, path: &str) -> io::Result<File> {
+    let file = File::open(rt, path)?;
+    if file.metadata()?.is_dir() {
+        return Err(io::Error::from_raw_os_error(IS_A_FOLDER));
+    }
+    Ok(file)
+}
+
+/// FILE, to be read and changed. It is locked.
 pub(super) fn to_change<H: Files<File = File>>(rt: &H, path: &str) -> Result<FileMedium, Refusal> {
-    FileMedium::open(rt, path).map_err(Refusal::Opening)
+    locked(locking::open(rt, path))
+}
+
+/// FILE, empty. It was locked before it was emptied.
+fn to_fill<H: Files<File = File>>(rt: &H, path: &str) -> Result<FileMedium, Refusal> {
+    locked(locking::create(rt, path))
+}
+
+fn locked(file: io::Result<File>) -> Result<FileMedium, Refusal> {
+    match file {
+        Ok(file) => Ok(FileMedium::from_file(file)),
+        Err(e) if e.kind() == ErrorKind::WouldBlock => Err(Refusal::Busy),
+        Err(e) => Err(Refusal::of_system(e)),
+    }
+}
+
+/// A new file beside FILE.
+pub(super) fn to_make<H: Files<File = File>>(rt: &H, path: &str) -> Result<FileMedium, Refusal> {
+    match locking::create_new(rt, path) {
+        Ok(file) => Ok(FileMedium::from_file(file)),
+        Err(e) if e.kind() == ErrorKind::AlreadyExists => Err(Refusal::TargetExists),
+        Err(e) => Err(Refusal::of_other_system(e)),
+    }
 }
 
 /// The compound file in it.
@@ -36,7 +75,12 @@ pub(super) fn create<H: Files<File = File> + AllocGlobal>(
     version: Version,
     path: &str,
 ) -> Result<(), Refusal> {
-    let mut medium = FileMedium::create(rt, path).map_err(Refusal::Opening)?;
-    CompoundFile::create_with_version(rt.alloc(), version, Lent(&mut medium))?;
+    let mut medium = to_fill(rt, path)?;
+    let made = create_in(rt.alloc(), version, Lent(&mut medium));
+    made.map_err(|refusal| refusal.because(medium.last_error()))
+}
+
+fn create_in<F: Medium>(alloc: Global, version: Version, medium: F) -> Result<(), Refusal> {
+    CompoundFile::create_with_version(alloc, version, medium)?;
     Ok(())
 }
