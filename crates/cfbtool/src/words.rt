@@ -241,7 +241,7 @@ fn run_input<H: Files<File = File> + AllocGlobal, R: Read, W: Write>(
 fn commands_of(alloc: Global, text: &[u8]) -> Result<Vec<Command>, Refusal> {
     match commands_in(alloc, text) {
         Ok(commands) => Ok(commands),
-        Err(LinesError::WrongWords) => Err(Refusal::WrongWords),
+        Err(LinesError::WrongWords(..)) => Err(Refusal::WrongWords),
         Err(LinesError::Memory) => Err(Refusal::Of(Error::Memory)),
     }
 }
