@@ -14,6 +14,7 @@ use std::test::Fail;
 use std::{env, fs};
 
 mod acts;
+mod changes;
 mod compacts;
 mod files;
 mod helps;
