@@ -7,6 +7,7 @@ pub use Rattle.cfb_commands.specs.cfb_path_changes
 pub use Rattle.cfb_commands.specs.cfb_compound_file
 pub mod Asking
 pub mod Listing
+pub mod Details
 pub mod Playing
 pub mod Content
 pub mod Laws

@@ -3,8 +3,11 @@
 
 pub mod asking;
 pub mod content;
+pub mod details;
 pub mod laws;
 pub mod listing;
 pub mod playing;
 mod replies;
 pub mod soundness;
+pub mod table;
+pub mod tree;
