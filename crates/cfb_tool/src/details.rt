@@ -7,6 +7,7 @@ ghost use Rattle.cfb_tool.specs.Details.{HasDetails, bits_text, clsid_text, deta
 
 use crate::listing::{kind_of, walked, walked_at};
 use cfb_commands::CompoundFile;
+use cfb_dates::moment::Moment;
 use cfb_format::error::Error;
 use cfb_format::medium::ReadMedium;
 use cfb_listing::entry::Entry;
@@ -72,7 +73,8 @@ fn push_details<A: Heap>(lines: &mut String<A>, entry: &Entry<A>) -> Result<(), 
 {
     let (kind, len) = (kind_of(entry), entry.len());
     let (clsid, bits) = (ClassId(entry.clsid()), StateBits(entry.state_bits()));
-    let (created, modified) = (entry.created(), entry.modified());
+    let created = Moment(entry.created().value());
+    let modified = Moment(entry.modified().value());
     write!(lines, "{kind}\t{len}\t{clsid}\t{bits}\t{created}\t{modified}\t")?;
     push_shown(lines, entry.path())?;
     lines.push('\n')?;

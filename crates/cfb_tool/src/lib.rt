@@ -10,4 +10,3 @@ pub mod playing;
 mod replies;
 pub mod soundness;
 pub mod table;
-pub mod tree;

@@ -7,6 +7,7 @@ ghost use Rattle.cfb_rules.specs.Calls.{walk, walk_storage};
 use crate::details::{ClassId, StateBits};
 use crate::listing::{kind_of, walked, walked_at};
 use cfb_commands::CompoundFile;
+use cfb_dates::moment::Moment;
 use cfb_format::error::Error;
 use cfb_format::medium::ReadMedium;
 use cfb_listing::entry::Entry;
@@ -128,11 +129,11 @@ fn push_cell<A: Heap>(cell: &mut String<A>, entry: &Entry<A>, column: Column) ->
             write!(cell, "{bits}")?;
         }
         Column::Created => {
-            let created = entry.created();
+            let created = Moment(entry.created().value());
             write!(cell, "{created}")?;
         }
         Column::Modified => {
-            let modified = entry.modified();
+            let modified = Moment(entry.modified().value());
             write!(cell, "{modified}")?;
         }
     }
