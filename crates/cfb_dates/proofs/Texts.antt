@@ -56,14 +56,14 @@ dated_apart c y m d h i s f c' y' m' d' h' i' s' f' e = record {
   behind = ap (drop 19) e;
 }
 
-abbrev full_text : Date → ℕ → List ℕ
+abbrev pub full_text : Date → ℕ → List ℕ
 full_text date units = date_text date ++ (codes "T" ++ (time_text units ++ codes "Z"))
 
-abbrev dated_of : Date → ℕ → List ℕ
+abbrev pub dated_of : Date → ℕ → List ℕ
 dated_of date units = dated (date.year / 100) (date.year % 100) date.month date.day (units / 10_000_000 / 3600) (units / 10_000_000 / 60 % 60) (units / 10_000_000 % 60)
     (fraction_text (units % 10_000_000) ++ 90 ∷ [])
 
-full_is : (date : Date) (units : ℕ) → IsDate date → date.year ≤ 9999 → units < 864_000_000_000 → full_text date units ≡ dated_of date units
+pub full_is : (date : Date) (units : ℕ) → IsDate date → date.year ≤ 9999 → units < 864_000_000_000 → full_text date units ≡ dated_of date units
 full_is date units in_calendar early small =
     let short = month_is_short date.year date.month in
     let month = in_calendar.month in
@@ -107,7 +107,7 @@ full_apart a b x y e =
 
 -- ---- the three kinds of texts
 
-abbrev Shape : ℕ → Type 0
+abbrev pub Shape : ℕ → Type 0
 Shape m = ((m ≡ 0) × (moment_text m ≡ 45 ∷ []))
     ⊎ ((moment_text m ≡ 64 ∷ decimal m)
     ⊎ (((date_of (m / 864_000_000_000)).year ≤ 9999) × (moment_text m ≡ full_text (date_of (m / 864_000_000_000)) (m % 864_000_000_000))))
@@ -120,7 +120,7 @@ shape_by m true q e f = inl (is_zero m e, rw e refl)
 shape_by m false true e f = inr (inl (rw (e, f) refl))
 shape_by m false false e f = inr (inr (not_late (date_of (m / 864_000_000_000)).year f, rw (e, f) refl))
 
-shape_of : (m : ℕ) → Shape m
+pub shape_of : (m : ℕ) → Shape m
 shape_of m = shape_by m (m == 0) (nat_lt 9999 (date_of (m / 864_000_000_000)).year) refl refl
 
 -- such a text begins with a digit

@@ -71,8 +71,10 @@ fn push_details<A: Heap>(lines: &mut String<A>, entry: &Entry<A>) -> Result<(), 
         ≡ string_bytes lines.old ++ details_line entry.now) }
     ensures kind { IfErr result IsMemory }
 {
-    let (kind, len) = (kind_of(entry), entry.len());
-    let (clsid, bits) = (ClassId(entry.clsid()), StateBits(entry.state_bits()));
+    let kind = kind_of(entry);
+    let len = entry.len();
+    let clsid = ClassId(entry.clsid());
+    let bits = StateBits(entry.state_bits());
     let created = Moment(entry.created().value());
     let modified = Moment(entry.modified().value());
     write!(lines, "{kind}\t{len}\t{clsid}\t{bits}\t{created}\t{modified}\t")?;
