@@ -4,8 +4,10 @@ use crate::media::{Call, right_calls};
 use cfb_files::file::{FileMedium, FileReadMedium};
 use cfb_format::error::Error;
 use cfb_format::medium::MediumFault::{Open, Read, Write};
-use cfb_format::medium::ReadMedium;
+use cfb_format::medium::{Medium, ReadMedium};
 use std::fs;
+use std::fs::File;
+use std::io::ErrorKind;
 use std::test::Fail;
 
 /// Opens a file: `o` as it is, `c` emptied or made, and `n` as a new one.
@@ -112,4 +114,37 @@ fn what_is_no_file_is_refused(rt: HostRuntime) {
     assert!(rt; served(&rt, ".", 0) == Err(Error::Medium(Read)));
     assert!(rt; length_of(&rt, "/dev/zero") == Ok(0));
     assert!(rt; called(&rt, b'o', "/dev/full", &FULL) == Ok(2));
+}
+
+/// Whether a file with three bytes can be opened to be changed.
+fn is_free(rt: &HostRuntime, path: &str) -> bool {
+    called(rt, b'o', path, &[(b'l', 0, b"", Ok(3))]) == Ok(1)
+}
+
+/// A file that is open to be changed is not opened so again, and keeps its bytes; it is read all the same.
+#[test]
+fn a_locked_file_stays(rt: HostRuntime) -> Result<(), Fail> {
+    fs::write(&rt, "held.bin", b"abc".as_slice())?;
+    let held = FileMedium::open(&rt, "held.bin")?;
+    assert!(rt; is_closed(&rt, b'o', "held.bin"));
+    assert!(rt; is_closed(&rt, b'c', "held.bin"));
+    assert!(rt; served(&rt, "held.bin", 0) == Ok(*b"abc-"));
+    drop(held);
+    assert!(rt; is_free(&rt, "held.bin"));
+    fs::remove_file(&rt, "held.bin")?;
+    Ok(())
+}
+
+/// A failed call leaves its reason, and a call that is done does not change it.
+#[test]
+fn reasons_are_kept(rt: HostRuntime) -> Result<(), Fail> {
+    let mut full = FileMedium::from_file(cfb_files::locking::open(&rt, "/dev/full")?);
+    assert!(rt; full.last_error().is_none());
+    assert!(rt; full.write_at(0, b"abc") == Err(Write));
+    assert!(rt; full.length() == Ok(0));
+    assert!(rt; full.last_error().map(|e| e.kind()) == Some(ErrorKind::StorageFull));
+    let mut folder = FileReadMedium::from_file(File::open(&rt, ".")?);
+    assert!(rt; folder.read_at(0, &mut [0; 4]) == Err(Read));
+    assert!(rt; folder.last_error().map(|e| e.kind()) == Some(ErrorKind::IsADirectory));
+    Ok(())
 }

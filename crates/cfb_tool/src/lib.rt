@@ -8,3 +8,4 @@ pub mod listing;
 pub mod playing;
 mod replies;
 pub mod soundness;
+pub mod word;
