@@ -1,6 +1,6 @@
 -- Streams that cannot be read to their ends, as they are told.
 use Rattle.std.specs.Prelude.{List, chars, map, string_bytes}
-use Rattle.cfb_extract.specs.declared.extracting.Cut.{Cut}
+use Rattle.cfb_extract.specs.declared.cut.Cut.{Cut}
 use Rattle.cfb_extract.specs.Extracted.{CutInfo}
 
 abbrev pub cut_info : {A : Type 0} → Cut A → CutInfo

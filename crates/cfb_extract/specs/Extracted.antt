@@ -1,17 +1,8 @@
 -- What is made of a tree in a folder.
-use Rattle.std.specs.Prelude.{ℕ, ◌≡◌, ◌==◌, ◌⊎◌, true, List, [], ◌∷◌, ◌++◌, Some, length, map, ⊤, if◌then◌else◌}
+use Rattle.std.specs.Prelude.{ℕ, ◌==◌, List, [], ◌∷◌, ◌++◌, length, map, if◌then◌else◌}
 use Rattle.cfb_text.specs.Host.{host_name}
-use Rattle.cfb_format.specs.Path.{names_of_path, slashed as path_slashed}
-use Rattle.cfb_format.specs.declared.error.Error.TheVariants.{Failed}
-use Rattle.cfb_format.specs.Refused.{IsBreak}
-use Rattle.cfb_format.specs.Tree.{Found, Object, Objects, StreamInfo, Tree, a_storage, a_stream, nothing, storage, stream}
-use Rattle.cfb_extract.specs.cfb_rules.Finding.{found_at}
-use Rattle.cfb_extract.specs.cfb_mini_sectors.State.{cases_of}
-use Rattle.cfb_extract.specs.cfb_agreement.Files.{FileState, is_failed}
-use Rattle.cfb_extract.specs.cfb_path_changes.Answers.{AnswersNot, MeansTree}
-use Rattle.cfb_extract.specs.cfb_rules.Calls.{walk_storage}
-use Rattle.cfb_extract.specs.declared.error.ExtractError.{ExtractError}
-use Rattle.cfb_extract.specs.declared.error.ExtractError.TheVariants.{File, Folder}
+use Rattle.cfb_format.specs.Path.{slashed as path_slashed}
+use Rattle.cfb_format.specs.Tree.{Object, Objects, StreamInfo, a_storage, a_stream, nothing, storage, stream}
 use Rattle.cfb_extract.specs.Items.{Item, a_file, a_folder}
 
 -- the place in the folder of the object that these names lead to
@@ -53,34 +44,3 @@ items_of_object name (a_stream info) = a_file (place_of (name ∷ [])) info.cont
 abbrev pub cuts_of_object : List ℕ → Object → List CutInfo
 cuts_of_object name (a_storage info inside) = cuts_of [] inside
 cuts_of_object name (a_stream info) = cuts_at (name ∷ []) info
-
--- what stands at this path was made behind what stood there, whatever tree the bytes of the file mean
-pub record IsExtracted (file : FileState) (path : List ℕ) (old new : List Item) : Type 0 where
-  pub names : List (List ℕ)
-  pub named : names_of_path path ≡ Some names
-  pub made : (tree : Tree) → MeansTree file tree
-      → (found : Found) × (found_at (cases_of file.base) tree names ≡ Some found) × (new ≡ old ++ items_of_object found.name found.object)
-
--- and so its streams that cannot be read to their ends were told behind others
-pub record TellsCuts (file : FileState) (path : List ℕ) (old new : List CutInfo) : Type 0 where
-  pub names : List (List ℕ)
-  pub named : names_of_path path ≡ Some names
-  pub told : (tree : Tree) → MeansTree file tree
-      → (found : Found) × (found_at (cases_of file.base) tree names ≡ Some found) × (new ≡ old ++ cuts_of_object found.name found.object)
-
--- ---- refusals
-
--- the medium failed or memory was refused, or the folder refused
-abbrev pub IsBrokenOff : ExtractError → Type 0
-IsBrokenOff (File e) = IsBreak ⊥ e
-IsBrokenOff (Folder fault) = ⊤
-
--- the file has failed, or so a walk from this path is refused
-abbrev pub IsRefusedAt : FileState → List ℕ → ExtractError → Type 0
-IsRefusedAt file path (File e) = ((e ≡ Failed) × (is_failed file ≡ true)) ⊎ AnswersNot file (walk_storage path) e
-IsRefusedAt file path (Folder fault) = ⊥
-
--- the folder has what stood in it, and more behind it
-pub record IsKept (old new : List Item) : Type 0 where
-  pub more : List Item
-  pub kept : new ≡ old ++ more

@@ -29,3 +29,8 @@ pub record IsLongerSo (old new : List Item) : Type 0 where
 pub record IsPartlyLonger (bytes : List ℕ) (old new : List Item) : Type 0 where
   pub count : ℕ
   pub longer : IsLonger (take count bytes) old new
+
+-- the folder has what stood in it, and more behind that
+pub record IsKept (old new : List Item) : Type 0 where
+  pub more : List Item
+  pub kept : new ≡ old ++ more

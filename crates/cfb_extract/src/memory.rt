@@ -43,7 +43,8 @@ fn copy_of<A: Heap + Clone, B: Heap>(
 {
     let mut copy = Vec::new(alloc.clone()?);
     for name in place {
-        copy.push(String::from_str(alloc.clone()?, name.as_str())?)?;
+        let same = String::from_str(alloc.clone()?, name.as_str())?;
+        copy.push(same)?;
     }
     Ok(copy)
 }

@@ -1,5 +1,5 @@
 //! The names of objects as places in a folder, and as paths.
-ghost use Rattle.std.specs.Prelude.{◌≡◌, IfOk, chars, string_bytes, flat_map};
+ghost use Rattle.std.specs.Prelude.{◌≡◌, IfOk, chars, string_bytes};
 ghost use Rattle.cfb_extract.specs.Items.{texts};
 ghost use Rattle.cfb_extract.specs.Extracted.{place_of, slashed};
 
@@ -15,7 +15,8 @@ pub(crate) fn place_of<A: Heap + Clone>(
 {
     let mut place = Vec::new(alloc.clone()?);
     for name in names {
-        place.push(host_name(alloc.clone()?, name.as_str())?)?;
+        let own = host_name(alloc.clone()?, name.as_str())?;
+        place.push(own)?;
     }
     Ok(place)
 }

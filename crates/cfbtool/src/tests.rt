@@ -14,6 +14,7 @@ use std::{env, fs};
 
 mod acts;
 mod compacts;
+mod extracts;
 mod files;
 mod library;
 mod lines;

@@ -65,6 +65,11 @@ loop-next-preserved-then-not-is_storage g c = record {
 pub child_link-child-requires : goal.child_link-child-requires
 child_link-child-requires g c = let l = (there g (goal.at.child_link-child-requires g c).In-Some).within in omega (arith, l, length-map c.args.entries.now entry_of)
 
+pub overflow_add-next : goal.overflow_add-next
+overflow_add-next g c =
+    let n = there g (goal.at.overflow_add-next g c).In-Some in
+    omega (arith, n.shallow, c.loop-next.list.small, c.loop-next.list.ok.0, c.loop-next.list.ok.1)
+
 pub push_siblings-requires-in-Some-clause-listed : goal.push_siblings-requires-in-Some-clause-listed
 push_siblings-requires-in-Some-clause-listed g c =
     let (found, hangs) =
