@@ -27,9 +27,7 @@ pub record TellsCuts (file : FileState) (path : List ℕ) (old new : List CutInf
   pub told : (tree : Tree) → MeansTree file tree
       → (found : Found) × (found_at (cases_of file.base) tree names ≡ Some found) × (new ≡ old ++ cuts_of_object found.name found.object)
 
-
 -- the file has failed, or so a walk from this path is refused
 abbrev pub IsRefusedAt : FileState → List ℕ → ExtractError → Type 0
 IsRefusedAt file path (File e) = ((e ≡ Failed) × (is_failed file ≡ true)) ⊎ AnswersNot file (walk_storage path) e
 IsRefusedAt file path (Folder fault) = ⊥
-

@@ -1,6 +1,5 @@
 -- What stands in a folder in memory.
 use Rattle.std.specs.Prelude.{ℕ, List, [], ◌∷◌, Option, Some, None, Vec, map}
-
 use Rattle.cfb_extract.specs.declared.memory.MemoryItem.{MemoryItem}
 use Rattle.cfb_extract.specs.declared.memory.MemoryFolder.{MemoryFolder}
 use Rattle.cfb_extract.specs.Items.{Item, a_file, a_folder, texts}

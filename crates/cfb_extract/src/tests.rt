@@ -111,7 +111,14 @@ fn trees_are_extracted(rt: HostRuntime) -> Result<(), Fail> {
     let alloc = rt.alloc();
     let mut file = made(alloc, TREE)?;
     assert!(rt; gives(alloc, &mut file, "/", FOLDER)?);
-    assert!(rt; gives(alloc, &mut file, "a/B", &[("/%05SummaryInformation", Some(200))])?);
+    assert!(rt;
+        gives(
+            alloc,
+            &mut file,
+            "a/B",
+            &[("/%05SummaryInformation", Some(200))]
+        )?
+    );
     assert!(rt; gives(alloc, &mut file, "/100%", &[("/100%25", Some(3))])?);
     let mut empty = made(alloc, &[])?;
     assert!(rt; gives(alloc, &mut empty, "/", &[])?);

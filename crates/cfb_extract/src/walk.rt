@@ -83,13 +83,7 @@ pub fn walk_inside<A: Allocator + Clone>(
             continue;
         }
         let child = child_link(entries, next.entry);
-        push_siblings(
-            entries,
-            child,
-            next.depth + 1,
-            &mut stack,
-            &mut pending,
-        )?;
+        push_siblings(entries, child, next.depth + 1, &mut stack, &mut pending)?;
     }
     Ok(list)
 }

@@ -4,7 +4,6 @@
 pub mod cases;
 pub mod changing;
 pub mod errors;
-
 pub mod medium;
 pub mod memory;
 pub mod reading;

@@ -13,10 +13,7 @@ pub fn list(rt: &HostRuntime, path: &str) -> io::Result<()> {
 }
 
 /// Reads all bytes of the stream `/notes/today`.
-pub fn today<F: ReadMedium>(
-    alloc: Global,
-    file: &mut CompoundFile<F>,
-) -> Result<Vec<u8>, Error> {
+pub fn today<F: ReadMedium>(alloc: Global, file: &mut CompoundFile<F>) -> Result<Vec<u8>, Error> {
     cfb::read_stream(alloc, file, "/notes/today")
 }
 

@@ -1,7 +1,7 @@
 //! Each function of the tutorial once.
+use crate::cases::open_greek;
 use crate::changing::tidy;
 use crate::errors::{read_if_there, write_and_ask};
-use crate::cases::open_greek;
 use crate::medium::Counted;
 use crate::memory::{packed, unpacked};
 use crate::reading::{first_line, today};

@@ -55,7 +55,10 @@ fn tell_cuts<E: Output>(about: About<'_>, base: Option<&str>, cuts: &[Cut], faul
     let base = Shown(base.unwrap_or("").trim_end_matches('/'));
     for cut in cuts {
         let (path, got, len) = (Shown(cut.path.as_str()), cut.got, cut.len);
-        let _ = writeln!(faults, "cfbtool: {file}: {base}{path}: {got} of {len} bytes can be read");
+        let _ = writeln!(
+            faults,
+            "cfbtool: {file}: {base}{path}: {got} of {len} bytes can be read"
+        );
     }
 }
 
