@@ -67,8 +67,8 @@ fn look_into<H: Files<File = File> + AllocGlobal, F: ReadMedium, W: Output, E: O
         Asked::Info(name) => info(alloc, &mut file, name, out),
         Asked::Map(_) => map(alloc, &mut file, out),
         Asked::Dump(_) => dump(alloc, &mut file, out, faults),
-        Asked::ExtractAll(_, folder) | Asked::ExtractAt(_, _, folder) => {
-            extract(rt, &mut file, at, folder, faults)
+        Asked::ExtractAll(..) | Asked::ExtractAt(..) => {
+            extract(rt, &mut file, at, About::of(asked), faults)
         }
         _ => Err(Refusal::WrongWords),
     }
