@@ -19,7 +19,11 @@ pub use cfb_format::validate::Validation;
 pub use cfb_format::version::Version;
 pub use cfb_listing::entries::Entries;
 pub use cfb_listing::entry::Entry;
+pub use cfb_slices::seek::SeekMedium;
+pub use cfb_slices::slice::SliceMedium;
 pub use cfb_std_streams::kinds::{std_error, std_kind};
+pub use cfb_whole_streams::reading::read_stream;
+pub use cfb_whole_streams::writing::write_stream;
 
 /// What follows from what the calls promise. None of these functions does anything: each has laws as its contract.
 pub mod laws {
@@ -55,6 +59,8 @@ pub mod internal {
     pub use cfb_format::version::Version;
     pub use cfb_listing::entries::Entries;
     pub use cfb_listing::entry::Entry;
+pub use cfb_slices::seek::SeekMedium;
+pub use cfb_slices::slice::SliceMedium;
     pub use cfb_listing::listing::EntriesOrder;
     pub use cfb_mini::mini_allocator::MiniAllocator;
     pub use cfb_mini_chains::mini_chain::MiniChain;

@@ -27,3 +27,4 @@ pub mod Reopening
 pub mod Beginning
 pub mod RefusedKinds
 pub mod Heeding
+pub mod Writing

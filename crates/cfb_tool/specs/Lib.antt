@@ -8,5 +8,4 @@ pub use Rattle.cfb_commands.specs.cfb_compound_file
 pub mod Asking
 pub mod Listing
 pub mod Playing
-pub mod Content
 pub mod Laws

@@ -2,7 +2,6 @@
 #![tactic(auto)]
 
 pub mod asking;
-pub mod content;
 pub mod laws;
 pub mod listing;
 pub mod playing;

@@ -6,7 +6,6 @@ use cfb::{Command, CompoundFile, Error, FileMedium, FileReadMedium, ReadMedium, 
 use cfb_lines::LinesError;
 use cfb_lines::lines::commands_in;
 use cfb_tool::asking::{Asked, asked_by};
-use cfb_tool::content::{content_at, put_content};
 use cfb_tool::listing::{listing, listing_at};
 use cfb_tool::playing::play;
 use cfb_tool::soundness::soundness_line;
@@ -149,7 +148,7 @@ fn print_content<F: ReadMedium, W: Write>(
     stream: &str,
     out: &mut W,
 ) -> Result<(), Refusal> {
-    let bytes = content_at(alloc, file, stream)?;
+    let bytes = cfb::read_stream(alloc, file, stream)?;
     print(bytes.as_slice(), out)
 }
 
@@ -171,7 +170,7 @@ fn put_bytes<H: Files<File = File> + AllocGlobal>(
     bytes: &[u8],
 ) -> Result<(), Refusal> {
     let mut file = cfb::open_rw(rt, rt.alloc(), path)?;
-    put_content(&mut file, stream, bytes).map_err(Refusal::Of)
+    cfb::write_stream(&mut file, stream, bytes).map_err(Refusal::Of)
 }
 
 fn check<H: Files<File = File> + AllocGlobal, W: Write>(

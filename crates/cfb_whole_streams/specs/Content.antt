@@ -12,16 +12,16 @@ use Rattle.cfb_rules.specs.Lists.{CommandReply, creates, on_stream, replied, str
 use Rattle.cfb_rules.specs.Refusal.{Refusal}
 use Rattle.cfb_rules.specs.Runs.{StreamCallRuns, StreamRun, opened_by_path}
 use Rattle.cfb_rules.specs.StreamCalls.{StreamCall, StreamReply, answered, count, got, not_done, offset, read_to_end, ready, write}
-use Rattle.cfb_tool.specs.cfb_mini_sectors.State.{cases_of}
-use Rattle.cfb_tool.specs.cfb_agreement.Files.{FileState, SameSetting, failures_of, is_failed}
-use Rattle.cfb_tool.specs.cfb_path_changes.Answers.{Answers, AnswersNot, MeansTree, setting_of}
-use Rattle.cfb_tool.specs.cfb_compound_file.Stored.{kept_of}
-use Rattle.cfb_tool.specs.cfb_compound_file.StreamAnswers.{OpenStream, causes_of_reading}
+use Rattle.cfb_whole_streams.specs.cfb_mini_sectors.State.{cases_of}
+use Rattle.cfb_whole_streams.specs.cfb_agreement.Files.{FileState, SameSetting, failures_of, is_failed}
+use Rattle.cfb_whole_streams.specs.cfb_path_changes.Answers.{Answers, AnswersNot, MeansTree, setting_of}
+use Rattle.cfb_whole_streams.specs.cfb_compound_file.Stored.{kept_of}
+use Rattle.cfb_whole_streams.specs.cfb_compound_file.StreamAnswers.{OpenStream, causes_of_reading}
 use Rattle.cfb_commands.specs.Commands.{refusal_of_error}
 use Rattle.cfb_commands.specs.Promised.{IsOpenSince}
 use Rattle.cfb_commands.specs.Working.{LendsNothing, Works}
 use Rattle.cfb_commands.specs.Working as commands
-use Rattle.cfb_tool.specs.Playing.{first_refusal, refusal_in}
+use Rattle.cfb_whole_streams.specs.Told.{first_refusal, refusal_in}
 
 -- ---- what is stored
 
