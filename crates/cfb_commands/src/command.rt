@@ -45,17 +45,18 @@ impl<A: Heap + Clone> Clone for StreamOp<A> {
     ghost is_clone = { λ old new. stream_call_of new ≡ stream_call_of old };
 
     /// The same operation, with memory of its own.
+    #[tactic(auto, using(std::specs::List::each_same))]
     fn clone(&self) -> Result<StreamOp<A>, AllocError> {
-        Ok(match self {
-            StreamOp::Read(wanted) => StreamOp::Read(*wanted),
-            StreamOp::ReadToEnd => StreamOp::ReadToEnd,
-            StreamOp::Write(bytes) => StreamOp::Write(bytes.clone()?),
-            StreamOp::Seek(to) => StreamOp::Seek(*to),
-            StreamOp::SetLen(len) => StreamOp::SetLen(*len),
-            StreamOp::Flush => StreamOp::Flush,
-            StreamOp::Position => StreamOp::Position,
-            StreamOp::Len => StreamOp::Len,
-        })
+        match self {
+            StreamOp::Read(wanted) => Ok(StreamOp::Read(*wanted)),
+            StreamOp::ReadToEnd => Ok(StreamOp::ReadToEnd),
+            StreamOp::Write(bytes) => Ok(StreamOp::Write(bytes.clone()?)),
+            StreamOp::Seek(to) => Ok(StreamOp::Seek(*to)),
+            StreamOp::SetLen(len) => Ok(StreamOp::SetLen(*len)),
+            StreamOp::Flush => Ok(StreamOp::Flush),
+            StreamOp::Position => Ok(StreamOp::Position),
+            StreamOp::Len => Ok(StreamOp::Len),
+        }
     }
 }
 
@@ -107,21 +108,25 @@ impl<A: Heap + Clone> Clone for Command<A> {
     ghost is_clone = { λ old new. command_of new ≡ command_of old };
 
     /// The same command, with memory of its own.
+    #[tactic(auto, using(crate::proofs::Cloned::same_calls))]
     fn clone(&self) -> Result<Command<A>, AllocError> {
-        Ok(match self {
-            Command::CreateStorage(path, moment) => Command::CreateStorage(path.clone()?, *moment),
+        match self {
+            Command::CreateStorage(path, moment) => Ok(Command::CreateStorage(
+                path.clone()?,
+                *moment,
+            )),
             Command::CreateStorageAll(path, moment) => Command::CreateStorageAll(
                 path.clone()?,
                 *moment,
             ),
-            Command::RemoveStorage(path) => Command::RemoveStorage(path.clone()?),
-            Command::RemoveStorageAll(path) => Command::RemoveStorageAll(path.clone()?),
-            Command::RemoveStream(path) => Command::RemoveStream(path.clone()?),
+            Command::RemoveStorage(path) => Ok(Command::RemoveStorage(path.clone()?)),
+            Command::RemoveStorageAll(path) => Ok(Command::RemoveStorageAll(path.clone()?)),
+            Command::RemoveStream(path) => Ok(Command::RemoveStream(path.clone()?)),
             Command::SetStorageClsid(path, clsid) => Command::SetStorageClsid(
                 path.clone()?,
                 *clsid,
             ),
-            Command::SetStateBits(path, bits) => Command::SetStateBits(path.clone()?, *bits),
+            Command::SetStateBits(path, bits) => Ok(Command::SetStateBits(path.clone()?, *bits)),
             Command::SetCreatedTime(path, moment) => Command::SetCreatedTime(
                 path.clone()?,
                 *moment,
@@ -130,16 +135,20 @@ impl<A: Heap + Clone> Clone for Command<A> {
                 path.clone()?,
                 *moment,
             ),
-            Command::Touch(path, moment) => Command::Touch(path.clone()?, *moment),
-            Command::Flush => Command::Flush,
-            Command::Exists(path) => Command::Exists(path.clone()?),
-            Command::IsStream(path) => Command::IsStream(path.clone()?),
-            Command::IsStorage(path) => Command::IsStorage(path.clone()?),
-            Command::Entry(path) => Command::Entry(path.clone()?),
-            Command::ReadStorage(path) => Command::ReadStorage(path.clone()?),
-            Command::WalkStorage(path) => Command::WalkStorage(path.clone()?),
-            Command::Stream(how, path, ops) => Command::Stream(*how, path.clone()?, ops.clone()?),
-        })
+            Command::Touch(path, moment) => Ok(Command::Touch(path.clone()?, *moment)),
+            Command::Flush => Ok(Command::Flush),
+            Command::Exists(path) => Ok(Command::Exists(path.clone()?)),
+            Command::IsStream(path) => Ok(Command::IsStream(path.clone()?)),
+            Command::IsStorage(path) => Ok(Command::IsStorage(path.clone()?)),
+            Command::Entry(path) => Ok(Command::Entry(path.clone()?)),
+            Command::ReadStorage(path) => Ok(Command::ReadStorage(path.clone()?)),
+            Command::WalkStorage(path) => Ok(Command::WalkStorage(path.clone()?)),
+            Command::Stream(how, path, ops) => Ok(Command::Stream(
+                *how,
+                path.clone()?,
+                ops.clone()?,
+            )),
+        }
     }
 }
 

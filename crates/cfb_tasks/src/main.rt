@@ -2,7 +2,7 @@
 //! `stdout`.
 #![tactic(auto)]
 
-use cfb::{CompoundFile, FileMedium, Medium, MemoryMedium, ReadMedium, SliceMedium, Timestamp};
+use cfb::{CompoundFile, FileMedium, Medium, ReadMedium, SliceMedium, Timestamp};
 use std::alloc::Global;
 use std::io::{self, BufRead, Write};
 use uuid::Uuid;
@@ -17,7 +17,11 @@ fn list(rt: &HostRuntime, path: &str) -> io::Result<()> {
 }
 
 /// Reads all bytes of a stream.
-fn read_stream<F: ReadMedium>(alloc: Global, file: &mut CompoundFile<F>, path: &str) -> io::Result<Vec<u8>> {
+fn read_stream<F: ReadMedium>(
+    alloc: Global,
+    file: &mut CompoundFile<F>,
+    path: &str,
+) -> io::Result<Vec<u8>> {
     Ok(cfb::read_stream(alloc, file, path)?)
 }
 
@@ -27,7 +31,11 @@ fn write_stream<F: Medium>(file: &mut CompoundFile<F>, path: &str, bytes: &[u8])
 }
 
 /// Copies a stream from one file to another at the same path.
-fn copy_stream<F: ReadMedium, G: Medium>(from: &mut CompoundFile<F>, to: &mut CompoundFile<G>, path: &str) -> io::Result<u64> {
+fn copy_stream<F: ReadMedium, G: Medium>(
+    from: &mut CompoundFile<F>,
+    to: &mut CompoundFile<G>,
+    path: &str,
+) -> io::Result<u64> {
     let mut source = from.open_read_stream(path)?;
     let mut target = to.create_stream(path)?;
     let copied = io::copy(&mut source, &mut target);
@@ -38,7 +46,13 @@ fn copy_stream<F: ReadMedium, G: Medium>(from: &mut CompoundFile<F>, to: &mut Co
 /// Prints path, class id, state bits and moment of each object.
 fn metadata(rt: &HostRuntime, file: &CompoundFile<FileMedium>) -> io::Result<()> {
     for entry in file.walk()? {
-        println!(rt; "{} {} {:08x} {:?}", entry.path(), entry.clsid(), entry.state_bits(), entry.modified())?;
+        println!(rt;
+            "{} {} {:08x} {:?}",
+            entry.path(),
+            entry.clsid(),
+            entry.state_bits(),
+            entry.modified()
+        )?;
     }
     Ok(())
 }
@@ -85,7 +99,11 @@ fn all(rt: &HostRuntime) -> io::Result<()> {
     println!(rt; "{}", copy_stream(&mut file, &mut to, "/s/x")?)?;
     let whole = std::fs::read(rt, path)?;
     let mut mem = from_bytes(rt.alloc(), &whole)?;
-    println!(rt; "{} {}", root_streams(&mem)?, first_line(rt.alloc(), &mut mem)?)?;
+    println!(rt;
+        "{} {}",
+        root_streams(&mem)?,
+        first_line(rt.alloc(), &mut mem)?
+    )?;
     remove(&mut file)?;
     list(rt, path)
 }

@@ -94,3 +94,25 @@ module _ (can_give : MediumFault → Bool) where
     pub writes : WritesOn bytes calls reply
     pub tells : told ≡ refusal_in reply
     pub answers : commands.AnswersCommand can_give old (on_stream creates path calls) reply new
+
+-- ---- copied
+
+module _ (can_give : MediumFault → Bool) where
+  -- so many bytes, all that the stream at the one path has, were put at the other
+  pub record IsCopied (from : FileState) (from_path : List ℕ) (old : FileState) (path : List ℕ) (new : FileState) (n : ℕ) : Type 0 where
+    pub bytes : List ℕ
+    pub had : HoldsStream from from_path bytes
+    pub count : n ≡ length bytes
+    pub put : IsPut can_give old path bytes None new
+    pub has : HoldsStream new path bytes
+
+  -- all bytes of the one stream were read, but putting them at the other path was refused so
+  pub record IsPutNot (from : FileState) (from_path : List ℕ) (old : FileState) (path : List ℕ) (new : FileState) (e : Error) : Type 0 where
+    pub bytes : List ℕ
+    pub had : HoldsStream from from_path bytes
+    pub put : IsPut can_give old path bytes (Some (refusal_of_error e)) new
+
+  -- the one was not read, and then the other file is as it was; or it was not put
+  abbrev pub IsNotCopied : (from : FileState) → List ℕ → (from_now : FileState) → (old : FileState) → List ℕ → (new : FileState) → Error → Type 0
+  IsNotCopied from from_path from_now old path new e =
+      (IsNotRead from from_path from_now e × (new ≡ old)) ⊎ IsPutNot from from_path old path new e
