@@ -28,3 +28,4 @@ pub mod Beginning
 pub mod RefusedKinds
 pub mod Heeding
 pub mod Writing
+pub mod Closing

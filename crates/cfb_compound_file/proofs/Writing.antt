@@ -1,6 +1,6 @@
 -- Writes in turn.
 use Rattle.std.proofs.Common.{◌≡◌, ◌<◌, ◌==◌, ℕ, Bool, true, false, List, [], ◌∷◌, ◌++◌, ap, append_assoc, arith, drop, inl, inr, length, refl, subst, sym}
-use Rattle.std.specs.Prelude.{◌⊎◌, MatchBool, Result, Ok, Err, nat_le}
+use Rattle.std.specs.Prelude.{◌⊎◌, IsTrue, MatchBool, Result, Ok, Err, nat_le}
 use Rattle.cfb_format.specs.declared.error.Error.{Error}
 use Rattle.cfb_format.specs.declared.medium.MediumFault.{MediumFault}
 use Rattle.cfb_compound_file.specs.cfb_rules.Refusal.{Refusal, invalid_input, not_sound}
@@ -9,7 +9,7 @@ use Rattle.cfb_compound_file.specs.cfb_rules.StreamCalls.{Moves, StreamReply, St
 use Rattle.cfb_stream_buffer.specs.Contents.{stream_setting_of}
 use Rattle.cfb_stream_window.specs.Windows.{Runs}
 use Rattle.cfb_path_changes.specs.Answers.{causes_of}
-use Rattle.cfb_compound_file.specs.StreamAnswers.{OpenStream, StreamRunsOn, run_in, stored_in}
+use Rattle.cfb_compound_file.specs.StreamAnswers.{GoesOnInTurn, OpenStream, StreamRunsOn, run_in, stored_in}
 use Rattle.cfb_compound_file.specs.Writing.{IsWrite, IsWrittenInTurn, WriteDone, WriteInTurn}
 
 -- ---- a write takes something
@@ -82,3 +82,12 @@ module _ (can_give : MediumFault → Bool) where
 pub emptied : (bytes : List ℕ) → length bytes ≡ 0 → bytes ≡ []
 emptied [] none = refl
 emptied (b ∷ bytes) none = absurd (omega (arith))
+
+-- a file has not failed where that leads nowhere
+pub calm_where : (b : Bool) → (b ≡ true → ⊥) → b ≡ false
+calm_where true never = absurd (never refl)
+calm_where false never = refl
+
+-- what a write promises on a medium that tells its bytes
+pub goes_told : (tells : Bool) (old new : OpenStream) → IsTrue tells → GoesOnInTurn tells old new → GoesOnInTurn true old new
+goes_told tells old new told g = record { entry = g.entry; bound = g.bound; changes = λ _. g.changes told; calm = λ _. g.calm told; settles = λ _. g.settles told; rest = λ _. g.rest told }

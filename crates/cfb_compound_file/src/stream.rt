@@ -189,8 +189,8 @@ impl<'a, F: Medium, A: Heap + Clone> Stream<'a, F, A> {
         ensures whole { IsTrue F.tells → IsWrittenInTurn (λ f. F.read_faults f || F.write_faults f)
             (open_of self.old) bytes.now result (open_of self.new) }
     {
-        let count = self.write(bytes)?;
-        let mut rest = &bytes[count..];
+        let first = self.write(bytes)?;
+        let mut rest = &bytes[first..];
         while !rest.is_empty() {
             let count = self.write(rest)?;
             // a write of bytes takes at least one of them

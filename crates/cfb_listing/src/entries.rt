@@ -8,7 +8,7 @@ use std::marker::PhantomData;
 
 /// An iterator over what is told of a file's objects. Its list was taken when it was made, so
 /// iterating takes no memory; the file is borrowed as long as it is there.
-#[derive(Debug, Drop)]
+#[derive(Drop)]
 pub struct Entries<'a, F, A: Allocator = Global> {
     left: std::vec::IntoIter<Entry<A>, A>,
     file: PhantomData<&'a F>,
