@@ -9,6 +9,3 @@ pub mod Turns
 pub mod Runs
 pub mod Pieces
 pub mod Stored
-pub mod WholeWrites
-pub mod WholePuts
-pub mod WholeReads

@@ -1,7 +1,8 @@
 //! What is told to be done is stored. Neither function does anything: each has laws as its
 //! contract.
 ghost use Rattle.cfb_tool.specs.Details.{DetailsAreRows};
-ghost use Rattle.cfb_tool.specs.Laws.{AddedIsStored, PutIsStored, WrittenIsStored};
+ghost use Rattle.cfb_tool.specs.Laws.{AddedIsStored, PutIsStored};
+ghost use Rattle.cfb_whole_streams.specs.Laws.{WrittenIsStored};
 
 use cfb_rules::laws::Seen;
 

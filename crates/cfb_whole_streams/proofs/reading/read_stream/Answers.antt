@@ -3,17 +3,17 @@ use Rattle.std.specs.Prelude.{IsTrue, Ok}
 use Rattle.std.proofs.lemmas.Result.{err_from_is_err_and}
 use Rattle.cfb_rules.specs.StreamCalls.{got, not_done, read_to_end}
 use Rattle.cfb_format.specs.Refused.{CountsError}
-use Rattle.cfb_tool.specs.cfb_agreement.Files.{FileState, failures_of}
-use Rattle.cfb_tool.specs.cfb_compound_file.ReadStreams.{open_of}
-use Rattle.cfb_tool.specs.cfb_compound_file.Stored.{kept_of}
-use Rattle.cfb_tool.specs.cfb_compound_file.StreamAnswers.{StreamRunsBy, causes_of_reading}
+use Rattle.cfb_whole_streams.specs.cfb_agreement.Files.{FileState, failures_of}
+use Rattle.cfb_whole_streams.specs.cfb_compound_file.ReadStreams.{open_of}
+use Rattle.cfb_whole_streams.specs.cfb_compound_file.Stored.{kept_of}
+use Rattle.cfb_whole_streams.specs.cfb_compound_file.StreamAnswers.{StreamRunsBy, causes_of_reading}
 use Rattle.cfb_commands.specs.Commands.{refusal_of_error}
 use Rattle.cfb_commands.proofs.Errors.{known}
 use Rattle.cfb_commands.proofs.Openings.{at_error, same_file}
 use Rattle.cfb_commands.proofs.Quiet.{from_none}
-use Rattle.cfb_tool.specs.Content.{CountsReading, HoldsStream, IsNotRead, IsOnlyRead}
-use Rattle.cfb_tool.proofs.WholeReads.{closes_calm, holds_read, not_read, opening_counts}
-use Rattle.cfb_tool.proofs.content.content_at.Goals as goal
+use Rattle.cfb_whole_streams.specs.Content.{CountsReading, HoldsStream, IsNotRead, IsOnlyRead}
+use Rattle.cfb_whole_streams.proofs.WholeReads.{closes_calm, holds_read, not_read, opening_counts}
+use Rattle.cfb_whole_streams.proofs.reading.read_stream.Goals as goal
 
 pub returns-in_err-stream-clause-refused : goal.returns-in_err-stream-clause-refused
 returns-in_err-stream-clause-refused g c =
