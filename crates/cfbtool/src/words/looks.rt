@@ -1,4 +1,5 @@
 //! The words that only read FILE.
+use super::cuts::not_read;
 use super::details::details;
 use super::dump::dump;
 use super::extract::extract;
@@ -97,7 +98,10 @@ fn cat<F: ReadMedium, W: Output>(
     stream: &str,
     out: &mut W,
 ) -> Result<(), Refusal> {
-    let bytes = cfb::read_stream(alloc, file, stream)?;
+    let bytes = match cfb::read_stream(alloc, file, stream) {
+        Ok(bytes) => bytes,
+        Err(e) => return Err(not_read(file, stream, e)),
+    };
     if out.is_terminal() && !is_plain_text(bytes.as_slice()) {
         return Err(Refusal::NotText);
     }
