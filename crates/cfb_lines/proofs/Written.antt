@@ -283,15 +283,17 @@ module _ (old new path : List ℕ) (plain : Lacks 92 path) where
       (subst (Lacks 9) (sym is) (class_lacks 9 id (omega arith))) (subst (Lacks 10) (sym is) (class_lacks 10 id (omega arith))) utf8
       (field, id, refl, sym says, refl)
 
-  pub created_line : (field : List ℕ) (n : ℕ) → n < 2 ^ 64 → field ≡ decimal n → IsLineOf old new Created path field → AddsLines old new (by_path (set_created_time path n) ∷ [])
-  created_line field n fits is written =
-      line_says old new Created path (decimal n) (by_path (set_created_time path n)) (subst (IsLineOf old new Created path) is written) plain
-      (number_lacks 9 n (omega arith) fits) (number_lacks 10 n (omega arith) fits) (number_utf8 n fits) (decimal n, n, refl, is_number 64 n fits fits, refl)
+  pub created_line : (field : List ℕ) (n moment : ℕ) → n < 2 ^ 64 → n ≡ moment → field ≡ decimal n → IsLineOf old new Created path field → AddsLines old new (by_path (set_created_time path moment) ∷ [])
+  created_line field n moment fits same is written =
+      subst (λ (m : ℕ). AddsLines old new (by_path (set_created_time path m) ∷ [])) same
+      (line_says old new Created path (decimal n) (by_path (set_created_time path n)) (subst (IsLineOf old new Created path) is written) plain
+      (number_lacks 9 n (omega arith) fits) (number_lacks 10 n (omega arith) fits) (number_utf8 n fits) (decimal n, n, refl, is_number 64 n fits fits, refl))
 
-  pub modified_line : (field : List ℕ) (n : ℕ) → n < 2 ^ 64 → field ≡ decimal n → IsLineOf old new Modified path field → AddsLines old new (by_path (set_modified_time path n) ∷ [])
-  modified_line field n fits is written =
-      line_says old new Modified path (decimal n) (by_path (set_modified_time path n)) (subst (IsLineOf old new Modified path) is written) plain
-      (number_lacks 9 n (omega arith) fits) (number_lacks 10 n (omega arith) fits) (number_utf8 n fits) (decimal n, n, refl, is_number 64 n fits fits, refl)
+  pub modified_line : (field : List ℕ) (n moment : ℕ) → n < 2 ^ 64 → n ≡ moment → field ≡ decimal n → IsLineOf old new Modified path field → AddsLines old new (by_path (set_modified_time path moment) ∷ [])
+  modified_line field n moment fits same is written =
+      subst (λ (m : ℕ). AddsLines old new (by_path (set_modified_time path m) ∷ [])) same
+      (line_says old new Modified path (decimal n) (by_path (set_modified_time path n)) (subst (IsLineOf old new Modified path) is written) plain
+      (number_lacks 9 n (omega arith) fits) (number_lacks 10 n (omega arith) fits) (number_utf8 n fits) (decimal n, n, refl, is_number 64 n fits fits, refl))
 
   pub bits_line : (field : List ℕ) (n : ℕ) → n < 2 ^ 32 → field ≡ decimal n → IsLineOf old new Bits path field → AddsLines old new (by_path (set_state_bits path n) ∷ [])
   bits_line field n fits is written =

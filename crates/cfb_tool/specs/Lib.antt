@@ -10,3 +10,4 @@ pub mod Listing
 pub mod Playing
 pub mod Content
 pub mod Laws
+pub mod Dumping

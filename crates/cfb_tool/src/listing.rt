@@ -42,7 +42,7 @@ pub fn listing_at<F: ReadMedium, A: Heap + Clone>(
 }
 
 /// What `walk` tells, in order. It is refused as that is; `Memory` for the list too.
-fn walked<F: ReadMedium, A: Heap + Clone>(
+pub(crate) fn walked<F: ReadMedium, A: Heap + Clone>(
     alloc: &A,
     file: &CompoundFile<F, A>,
 ) -> Result<Vec<Entry<A>, A>, Error>

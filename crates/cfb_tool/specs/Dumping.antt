@@ -1,0 +1,31 @@
+-- A file as lines that make its tree.
+use Rattle.std.specs.Prelude.{ℕ, ◌≡◌, ⊤, List, true}
+use Rattle.cfb_format.specs.declared.objtype.ObjType.{ObjType}
+use Rattle.cfb_format.specs.declared.objtype.ObjType.TheVariants.{Unallocated, Storage, Stream, Root}
+use Rattle.cfb_rules.specs.Calls.{EntryInfo}
+use Rattle.cfb_making.specs.Making.{CanBeNamed}
+use Rattle.cfb_lines.specs.Writing.{Lacks}
+use Rattle.cfb_tool.specs.cfb_agreement.Files.{FileState}
+use Rattle.cfb_tool.specs.Content.{HoldsStream}
+
+-- a path leads to an object of this kind: that of the root always
+abbrev pub IsNamedAs : ObjType → EntryInfo → Type 0
+IsNamedAs Unallocated info = CanBeNamed info.name
+IsNamedAs Storage info = CanBeNamed info.name
+IsNamedAs Stream info = CanBeNamed info.name
+IsNamedAs Root info = ⊤
+
+-- a path leads to what is told, and has no backslash
+pub record CanBeDumped (info : EntryInfo) : Type 0 where
+  pub named : IsNamedAs info.obj_type info
+  pub path : Lacks 92 info.path
+
+-- a stream that is told has these bytes
+abbrev pub HoldsAs : ObjType → FileState → EntryInfo → List ℕ → Type 0
+HoldsAs Unallocated file info content = ⊤
+HoldsAs Storage file info content = ⊤
+HoldsAs Stream file info content = HoldsStream file info.path content
+HoldsAs Root file info content = ⊤
+
+abbrev pub HoldsContent : FileState → EntryInfo → List ℕ → Type 0
+HoldsContent file info content = HoldsAs info.obj_type file info content
