@@ -1,12 +1,11 @@
 -- A walk whose objects were told as lines.
-use Rattle.std.proofs.Common.{◌≡◌, ◌∙◌, ℕ, Bool, true, false, List, [], ◌∷◌, ◌++◌, ap, refl, subst, sym, inl, inr}
-use Rattle.std.specs.Prelude.{Some, ◌⊎◌, ◌||◌, ◌&&◌, MatchBool, ⊤, length, nat_le, not}
-use Rattle.std.specs.List.{list_any}
+use Rattle.std.proofs.Common.{◌≡◌, ◌∙◌, ◌<◌, ◌^◌, ℕ, arith, Bool, true, false, List, [], ◌∷◌, ◌++◌, ap, refl, subst, sym, inl, inr}
+use Rattle.std.specs.Prelude.{Some, ◌⊎◌, MatchBool, ⊤, codes}
+use Rattle.std.specs.Fmt.{decimal}
 use Rattle.cfb_format.specs.declared.objtype.ObjType.{ObjType}
 use Rattle.cfb_format.specs.declared.objtype.ObjType.TheVariants.{Unallocated, Storage, Stream, Root}
 use Rattle.cfb_format.specs.Meaning.{Means}
-use Rattle.cfb_format.specs.Names.{Cases, is_forbidden_character, utf16_units}
-use Rattle.cfb_format.specs.Path.{part_says_nothing, part_says_parent}
+use Rattle.cfb_format.specs.Names.{Cases}
 use Rattle.cfb_format.specs.Tree.{Tree, Object, a_stream}
 use Rattle.cfb_format.proofs.Ordered.{Means-IsOrdered}
 use Rattle.cfb_rules.specs.Calls.{EntryInfo, Reply, entries, refused, walk}
@@ -17,15 +16,16 @@ use Rattle.cfb_rules.specs.Runs.{CallRuns, FollowsRules, IsBroken, OnFailed}
 use Rattle.cfb_rules.specs.Steps.{kind_of}
 use Rattle.cfb_lines.specs.Lines.{comment}
 use Rattle.cfb_lines.specs.Writing.{AddsLines, Lacks, ended}
+use Rattle.cfb_lines.proofs.Written.{lacks_append, lacks_below, number_lacks}
 use Rattle.cfb_dumps.specs.Dumps.{AreToldBy, IsDumpOf, IsToldAs, StandsWith, told_commands}
 use Rattle.cfb_dumps.proofs.Joined.{more_lines, named_so, no_lines}
 use Rattle.cfb_dumps.proofs.Walks.{dumps_make_the_tree, told_more}
-use Rattle.cfb_tool.specs.cfb_outline.Families.{is_root_kind, is_stream_kind}
+use Rattle.cfb_tool.specs.cfb_outline.Families.{is_stream_kind}
 use Rattle.cfb_tool.specs.cfb_mini_sectors.State.{bytes_of, cases_of, root_len_of}
 use Rattle.cfb_tool.specs.cfb_agreement.Files.{FileState, is_failed}
 use Rattle.cfb_tool.specs.cfb_path_changes.Answers.{Answers, MeansTree, RunsOn, causes_of_call, setting_of, state_with}
 use Rattle.cfb_tool.specs.Content.{HasStream, HoldsStream, IsOnlyRead}
-use Rattle.cfb_tool.specs.Dumping.{CanBeDumped, HoldsAs, HoldsContent, IsNamedAs}
+use Rattle.cfb_tool.specs.Dumping.{CanBeDumped, HoldsAs, HoldsContent, IsNamedAs, comment_line, is_reachable}
 
 -- ---- what is told of the walk
 
@@ -63,16 +63,11 @@ not_read a = record { kept = refl }
 -- ---- one object
 
 -- the name of the root is none, and any other is looked at
-pub named_as : (kind : ObjType) (info : EntryInfo) (root named : Bool) → root ≡ is_root_kind kind
-    → named ≡ (not (part_says_nothing info.name) && not (part_says_parent info.name) && not (list_any is_forbidden_character info.name) && nat_le (length (utf16_units info.name)) 31)
-    → (root || named) ≡ true → IsNamedAs kind info
-named_as Root info root named a b h = tt
-named_as Unallocated info true named a b h = cc
-named_as Unallocated info false named a b h = named_so info.name (sym b ∙ h)
-named_as Storage info true named a b h = cc
-named_as Storage info false named a b h = named_so info.name (sym b ∙ h)
-named_as Stream info true named a b h = cc
-named_as Stream info false named a b h = named_so info.name (sym b ∙ h)
+pub named_as : (kind : ObjType) (info : EntryInfo) → is_reachable kind info ≡ true → IsNamedAs kind info
+named_as Root info h = tt
+named_as Unallocated info h = named_so info.name h
+named_as Storage info h = named_so info.name h
+named_as Stream info h = named_so info.name h
 
 pub stream_holds : (kind : ObjType) (file : FileState) (info : EntryInfo) (content : List ℕ) → HoldsStream file info.path content → HoldsAs kind file info content
 stream_holds Unallocated file info content h = tt
@@ -127,6 +122,14 @@ one_dumped old file next told front text more info content so_far can holds read
         more_lines front text more commands (told_commands info content) lines adds,
       );
 }
+
+-- the comment in front
+pub comment_ends : (version : ℕ) → version < 2 ^ 64
+    → (comment_line version ≡ ended (comment ++ (codes ", version " ++ decimal version))) × Lacks 10 (codes ", version " ++ decimal version)
+comment_ends version fits = (
+  refl,
+  lacks_append 10 (codes ", version ") (decimal version) (lacks_below 10 32 (omega arith) (codes ", version ") refl) (number_lacks 10 version (omega arith) fits),
+)
 
 -- all of a walk
 pub all_dumped : (old file : FileState) (told : List EntryInfo) (rest front text : List ℕ) → IsDumpedUpTo old file told front text → front ≡ ended (comment ++ rest) → Lacks 10 rest

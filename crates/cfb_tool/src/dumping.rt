@@ -1,11 +1,11 @@
 //! A file as lines of `run` that make its tree.
-ghost use Rattle.std.specs.Prelude.{◌≡◌, false, true, IfOk, IsTrue, OnOk, string_bytes};
+ghost use Rattle.std.specs.Prelude.{◌≡◌, false, IfOk, IsTrue, OnOk, string_bytes};
 ghost use Rattle.cfb_format.specs.Tree.{Tree};
 ghost use Rattle.cfb_tool.specs.cfb_agreement.Files.{is_failed};
 ghost use Rattle.cfb_tool.specs.cfb_mini_sectors.State.{cases_of};
 ghost use Rattle.cfb_tool.specs.cfb_path_changes.Answers.{MeansTree};
 ghost use Rattle.cfb_tool.specs.Content.{IsOnlyRead};
-ghost use Rattle.cfb_tool.specs.Dumping.{CanBeDumped, HoldsContent, IsNamedAs};
+ghost use Rattle.cfb_tool.specs.Dumping.{CanBeDumped, HoldsContent, comment_line, is_reachable};
 ghost use Rattle.cfb_dumps.specs.Dumps.{IsDumpOf};
 
 use crate::content::content_at;
@@ -20,7 +20,7 @@ use std::alloc::Allocator as Heap;
 
 /// Whether a path can say the name of the object; the root needs none.
 fn is_named<A: Heap>(entry: &Entry<A>) -> bool
-    ensures { result ≡ true → IsNamedAs entry.now.obj_type entry.now }
+    ensures { result ≡ is_reachable entry.now.obj_type entry.now }
 {
     entry.is_root() || can_be_named(entry.name())
 }
@@ -29,7 +29,10 @@ fn is_named<A: Heap>(entry: &Entry<A>) -> bool
 fn check_named<A: Heap>(entry: &Entry<A>) -> Result<(), Error>
     ensures { OnOk result (CanBeDumped entry.now) }
 {
-    if !is_named(entry) || has_backslash(entry.path()) {
+    if !is_named(entry) {
+        return Err(Error::InvalidData(Detail::text("no path leads to an object")));
+    }
+    if has_backslash(entry.path()) {
         return Err(Error::InvalidData(Detail::text("no path leads to an object")));
     }
     Ok(())
@@ -46,10 +49,17 @@ fn content_of<F: ReadMedium, A: Heap + Clone>(
     ensures kept { IsTrue F.tells → IsOnlyRead file.old file.new }
 {
     if entry.is_stream() {
-        content_at(alloc.clone()?, file, entry.path())
-    } else {
-        Ok(Vec::new(alloc.clone()?))
+        let bytes = content_at(alloc.clone()?, file, entry.path())?;
+        return Ok(bytes);
     }
+    Ok(Vec::new(alloc.clone()?))
+}
+
+/// The comment that a dump begins with.
+fn first_line<A: Heap>(alloc: A, version: u16) -> Result<String<A>, Error>
+    ensures { IfOk result (λ text. string_bytes text ≡ comment_line version) }
+{
+    Ok(format!(in alloc; "# cfbtool dump, version {version}\n")?)
 }
 
 /// Lines of `run` behind a comment. In an empty file they make this file's tree: its objects with
@@ -68,8 +78,7 @@ pub fn dump<F: ReadMedium, A: Heap + Clone>(
     ensures kept { IsTrue F.tells → IsOnlyRead file.old file.new }
 {
     let told = walked(alloc, file)?;
-    let version = file.version().number();
-    let mut text = format!(in alloc.clone()?; "# cfbtool dump, version {version}\n")?;
+    let mut text = first_line(alloc.clone()?, file.version().number())?;
     for entry in &told {
         check_named(entry)?;
         let content = content_of(alloc, file, entry)?;
