@@ -53,7 +53,8 @@ fn push_own_created<A: Allocator + Clone>(
     ensures { OnOk result (AddsLines (string_bytes text.old) (string_bytes text.new)
         (unless_so (moment == already) (set_created_time (chars path.now) moment))) }
 {
-    let (units, had) = (moment.value(), already.value());
+    let units = moment.value();
+    let had = already.value();
     if units == had {
         return Ok(());
     }
@@ -73,7 +74,8 @@ fn push_own_modified<A: Allocator + Clone>(
     ensures { OnOk result (AddsLines (string_bytes text.old) (string_bytes text.new)
         (unless_so (moment == already) (set_modified_time (chars path.now) moment))) }
 {
-    let (units, had) = (moment.value(), already.value());
+    let units = moment.value();
+    let had = already.value();
     if units == had {
         return Ok(());
     }

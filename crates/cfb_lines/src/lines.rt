@@ -269,7 +269,7 @@ fn behind_comment(input: &[u8]) -> (&[u8], usize)
 
 /// The error of the line with this number.
 fn at_line(number: usize, e: LineError<'_>) -> LinesError<'_>
-    ensures { result ≡ error_at number e }
+    ensures { result ≡ error_at number e.entry }
 {
     match e {
         LineError::Wrong(why) => LinesError::WrongWords(number, why),

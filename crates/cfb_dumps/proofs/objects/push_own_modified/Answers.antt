@@ -11,4 +11,4 @@ returns-then-units-had g c =
 pub returns : goal.returns
 returns g c =
     not_left_out (string_bytes c.args.text.now) (string_bytes c.push_modified.new.text) (c.args.moment == c.args.already) (set_modified_time (chars c.args.path.now) c.args.moment)
-    (other_number c.args.moment c.args.already ?) c.in_ok-push_modified.ensures
+    (other_number c.args.moment c.args.already (λ same. c.if-units-had.false (c.value-units.ensures ∙ same ∙ sym c.value-had.ensures))) c.in_ok-push_modified.ensures

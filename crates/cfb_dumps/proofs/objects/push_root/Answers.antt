@@ -1,6 +1,4 @@
-use Rattle.std.proofs.Common.{ℕ, ◌≡◌, ◌==◌, ◌∙◌, Bool, true, false, arith, ap, chars, string_bytes, sym}
-use Rattle.cfb_dumps.proofs.Joined.{as_nothing, as_root, as_storage, as_stream, four_fields, more_lines, no_lines}
 use Rattle.cfb_dumps.proofs.objects.push_root.Goals as goal
 
 pub returns : goal.returns
-returns g c = ?
+returns g c = rw (c.path.ensures, c.zero.ensures) at c.in_ok-push_fields.ensures
