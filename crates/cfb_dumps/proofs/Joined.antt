@@ -2,7 +2,7 @@
 use Rattle.std.proofs.Common.{◌≡◌, ◌≢◌, ◌==◌, ◌≤◌, ℕ, List, [], ◌∷◌, ◌++◌, Bool, true, false, refl, sym, ◌∙◌, ap, subst, append_assoc, append-nil, flat_map, arith, length}
 use Rattle.std.proofs.lemmas.Bool.{eqb-true, leb-true}
 use Rattle.std.proofs.lemmas.Grind.{flat_map-append}
-use Rattle.std.specs.Prelude.{◌&&◌, ◌||◌, nat_le, not, if◌then◌else◌}
+use Rattle.std.specs.Prelude.{◌&&◌, ◌||◌, OnOk, Result, nat_le, not}
 use Rattle.std.specs.List.{AllByRecursion, AllZip, list_any}
 use Rattle.cfb_format.specs.declared.objtype.ObjType.{ObjType}
 use Rattle.cfb_format.specs.declared.objtype.ObjType.TheVariants.{Unallocated, Storage, Stream, Root}
@@ -11,6 +11,7 @@ use Rattle.cfb_format.specs.Path.{is_plain_name, part_says_nothing, part_says_pa
 use Rattle.cfb_format.specs.Timestamp.{unix_epoch}
 use Rattle.cfb_rules.specs.Calls.{Call, EntryInfo}
 use Rattle.cfb_rules.specs.Lists.{Command, by_path}
+use Rattle.cfb_listing.specs.cfb_outline.Families.{is_root_kind, is_storage_kind, is_stream_kind}
 use Rattle.cfb_making.specs.Making.{CanBeNamed, field_commands, storage_commands, stream_commands, unless_so}
 use Rattle.cfb_lines.specs.Commands.{IsLine}
 use Rattle.cfb_lines.specs.Writing.{AddsLines, Lacks, ended}
@@ -47,6 +48,12 @@ left_out text b call e = subst (λ (c : Bool). AddsLines text text (unless_so c 
 
 pub not_left_out : (old new : List ℕ) (b : Bool) (call : Call) → b ≡ false → AddsLines old new (by_path call ∷ []) → AddsLines old new (unless_so b call)
 not_left_out old new b call e h = subst (λ (c : Bool). AddsLines old new (unless_so c call)) (sym e) h
+
+pub same_number : (m n : ℕ) → m ≡ n → (m == n) ≡ true
+same_number m n e = grind arith
+
+pub other_number : (m n : ℕ) → m ≢ n → (m == n) ≡ false
+other_number m n e = grind arith
 
 -- ---- four of them
 
@@ -96,3 +103,32 @@ named_so name h =
       ap (λ (b : Bool). b && not (list_any (λ c. c == slash) name)) two.0 ∙ ap not slashes,
       ap (λ (b : Bool). b && not (list_any is_forbidden_character name)) three.1 ∙ ap not free,
     )
+
+-- ---- the kind of an object
+
+module _ {E : Type 0} (r : Result (Unit {0}) E) (old new : List ℕ) (info : EntryInfo) (content : List ℕ) where
+  pub as_stream : (kind : ObjType) → is_stream_kind kind ≡ true → OnOk r (AddsLines old new (stream_commands info.path (stream_told info content))) → OnOk r (AddsLines old new (kind_commands kind info content))
+  as_stream Unallocated e h = cc
+  as_stream Storage e h = cc
+  as_stream Stream e h = h
+  as_stream Root e h = cc
+
+  pub as_root : (kind : ObjType) → is_root_kind kind ≡ true → OnOk r (AddsLines old new (field_commands 0 info.path (storage_told info))) → OnOk r (AddsLines old new (kind_commands kind info content))
+  as_root Unallocated e h = cc
+  as_root Storage e h = cc
+  as_root Stream e h = cc
+  as_root Root e h = h
+
+  pub as_storage : (kind : ObjType) → is_root_kind kind ≡ false → (is_storage_kind kind || is_root_kind kind) ≡ true
+      → OnOk r (AddsLines old new (storage_commands info.path (storage_told info))) → OnOk r (AddsLines old new (kind_commands kind info content))
+  as_storage Unallocated f e h = cc
+  as_storage Storage f e h = h
+  as_storage Stream f e h = cc
+  as_storage Root f e h = cc
+
+pub as_nothing : (text : List ℕ) (info : EntryInfo) (content : List ℕ) (kind : ObjType) → is_stream_kind kind ≡ false → is_root_kind kind ≡ false
+    → (is_storage_kind kind || is_root_kind kind) ≡ false → AddsLines text text (kind_commands kind info content)
+as_nothing text info content Unallocated s r e = no_lines text
+as_nothing text info content Storage s r e = cc
+as_nothing text info content Stream s r e = cc
+as_nothing text info content Root s r e = cc

@@ -70,13 +70,13 @@ module _ (cases : Cases) (tree : Tree) where
       )
 
   record IsWalked (names : List (List ℕ)) (objects : Objects) (commands : List Command) : Type 0 where
-    commands : commands ≡ flat_map part_commands (parts_in names objects)
+    are : commands ≡ flat_map part_commands (parts_in names objects)
     named : CanAllBeNamed objects
     whole : AreWhole objects
 
   objects_walked : (names : List (List ℕ)) (objects : Objects) (commands : List Command) → list_all is_plain_name names ≡ true → Finds cases tree names (names_in objects) objects
       → IsOrdered cases objects → AreToldBy cases tree (walked (path_of_names names) objects) commands → IsWalked names objects commands
-  objects_walked names nothing commands plain finds ordered h = record { commands = h; named = tt; whole = tt }
+  objects_walked names nothing commands plain finds ordered h = record { are = h; named = tt; whole = tt }
   objects_walked names (storage name info inside rest) commands plain finds ordered h =
       let x : Found = record { name = name; object = a_storage info inside } in
       let here = finds.0 ∙ head-found cases name x (object_named cases name rest) in
@@ -90,10 +90,10 @@ module _ (cases : Cases) (tree : Tree) where
       let outer = objects_walked names rest apart.1 plain
       (finds-rest cases tree names name x (storage name info inside rest) rest (λ q. refl) (names_in rest) ordered.0 finds.1) ordered.2 apart.3 in
       record {
-        commands = h.4
+        are = h.4
             ∙ ap (λ (p : List ℕ). storage_commands p info ++ h.1) path_is
             ∙ ap (λ (cs : List Command). storage_commands (path_of_names below) info ++ cs)
-            (apart.4 ∙ ap (λ (cs : List Command). cs ++ apart.1) inner.commands ∙ ap (λ (cs : List Command). flat_map part_commands (parts_in below inside) ++ cs) outer.commands
+            (apart.4 ∙ ap (λ (cs : List Command). cs ++ apart.1) inner.are ∙ ap (λ (cs : List Command). flat_map part_commands (parts_in below inside) ++ cs) outer.are
             ∙ sym (flat_map-append part_commands (parts_in below inside) (parts_in names rest)));
         named = (h.2, inner.named, outer.named);
         whole = (inner.whole, outer.whole);
@@ -109,10 +109,10 @@ module _ (cases : Cases) (tree : Tree) where
       let outer = objects_walked names rest h.1 plain
       (finds-rest cases tree names name x (stream name info rest) rest (λ q. refl) (names_in rest) ordered.0 finds.1) ordered.1 h.3 in
       record {
-        commands = h.4
+        are = h.4
             ∙ ap (λ (bs : List ℕ). stream_commands path (record { state_bits = info.state_bits; len = length bs; content = bs }) ++ h.1) same.0
             ∙ ap (λ (p : List ℕ). stream_commands p info ++ h.1) path_is
-            ∙ ap (λ (cs : List Command). stream_commands (path_of_names below) info ++ cs) outer.commands;
+            ∙ ap (λ (cs : List Command). stream_commands (path_of_names below) info ++ cs) outer.are;
         named = (h.2.0, outer.named);
         whole = (same.1, outer.whole);
       }

@@ -8,14 +8,14 @@ use Rattle.cfb_format.specs.Names.{Cases}
 use Rattle.cfb_format.specs.Path.{names_of_path}
 use Rattle.cfb_format.specs.Timestamp.{unix_epoch}
 use Rattle.cfb_format.specs.Tree.{StorageInfo, StreamInfo, Tree, IsOrdered, a_stream}
-use Rattle.cfb_dumps.specs.cfb_rules.Calls.{EntryInfo}
-use Rattle.cfb_dumps.specs.cfb_rules.CallReplies.{all_walked}
-use Rattle.cfb_dumps.specs.cfb_rules.Finding.{object_at}
-use Rattle.cfb_dumps.specs.cfb_rules.Lists.{Command}
-use Rattle.cfb_dumps.specs.cfb_making.Making.{AreDone, CanBeNamed, field_commands, storage_commands, stream_commands}
-use Rattle.cfb_dumps.specs.cfb_lines.Commands.{IsScript}
-use Rattle.cfb_dumps.specs.cfb_lines.Lines.{comment}
-use Rattle.cfb_dumps.specs.cfb_lines.Writing.{AddsLines, Lacks, ended}
+use Rattle.cfb_rules.specs.Calls.{EntryInfo}
+use Rattle.cfb_rules.specs.CallReplies.{all_walked}
+use Rattle.cfb_rules.specs.Finding.{object_at}
+use Rattle.cfb_rules.specs.Lists.{Command}
+use Rattle.cfb_making.specs.Making.{AreDone, CanBeNamed, field_commands, storage_commands, stream_commands}
+use Rattle.cfb_lines.specs.Commands.{IsScript}
+use Rattle.cfb_lines.specs.Lines.{comment}
+use Rattle.cfb_lines.specs.Writing.{AddsLines, Lacks, ended}
 
 -- what is told of a storage, as its fields
 abbrev pub storage_told : EntryInfo → StorageInfo

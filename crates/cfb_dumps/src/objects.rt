@@ -3,9 +3,9 @@ ghost use Rattle.std.specs.Prelude.{◌≡◌, ◌==◌, OnOk, chars, string_byt
 ghost use Rattle.std.specs.Str.{bytes_eq};
 ghost use Rattle.cfb_format.specs.DirectoryEntry.{nil_clsid};
 ghost use Rattle.cfb_format.specs.Timestamp.{unix_epoch};
-ghost use Rattle.cfb_dumps.specs.cfb_rules.Calls.{set_created_time, set_modified_time, set_state_bits, set_storage_clsid};
-ghost use Rattle.cfb_dumps.specs.cfb_making.Making.{field_commands, unless_so};
-ghost use Rattle.cfb_dumps.specs.cfb_lines.Writing.{AddsLines, Lacks};
+ghost use Rattle.cfb_rules.specs.Calls.{set_created_time, set_modified_time, set_state_bits, set_storage_clsid};
+ghost use Rattle.cfb_making.specs.Making.{field_commands, storage_commands, stream_commands, unless_so};
+ghost use Rattle.cfb_lines.specs.Writing.{AddsLines, Lacks};
 ghost use Rattle.cfb_dumps.specs.Dumps.{storage_told, stream_told, told_commands};
 
 use cfb_codecs::timestamp::Timestamp;
@@ -37,7 +37,8 @@ fn push_own_class<A: Allocator + Clone>(
     if id.is_nil() {
         return Ok(());
     }
-    push_class_id(alloc, text, path, id)
+    push_class_id(alloc, text, path, id)?;
+    Ok(())
 }
 
 /// Appends the line of the moment of creation, unless that is this one already.
@@ -52,10 +53,13 @@ fn push_own_created<A: Allocator + Clone>(
     ensures { OnOk result (AddsLines (string_bytes text.old) (string_bytes text.new)
         (unless_so (moment == already) (set_created_time (chars path.now) moment))) }
 {
-    if moment.value() == already.value() {
+    let units = moment.value();
+    let had = already.value();
+    if units == had {
         return Ok(());
     }
-    push_created(alloc, text, path, moment)
+    push_created(alloc, text, path, moment)?;
+    Ok(())
 }
 
 /// Appends the line of the moment of the last change, unless that is this one already.
@@ -70,10 +74,13 @@ fn push_own_modified<A: Allocator + Clone>(
     ensures { OnOk result (AddsLines (string_bytes text.old) (string_bytes text.new)
         (unless_so (moment == already) (set_modified_time (chars path.now) moment))) }
 {
-    if moment.value() == already.value() {
+    let units = moment.value();
+    let had = already.value();
+    if units == had {
         return Ok(());
     }
-    push_modified(alloc, text, path, moment)
+    push_modified(alloc, text, path, moment)?;
+    Ok(())
 }
 
 /// Appends the line of state bits, unless there are none.
@@ -90,7 +97,8 @@ fn push_own_bits<A: Allocator + Clone>(
     if bits == 0 {
         return Ok(());
     }
-    push_state_bits(alloc, text, path, bits)
+    push_state_bits(alloc, text, path, bits)?;
+    Ok(())
 }
 
 /// Appends the lines of a storage's fields, where it has this as both its moments already.
@@ -112,6 +120,53 @@ fn push_fields<A: Allocator + Clone>(
     Ok(())
 }
 
+/// Appends the lines that make a stream with these bytes.
+fn push_stream<A: Allocator + Clone>(
+    alloc: &A,
+    text: &mut String<A>,
+    entry: &Entry<A>,
+    content: &[u8],
+) -> Result<(), AllocError>
+    requires { Lacks 92 entry.now.path }
+    ensures { OnOk result (AddsLines (string_bytes text.old) (string_bytes text.new)
+        (stream_commands entry.now.path (stream_told entry.now content.now))) }
+{
+    let path = entry.path();
+    push_content(alloc, text, path, content)?;
+    push_own_bits(alloc, text, path, entry.state_bits())?;
+    Ok(())
+}
+
+/// Appends the lines of the root's fields.
+fn push_root<A: Allocator + Clone>(
+    alloc: &A,
+    text: &mut String<A>,
+    entry: &Entry<A>,
+) -> Result<(), AllocError>
+    requires { Lacks 92 entry.now.path }
+    ensures { OnOk result (AddsLines (string_bytes text.old) (string_bytes text.new)
+        (field_commands 0 entry.now.path (storage_told entry.now))) }
+{
+    push_fields(alloc, text, entry.path(), entry, Timestamp::zero())?;
+    Ok(())
+}
+
+/// Appends the lines that make a storage with nothing in it.
+fn push_empty_storage<A: Allocator + Clone>(
+    alloc: &A,
+    text: &mut String<A>,
+    entry: &Entry<A>,
+) -> Result<(), AllocError>
+    requires { Lacks 92 entry.now.path }
+    ensures { OnOk result (AddsLines (string_bytes text.old) (string_bytes text.new)
+        (storage_commands entry.now.path (storage_told entry.now))) }
+{
+    let path = entry.path();
+    push_storage(alloc, text, path)?;
+    push_fields(alloc, text, path, entry, first_moment())?;
+    Ok(())
+}
+
 /// Appends the lines that make an object, a stream with these bytes. Of the root these are the lines
 /// of its fields. Memory may be refused.
 pub fn push_object<A: Allocator + Clone>(
@@ -124,19 +179,13 @@ pub fn push_object<A: Allocator + Clone>(
     ensures { OnOk result (AddsLines (string_bytes text.old) (string_bytes text.new)
         (told_commands entry.now content.now)) }
 {
-    let path = entry.path();
     if entry.is_stream() {
-        push_content(alloc, text, path, content)?;
-        push_own_bits(alloc, text, path, entry.state_bits())?;
-        return Ok(());
+        push_stream(alloc, text, entry, content)
+    } else if entry.is_root() {
+        push_root(alloc, text, entry)
+    } else if entry.is_storage() {
+        push_empty_storage(alloc, text, entry)
+    } else {
+        Ok(())
     }
-    if entry.is_root() {
-        push_fields(alloc, text, path, entry, Timestamp::zero())?;
-        return Ok(());
-    }
-    if entry.is_storage() {
-        push_storage(alloc, text, path)?;
-        push_fields(alloc, text, path, entry, first_moment())?;
-    }
-    Ok(())
 }

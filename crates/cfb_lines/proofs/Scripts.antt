@@ -1,7 +1,8 @@
 -- Fields that say something, and lines one after the other.
 use Rattle.std.proofs.Common.{◌≡◌, ℕ, ◌+◌, ◌==◌, List, [], ◌∷◌, ◌++◌, length, map, sum, Option, Some, None, true, refl, sym, ◌∙◌, ap, subst, append_assoc, append-nil, arith, length-append}
 use Rattle.std.proofs.lemmas.Bool.{eqb-true}
-use Rattle.std.specs.Prelude.{if◌then◌else◌}
+use Rattle.std.specs.Prelude.{IfErr, Result, Ok, Err, chars, if◌then◌else◌}
+use Rattle.cfb_text.specs.Meant.{meant}
 use Rattle.std.specs.List.{AllZip, slice_split}
 use Rattle.cfb_lines.specs.cfb_rules.Lists.{Command}
 use Rattle.cfb_lines.specs.declared.error.WrongLine.{WrongLine}
@@ -15,7 +16,7 @@ use Rattle.cfb_lines.specs.declared.word.Field.TheVariants.{Seconds, Number32, N
 use Rattle.cfb_lines.specs.Commands.{IsLine, IsScript, Says}
 use Rattle.cfb_lines.specs.Fields.{IsHex, IsNumber, IsSeconds}
 use Rattle.cfb_lines.specs.Lines.{command_lines, comment_count, lines_in}
-use Rattle.cfb_lines.specs.Wrong.{IsFirstWrong, IsNotA, IsOfField, IsWrongBehind, IsWrongWith, TellsWrong}
+use Rattle.cfb_lines.specs.Wrong.{IsFirstWrong, IsNotA, IsOfField, IsWrongBehind, IsWrongWith, TellsFirstWrong, TellsWrong, WrongIf, error_at}
 use Rattle.cfb_lines.specs.Words.{field_behind, field_count, spelling}
 use Rattle.uuid.specs.Text.{parsed}
 
@@ -111,6 +112,25 @@ not_a field w text (Wrong (NotA kind other)) is h = (
 )
 not_a field w text Memory is h = tt
 
+-- and what is told of what stands behind the path goes for the line
+behind_path : (line path : List ℕ) (w : Word) (rest : List (List ℕ)) (e : LineError) → slice_split (λ b. b == 9) line ≡ spelling w ∷ path ∷ rest
+    → TellsWrong (IsWrongBehind w rest) e → TellsWrong (IsWrongWith line) e
+behind_path line path w rest (Wrong NotText) fields h = absurd h
+behind_path line path w rest (Wrong (NoWord other)) fields h = absurd h
+behind_path line path w rest (Wrong (Wants other)) fields h = (
+  path ∷ rest,
+  fields ∙ ap (λ (v : Word). spelling v ∷ path ∷ rest) (sym h.0),
+  λ n. h.1 (omega (arith, n, ap field_count h.0)),
+)
+behind_path line path w rest (Wrong (NotA field text)) fields h =
+    (w, path, fields ∙ ap (λ (r : List (List ℕ)). spelling w ∷ path ∷ r) h.0, h.1, h.2)
+behind_path line path w rest Memory fields h = tt
+
+pub wrong_in_line : {T : Type 0} (r : Result T LineError) (line text path : List ℕ) (w : Word) (rest : List (List ℕ)) → text ≡ line
+    → slice_split (λ b. b == 9) text ≡ spelling w ∷ path ∷ rest → IfErr r (TellsWrong (IsWrongBehind w rest)) → IfErr r (TellsWrong (IsWrongWith line))
+wrong_in_line (Ok x) line text path w rest same fields h = tt
+wrong_in_line (Err e) line text path w rest same fields h = behind_path line path w rest e (ap (slice_split (λ b. b == 9)) (sym same) ∙ fields) h
+
 -- ---- a wrong line is no command
 
 same_first : (v w : List ℕ) (r s : List (List ℕ)) (fields : List (List ℕ)) → fields ≡ v ∷ r → fields ≡ w ∷ s → (v ≡ w) × (r ≡ s)
@@ -123,12 +143,12 @@ no_command line (NoWord text) wrong c is =
 no_command line (Wants word) wrong c is =
     let both = same_first (spelling word) (spelling is.word) wrong.0 (is.path ∷ is.rest) (slice_split (λ b. b == 9) line) wrong.1 is.fields in
     let same = same_word word is.word both.0 in
-    wrong.2 (omega (arith, ap length both.1, fields_said is.word _ is.rest c is.says, ap field_count same))
+    wrong.2 (omega (arith, ap length both.1, fields_said is.word (meant (chars is.path)) is.rest c is.says, ap field_count same))
 no_command line (NotA field text) wrong c is =
     let both = same_first (spelling wrong.0) (spelling is.word) (wrong.1 ∷ text.now ∷ []) (is.path ∷ is.rest) (slice_split (λ b. b == 9) line) wrong.2 is.fields in
     let same = same_word wrong.0 is.word both.0 in
     let rest : is.rest ≡ text.now ∷ [] = cc (both.1) in
-    wrong.4 (field_said is.word _ text.now c field (subst (λ (r : List (List ℕ)). Says is.word _ r c) rest is.says) (ap field_behind (sym same) ∙ wrong.3))
+    wrong.4 (field_said is.word (meant (chars is.path)) text.now c field (subst (λ (r : List (List ℕ)). Says is.word (meant (chars is.path)) r c) rest is.says) (ap field_behind (sym same) ∙ wrong.3))
 
 -- ---- lines in turn
 
@@ -194,3 +214,13 @@ pub no_script : (input : List ℕ) (number : ℕ) (why : WrongLine) → IsFirstW
 no_script input number why first commands script =
     let apart = lines_apart first.before (first.line ∷ first.behind) commands (subst (λ (ls : List (List ℕ)). AllZip IsLine ls commands) first.lines script) in
     first_is_none first.line first.behind apart.0 (no_command first.line why first.wrong) apart.1
+
+module _ (input : List ℕ) (commands : List Command) (number : ℕ) (rest line after : List ℕ) (so_far : IsReadUpTo input commands number rest)
+    (e : lines_in rest ≡ line ∷ lines_in after) where
+  pub tells_none : (error : LineError) → TellsWrong (IsWrongWith line) error → WrongIf ((all : List Command) → IsScript input all → ⊥) (error_at (number + 1) error)
+  tells_none (Wrong why) wrong = no_script input (number + 1) why (wrong_line input commands number rest line after why so_far e wrong)
+  tells_none Memory wrong = tt
+
+  pub tells_first : (error : LineError) → TellsWrong (IsWrongWith line) error → TellsFirstWrong input (error_at (number + 1) error)
+  tells_first (Wrong why) wrong = wrong_line input commands number rest line after why so_far e wrong
+  tells_first Memory wrong = tt

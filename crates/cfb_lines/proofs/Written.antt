@@ -1,10 +1,10 @@
 -- Lines that were written say what was meant.
 use Rattle.std.proofs.Common.{◌≡◌, ◌≢◌, ℕ, zero, suc, ◌+◌, ◌-◌, ◌/◌, ◌%◌, ◌<◌, ◌≤◌, ◌^◌, ◌==◌, inl, Bool, true, false, List, [], ◌∷◌, ◌++◌, length, get_or, refl, sym, ◌∙◌, ap, subst, append_assoc, append-nil, arith, flat_map, eqb}
-use Rattle.std.proofs.lemmas.Bool.{leb-true}
+use Rattle.std.proofs.lemmas.Bool.{leb-true, ltb-true}
 use Rattle.std.proofs.lemmas.Fmt.{IsAscii-decimal, decimal_is_IsNumeral}
 use Rattle.std.proofs.lemmas.Grind.{flat_map-append}
 use Rattle.std.proofs.lemmas.List.Splits.{slice_split-cons_no, slice_split-cons_yes}
-use Rattle.std.proofs.lemmas.Str.{IsUtf8-append, IsUtf8-from_ascii, encodes-chars, inside_one}
+use Rattle.std.proofs.lemmas.Str.{IsUtf8-append, IsUtf8-from_ascii, IsUtf8-nil, encodes-chars, inside_one}
 use Rattle.std.proofs.lemmas.Str.Parse.{digit_at}
 use Rattle.std.specs.Prelude.{◌&&◌, Some, chars, drop, encode_utf8, encode_utf8_all, nat_eq, nat_le, nat_lt, pos, if◌then◌else◌}
 use Rattle.std.specs.Fmt.{decimal}
@@ -42,7 +42,7 @@ lacks_at c [] h = tt
 lacks_at c (b ∷ bs) h = (h 0 (omega arith), lacks_at c bs (λ k less. h (suc k) (omega arith)))
 
 -- a letter below all of them
-lacks_below : (c bound : ℕ) → c < bound → (xs : List ℕ) → list_all (λ d. nat_le bound d) xs ≡ true → Lacks c xs
+pub lacks_below : (c bound : ℕ) → c < bound → (xs : List ℕ) → list_all (λ d. nat_le bound d) xs ≡ true → Lacks c xs
 lacks_below c bound low [] h = tt
 lacks_below c bound low (x ∷ xs) h = go (nat_le bound x) refl h (lacks_below c bound low xs)
   where
@@ -66,20 +66,33 @@ word_is_high Len = refl
 word_is_high Put = refl
 word_is_high Add = refl
 
-word_is_ascii : (w : Word) → IsUtf8 (spelling w)
-word_is_ascii Mkdir = (spelling Mkdir, refl, refl)
-word_is_ascii Mkdirs = (spelling Mkdirs, refl, refl)
-word_is_ascii Touch = (spelling Touch, refl, refl)
-word_is_ascii Created = (spelling Created, refl, refl)
-word_is_ascii Modified = (spelling Modified, refl, refl)
-word_is_ascii Rmdir = (spelling Rmdir, refl, refl)
-word_is_ascii Rmtree = (spelling Rmtree, refl, refl)
-word_is_ascii Rm = (spelling Rm, refl, refl)
-word_is_ascii Clsid = (spelling Clsid, refl, refl)
-word_is_ascii Bits = (spelling Bits, refl, refl)
-word_is_ascii Len = (spelling Len, refl, refl)
-word_is_ascii Put = (spelling Put, refl, refl)
-word_is_ascii Add = (spelling Add, refl, refl)
+ascii_at : (xs : List ℕ) → list_all (λ d. nat_lt d 128) xs ≡ true → (i : ℕ) → get_or xs i 0 < 128
+ascii_at [] h i = omega arith
+ascii_at (x ∷ xs) h i = go (nat_lt x 128) refl h (ascii_at xs) i
+  where
+    go : (b : Bool) → nat_lt x 128 ≡ b → (b && list_all (λ d. nat_lt d 128) xs) ≡ true → (list_all (λ d. nat_lt d 128) xs ≡ true → (k : ℕ) → get_or xs k 0 < 128)
+        → (k : ℕ) → get_or (x ∷ xs) k 0 < 128
+    go false e h next k = cc
+    go true e h next zero = omega (arith, ltb-true x 128 e)
+    go true e h next (suc k) = next h k
+
+ascii_text : (xs : List ℕ) → list_all (λ d. nat_lt d 128) xs ≡ true → IsUtf8 xs
+ascii_text xs h = IsUtf8-from_ascii xs (ascii_at xs h)
+
+word_is_text : (w : Word) → IsUtf8 (spelling w)
+word_is_text Mkdir = ascii_text (spelling Mkdir) refl
+word_is_text Mkdirs = ascii_text (spelling Mkdirs) refl
+word_is_text Touch = ascii_text (spelling Touch) refl
+word_is_text Created = ascii_text (spelling Created) refl
+word_is_text Modified = ascii_text (spelling Modified) refl
+word_is_text Rmdir = ascii_text (spelling Rmdir) refl
+word_is_text Rmtree = ascii_text (spelling Rmtree) refl
+word_is_text Rm = ascii_text (spelling Rm) refl
+word_is_text Clsid = ascii_text (spelling Clsid) refl
+word_is_text Bits = ascii_text (spelling Bits) refl
+word_is_text Len = ascii_text (spelling Len) refl
+word_is_text Put = ascii_text (spelling Put) refl
+word_is_text Add = ascii_text (spelling Add) refl
 
 digits_lack : (c : ℕ) (ds : List ℕ) → c < 45 → AllDigits 10 ds → Lacks c ds
 digits_lack c ds low digits = lacks_at c ds (λ k less is. omega (arith, (digit_at ds k digits less).0, is))
@@ -157,7 +170,7 @@ lines_are_a_script rest text commands whole adds =
 number_utf8 : (n : ℕ) → n < 2 ^ 64 → IsUtf8 (decimal n)
 number_utf8 n fits = IsUtf8-from_ascii (decimal n) (IsAscii-decimal n fits)
 
-number_lacks : (c n : ℕ) → c < 45 → n < 2 ^ 64 → Lacks c (decimal n)
+pub number_lacks : (c n : ℕ) → c < 45 → n < 2 ^ 64 → Lacks c (decimal n)
 number_lacks c n low fits = digits_lack c (decimal n) low (decimal_is_IsNumeral n fits).0.1
 
 is_number : (bits n : ℕ) → n < 2 ^ bits → n < 2 ^ 64 → IsNumber bits (decimal n) n
@@ -200,7 +213,7 @@ bytes_lack c [] low = tt
 bytes_lack c (b ∷ bytes) low =
     let high = hex_is_high (b / 16) in
     let high' = hex_is_high (b % 16) in
-    (λ is. omega (arith, high, is), λ is. omega (arith, high', is), bytes_lack c bytes low)
+    (λ is. omega (arith, high, is), (λ is. omega (arith, high', is), bytes_lack c bytes low))
 
 pair_at : (x y : ℕ) → x < 128 → y < 128 → (i : ℕ) → get_or (x ∷ y ∷ []) i 0 < 128
 pair_at x y h k zero = h
@@ -208,7 +221,7 @@ pair_at x y h k (suc zero) = k
 pair_at x y h k (suc (suc i)) = omega arith
 
 bytes_utf8 : (bytes : List ℕ) → AllByRecursion (λ b. b < 256) bytes → IsUtf8 (flat_map hex_pair bytes)
-bytes_utf8 [] h = ([], refl, refl)
+bytes_utf8 [] h = IsUtf8-nil
 bytes_utf8 (b ∷ bytes) h =
     IsUtf8-append (hex_pair b) (flat_map hex_pair bytes)
     (IsUtf8-from_ascii (hex_pair b) (pair_at (hex_digit (b / 16)) (hex_digit (b % 16)) (hex_is_low (b / 16) (omega (arith, h.0))) (hex_is_low (b % 16) (omega arith))))
@@ -220,22 +233,16 @@ small_bytes (b ∷ bytes) h = (h 0 (omega arith), small_bytes bytes (λ k less. 
 
 -- ---- pieces of a line
 
-pub head_made : (old one two three four seen path : List ℕ) (word : Word) → one ≡ old ++ spelling word → two ≡ one ++ 9 ∷ [] → three ≡ two ++ seen → four ≡ three ++ 9 ∷ []
-    → IsUtf8 seen → chars seen ≡ shown path → IsHeadOf old four word path
-head_made old one two three four seen path word a b c d utf8 says = record {
-  seen = seen;
-  text = d ∙ ap (λ (bs : List ℕ). bs ++ 9 ∷ []) (c ∙ ap (λ (bs : List ℕ). bs ++ seen) (b ∙ ap (λ (bs : List ℕ). bs ++ 9 ∷ []) a)) ∙ simp append_assoc;
-  utf8 = utf8;
-  says = says;
-}
-
 pub line_made : (old middle now new path field : List ℕ) (word : Word) → IsHeadOf old middle word path → now ≡ middle ++ field → new ≡ now ++ 10 ∷ [] → IsLineOf old new word path field
-line_made old middle now new path field word head a b = record {
-  seen = head.seen;
-  text = b ∙ ap (λ (bs : List ℕ). bs ++ 10 ∷ []) (a ∙ ap (λ (bs : List ℕ). bs ++ field) head.text) ∙ simp append_assoc;
-  utf8 = head.utf8;
-  says = head.says;
-}
+line_made old middle now new path field word head a b =
+    let front = spelling word in
+    let regrouped : ((old ++ (front ++ (9 ∷ (head.seen ++ 9 ∷ [])))) ++ field) ++ 10 ∷ [] ≡ old ++ ((front ++ (9 ∷ (head.seen ++ (9 ∷ field)))) ++ 10 ∷ []) = simp append_assoc in
+    record {
+      seen = head.seen;
+      text = b ∙ ap (λ (bs : List ℕ). bs ++ 10 ∷ []) (a ∙ ap (λ (bs : List ℕ). bs ++ field) head.text) ∙ regrouped;
+      utf8 = head.utf8;
+      says = head.says;
+    }
 
 -- ---- one line
 
@@ -245,7 +252,7 @@ pub line_says : (old new : List ℕ) (word : Word) (path field : List ℕ) (comm
 line_says old new word path field command written plain no_tab no_end utf8 says =
     let line = spelling word ++ (9 ∷ (written.seen ++ (9 ∷ field))) in
     let back : meant (chars written.seen) ≡ path = ap meant written.says ∙ means_what_is_shown path plain in
-    let tab : IsUtf8 (9 ∷ []) = (9 ∷ [], refl, refl) in
+    let tab = ascii_text (9 ∷ []) refl in
     let behind = IsUtf8-append (9 ∷ []) field tab utf8 in
     let from_path = IsUtf8-append written.seen (9 ∷ field) written.utf8 behind in
     record {
@@ -258,7 +265,7 @@ line_says old new word path field command written plain no_tab no_end utf8 says 
       );
       each = (
         record {
-          text = IsUtf8-append (spelling word) (9 ∷ (written.seen ++ (9 ∷ field))) (word_is_ascii word) (IsUtf8-append (9 ∷ []) (written.seen ++ (9 ∷ field)) tab from_path);
+          text = IsUtf8-append (spelling word) (9 ∷ (written.seen ++ (9 ∷ field))) (word_is_text word) (IsUtf8-append (9 ∷ []) (written.seen ++ (9 ∷ field)) tab from_path);
           word = word;
           path = written.seen;
           rest = field ∷ [];
@@ -273,7 +280,7 @@ line_says old new word path field command written plain no_tab no_end utf8 says 
 module _ (old new path : List ℕ) (plain : Lacks 92 path) where
   pub storage_line : IsLineOf old new Mkdir path (48 ∷ []) → AddsLines old new (by_path (create_storage path unix_epoch) ∷ [])
   storage_line written =
-      line_says old new Mkdir path (48 ∷ []) (by_path (create_storage path unix_epoch)) written plain (λ is. omega (arith, is), tt) (λ is. omega (arith, is), tt) (48 ∷ [], refl, refl)
+      line_says old new Mkdir path (48 ∷ []) (by_path (create_storage path unix_epoch)) written plain (λ is. omega (arith, is), tt) (λ is. omega (arith, is), tt) (ascii_text (48 ∷ []) refl)
       (48 ∷ [], pos 0, refl, inl (0, zero_is_number, refl), refl)
 
   pub class_line : (field id : List ℕ) → IsLineOf old new Clsid path field → field ≡ hyphenated_text lower id → Some id ≡ parsed field → IsUtf8 field
@@ -283,15 +290,17 @@ module _ (old new path : List ℕ) (plain : Lacks 92 path) where
       (subst (Lacks 9) (sym is) (class_lacks 9 id (omega arith))) (subst (Lacks 10) (sym is) (class_lacks 10 id (omega arith))) utf8
       (field, id, refl, sym says, refl)
 
-  pub created_line : (field : List ℕ) (n : ℕ) → n < 2 ^ 64 → field ≡ decimal n → IsLineOf old new Created path field → AddsLines old new (by_path (set_created_time path n) ∷ [])
-  created_line field n fits is written =
-      line_says old new Created path (decimal n) (by_path (set_created_time path n)) (subst (IsLineOf old new Created path) is written) plain
-      (number_lacks 9 n (omega arith) fits) (number_lacks 10 n (omega arith) fits) (number_utf8 n fits) (decimal n, n, refl, is_number 64 n fits fits, refl)
+  pub created_line : (field : List ℕ) (n moment : ℕ) → n < 2 ^ 64 → n ≡ moment → field ≡ decimal n → IsLineOf old new Created path field → AddsLines old new (by_path (set_created_time path moment) ∷ [])
+  created_line field n moment fits same is written =
+      subst (λ (m : ℕ). AddsLines old new (by_path (set_created_time path m) ∷ [])) same
+      (line_says old new Created path (decimal n) (by_path (set_created_time path n)) (subst (IsLineOf old new Created path) is written) plain
+      (number_lacks 9 n (omega arith) fits) (number_lacks 10 n (omega arith) fits) (number_utf8 n fits) (decimal n, n, refl, is_number 64 n fits fits, refl))
 
-  pub modified_line : (field : List ℕ) (n : ℕ) → n < 2 ^ 64 → field ≡ decimal n → IsLineOf old new Modified path field → AddsLines old new (by_path (set_modified_time path n) ∷ [])
-  modified_line field n fits is written =
-      line_says old new Modified path (decimal n) (by_path (set_modified_time path n)) (subst (IsLineOf old new Modified path) is written) plain
-      (number_lacks 9 n (omega arith) fits) (number_lacks 10 n (omega arith) fits) (number_utf8 n fits) (decimal n, n, refl, is_number 64 n fits fits, refl)
+  pub modified_line : (field : List ℕ) (n moment : ℕ) → n < 2 ^ 64 → n ≡ moment → field ≡ decimal n → IsLineOf old new Modified path field → AddsLines old new (by_path (set_modified_time path moment) ∷ [])
+  modified_line field n moment fits same is written =
+      subst (λ (m : ℕ). AddsLines old new (by_path (set_modified_time path m) ∷ [])) same
+      (line_says old new Modified path (decimal n) (by_path (set_modified_time path n)) (subst (IsLineOf old new Modified path) is written) plain
+      (number_lacks 9 n (omega arith) fits) (number_lacks 10 n (omega arith) fits) (number_utf8 n fits) (decimal n, n, refl, is_number 64 n fits fits, refl))
 
   pub bits_line : (field : List ℕ) (n : ℕ) → n < 2 ^ 32 → field ≡ decimal n → IsLineOf old new Bits path field → AddsLines old new (by_path (set_state_bits path n) ∷ [])
   bits_line field n fits is written =

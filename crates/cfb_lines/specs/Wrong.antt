@@ -64,6 +64,11 @@ IsNotA field text (one.Wrong (Wants word)) = ⊥
 IsNotA field text (one.Wrong (NotA kind other)) = (kind ≡ field) × (other.now ≡ text) × (IsOfField field text → ⊥)
 IsNotA field text one.Memory = ⊤
 
+-- the error of the line with this number
+abbrev pub error_at : (number : ℕ) → LineError → LinesError
+error_at number (one.Wrong why) = many.WrongWords number why
+error_at number one.Memory = many.Memory
+
 -- wrong words say so much; want of memory says nothing
 abbrev pub WrongIf : Type 0 → LinesError → Type 0
 WrongIf P (many.WrongWords number why) = P

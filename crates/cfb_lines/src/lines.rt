@@ -7,7 +7,7 @@ ghost use Rattle.cfb_text.specs.Meant.{meant};
 ghost use Rattle.cfb_lines.specs.Commands.{IsLine, IsScript, Says, given_fields};
 ghost use Rattle.cfb_lines.specs.Fields.{IsHex, IsNumber, IsSeconds};
 ghost use Rattle.cfb_commands.specs.Commands.{command_of, opening_of, stream_call_of};
-ghost use Rattle.cfb_lines.specs.Wrong.{IsNotA, IsWrongBehind, IsWrongWith, TellsFirstWrong, TellsWrong, WrongIf, last_fields};
+ghost use Rattle.cfb_lines.specs.Wrong.{IsNotA, IsWrongBehind, IsWrongWith, TellsFirstWrong, TellsWrong, WrongIf, error_at, last_fields};
 ghost use Rattle.cfb_lines.specs.Lines.{command_lines, comment_count, lines_in};
 ghost use Rattle.cfb_lines.specs.Words.{spelling};
 ghost use Rattle.cfb_lines.specs.cfb_rules.Lists as rules;
@@ -237,9 +237,20 @@ fn command_in<'a, A: Heap + Clone>(
         return Err(LineError::Wrong(WrongLine::NotText));
     };
     match fields_of(text) {
-        Ok((word, path, last)) => command_of_fields(alloc, word, path, last),
+        Ok(fields) => {
+            let (word, path, last) = fields;
+            command_of_fields(alloc, word, path, last)
+        }
         Err(why) => Err(LineError::Wrong(why)),
     }
+}
+
+/// How many lines in front are a comment, which is no command: one where the text begins with
+/// `# cfbtool dump`, else none.
+pub fn comment_count(input: &[u8]) -> usize
+    ensures { result ≡ comment_count input.now }
+{
+    if input.starts_with(b"# cfbtool dump") { 1 } else { 0 }
 }
 
 /// What follows the comment in front, if there is one, and how many lines that is.
@@ -253,6 +264,16 @@ fn behind_comment(input: &[u8]) -> (&[u8], usize)
         (rest, 1)
     } else {
         (input, 0)
+    }
+}
+
+/// The error of the line with this number.
+fn at_line(number: usize, e: LineError<'_>) -> LinesError<'_>
+    ensures { result ≡ error_at number e.entry }
+{
+    match e {
+        LineError::Wrong(why) => LinesError::WrongWords(number, why),
+        LineError::Memory => LinesError::Memory,
     }
 }
 
@@ -278,8 +299,7 @@ pub fn commands_in<'a, A: Heap + Clone>(
         number += 1;
         let command = match command_in(&alloc, line) {
             Ok(command) => command,
-            Err(LineError::Wrong(why)) => return Err(LinesError::WrongWords(number, why)),
-            Err(LineError::Memory) => return Err(LinesError::Memory),
+            Err(e) => return Err(at_line(number, e)),
         };
         commands.push(command)?;
         rest = after;

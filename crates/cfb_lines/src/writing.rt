@@ -1,11 +1,11 @@
 //! Commands written as lines.
-ghost use Rattle.std.specs.Prelude.{◌≡◌, ◌<◌, ◌∷◌, ◌++◌, ℕ, [], IfErr, OnOk, chars, flat_map, string_bytes};
+ghost use Rattle.std.specs.Prelude.{◌≡◌, ◌<◌, ◌∷◌, ◌++◌, [], IfOk, OnOk, chars, flat_map, string_bytes};
+ghost use Rattle.std.specs.Fmt.{decimal};
 ghost use Rattle.cfb_format.specs.Timestamp.{unix_epoch};
 ghost use Rattle.cfb_lines.specs.cfb_rules.Calls.{create_storage, set_created_time, set_modified_time, set_state_bits, set_storage_clsid};
 ghost use Rattle.cfb_lines.specs.cfb_rules.Lists.{by_path, creates, on_stream as stream_command};
 ghost use Rattle.cfb_lines.specs.cfb_rules.StreamCalls.{write};
 ghost use Rattle.cfb_lines.specs.Fields.{hex_digit, hex_pair};
-ghost use Rattle.cfb_lines.specs.Words.{spelling};
 ghost use Rattle.cfb_lines.specs.Writing.{AddsLines, IsHeadOf, IsLineOf, Lacks};
 
 use crate::word::Word;
@@ -47,6 +47,20 @@ fn push_line<A: Allocator + Clone>(
     text.push_str(field)?;
     text.push_str("\n")?;
     Ok(())
+}
+
+/// The decimal digits of a number.
+fn digits_64<A: Allocator>(alloc: A, number: u64) -> Result<String<A>, AllocError>
+    ensures { IfOk result (λ digits. string_bytes digits ≡ decimal number) }
+{
+    format!(in alloc; "{number}")
+}
+
+/// The same of a number of 32 bits.
+fn digits_32<A: Allocator>(alloc: A, number: u32) -> Result<String<A>, AllocError>
+    ensures { IfOk result (λ digits. string_bytes digits ≡ decimal number) }
+{
+    format!(in alloc; "{number}")
 }
 
 /// Appends the line of a new storage, made at the beginning of 1970. Memory may be refused.
@@ -92,8 +106,8 @@ pub fn push_created<A: Allocator + Clone>(
         (by_path (set_created_time (chars path.now) moment) ∷ [])) }
 {
     let units = moment.value();
-    let field = format!(in alloc.clone()?; "{units}")?;
-    push_line(alloc, text, Word::Created, path, &field)?;
+    let field = digits_64(alloc.clone()?, units)?;
+    push_line(alloc, text, Word::Created, path, field.as_str())?;
     Ok(())
 }
 
@@ -109,8 +123,8 @@ pub fn push_modified<A: Allocator + Clone>(
         (by_path (set_modified_time (chars path.now) moment) ∷ [])) }
 {
     let units = moment.value();
-    let field = format!(in alloc.clone()?; "{units}")?;
-    push_line(alloc, text, Word::Modified, path, &field)?;
+    let field = digits_64(alloc.clone()?, units)?;
+    push_line(alloc, text, Word::Modified, path, field.as_str())?;
     Ok(())
 }
 
@@ -125,8 +139,8 @@ pub fn push_state_bits<A: Allocator + Clone>(
     ensures { OnOk result (AddsLines (string_bytes text.old) (string_bytes text.new)
         (by_path (set_state_bits (chars path.now) bits) ∷ [])) }
 {
-    let field = format!(in alloc.clone()?; "{bits}")?;
-    push_line(alloc, text, Word::Bits, path, &field)?;
+    let field = digits_32(alloc.clone()?, bits)?;
+    push_line(alloc, text, Word::Bits, path, field.as_str())?;
     Ok(())
 }
 

@@ -4,10 +4,10 @@ use Rattle.std.specs.Prelude.{Option, Some, None, ⊤, option_and_then, option_m
 use Rattle.std.specs.Ordering.{is_lt}
 use Rattle.cfb_format.specs.Names.{Cases, name_cmp}
 use Rattle.cfb_format.specs.Tree.{StorageInfo, StreamInfo, Objects, nothing, storage, stream, Tree, Object, a_storage, a_stream, Found, is_same_name, object_named, put_in_order}
-use Rattle.cfb_rules.specs.CallChanges.{changed_at, fields_changed_at, inside_changed, tree_changed_at, with_fields, with_objects}
+use Rattle.cfb_rules.specs.CallChanges.{changed_at, content_changed_at, fields_changed_at, inside_changed, same_storage, tree_changed_at, with_content, with_fields, with_objects}
 use Rattle.cfb_rules.specs.Finding.{child_named, found_at, found_from, last_name, object_at, parent_names, root_of}
 use Rattle.cfb_rules.proofs.CreatedFound.{child_of, found_last, none_found, object_of, same_itself}
-use Rattle.cfb_built.proofs.InPlace.{changed_twice}
+use Rattle.cfb_built.proofs.InPlace.{changed_by, changed_twice}
 
 module _ (cases : Cases) where
   -- ---- two changes that agree on what stands at some names
@@ -23,7 +23,7 @@ module _ (cases : Cases) where
   inside_where : (f g : Objects → Objects) (name : List ℕ) (objects : Objects) → AgreeOn f g (object_named cases name objects)
       → inside_changed cases name f objects ≡ inside_changed cases name g objects
   inside_where f g name nothing h = refl
-  inside_where f g name (storage other info inside rest) = go (is_same_name cases name other) (inside_where f g name rest)
+  inside_where f g name (storage other info inside rest) h = go (is_same_name cases name other) (inside_where f g name rest) h
     where
       go : (b : Bool) → (AgreeOn f g (object_named cases name rest) → inside_changed cases name f rest ≡ inside_changed cases name g rest)
           → AgreeOn f g (if b then Some (record { name = other; object = a_storage info inside }) else object_named cases name rest)
@@ -31,7 +31,7 @@ module _ (cases : Cases) where
           ≡ (if b then storage other info (g inside) rest else storage other info inside (inside_changed cases name g rest))
       go true next h = ap (λ (x : Objects). storage other info x rest) h
       go false next h = ap (storage other info inside) (next h)
-  inside_where f g name (stream other info rest) = go (is_same_name cases name other) (inside_where f g name rest)
+  inside_where f g name (stream other info rest) h = go (is_same_name cases name other) (inside_where f g name rest) h
     where
       go : (b : Bool) → (AgreeOn f g (object_named cases name rest) → inside_changed cases name f rest ≡ inside_changed cases name g rest)
           → AgreeOn f g (if b then Some (record { name = other; object = a_stream info }) else object_named cases name rest)
@@ -73,7 +73,7 @@ module _ (cases : Cases) where
     fields_of_put : (objects : Objects) → object_named cases name objects ≡ None
         → with_fields cases name f g (put_in_order cases name before objects) ≡ put_in_order cases name after objects
     fields_of_put nothing absent = is nothing
-    fields_of_put (storage other info inside rest) = go (is_lt (name_cmp cases name other)) (is_same_name cases name other) refl (fields_of_put rest)
+    fields_of_put (storage other info inside rest) absent = go (is_lt (name_cmp cases name other)) (is_same_name cases name other) refl (fields_of_put rest) absent
       where
         go : (less same : Bool) → is_same_name cases name other ≡ same
             → (object_named cases name rest ≡ None → with_fields cases name f g (put_in_order cases name before rest) ≡ put_in_order cases name after rest)
@@ -85,7 +85,7 @@ module _ (cases : Cases) where
         go false false e next absent =
             ap (λ (b : Bool). if b then storage other (f info) inside (put_in_order cases name before rest) else storage other info inside (with_fields cases name f g (put_in_order cases name before rest))) e
             ∙ ap (storage other info inside) (next absent)
-    fields_of_put (stream other info rest) = go (is_lt (name_cmp cases name other)) (is_same_name cases name other) refl (fields_of_put rest)
+    fields_of_put (stream other info rest) absent = go (is_lt (name_cmp cases name other)) (is_same_name cases name other) refl (fields_of_put rest) absent
       where
         go : (less same : Bool) → is_same_name cases name other ≡ same
             → (object_named cases name rest ≡ None → with_fields cases name f g (put_in_order cases name before rest) ≡ put_in_order cases name after rest)
@@ -132,3 +132,43 @@ module _ (cases : Cases) where
       (changed_twice cases put (with_fields cases last f g) parents tree.objects
       ∙ changed_where (λ x. with_fields cases last f g (put x)) (put_in_order cases last after) parents (root_of tree).name tree.root info tree.objects inside above
       (fields_of_put last f g before after is inside none))
+
+  -- ---- one content after another
+
+  content_of_twice : (name first second : List ℕ) (objects : Objects)
+      → with_fields cases name same_storage (with_content second) (with_fields cases name same_storage (with_content first) objects) ≡ with_fields cases name same_storage (with_content second) objects
+  content_of_twice name first second nothing = refl
+  content_of_twice name first second (storage other info inside rest) = go (is_same_name cases name other) refl (content_of_twice name first second rest)
+    where
+      go : (b : Bool) → is_same_name cases name other ≡ b
+          → with_fields cases name same_storage (with_content second) (with_fields cases name same_storage (with_content first) rest) ≡ with_fields cases name same_storage (with_content second) rest
+          → with_fields cases name same_storage (with_content second) (if b then storage other info inside rest else storage other info inside (with_fields cases name same_storage (with_content first) rest))
+          ≡ (if b then storage other info inside rest else storage other info inside (with_fields cases name same_storage (with_content second) rest))
+      go true e next = ap (λ (c : Bool). if c then storage other info inside rest else storage other info inside (with_fields cases name same_storage (with_content second) rest)) e
+      go false e next =
+          ap (λ (c : Bool). if c then storage other info inside (with_fields cases name same_storage (with_content first) rest)
+          else storage other info inside (with_fields cases name same_storage (with_content second) (with_fields cases name same_storage (with_content first) rest))) e
+          ∙ ap (storage other info inside) next
+  content_of_twice name first second (stream other info rest) = go (is_same_name cases name other) refl (content_of_twice name first second rest)
+    where
+      go : (b : Bool) → is_same_name cases name other ≡ b
+          → with_fields cases name same_storage (with_content second) (with_fields cases name same_storage (with_content first) rest) ≡ with_fields cases name same_storage (with_content second) rest
+          → with_fields cases name same_storage (with_content second) (if b then stream other (with_content first info) rest else stream other info (with_fields cases name same_storage (with_content first) rest))
+          ≡ (if b then stream other (with_content second info) rest else stream other info (with_fields cases name same_storage (with_content second) rest))
+      go true e next = ap (λ (c : Bool). if c then stream other (with_content second info) rest else stream other (with_content first info) (with_fields cases name same_storage (with_content second) rest)) e
+      go false e next =
+          ap (λ (c : Bool). if c then stream other (with_content second info) (with_fields cases name same_storage (with_content first) rest)
+          else stream other info (with_fields cases name same_storage (with_content second) (with_fields cases name same_storage (with_content first) rest))) e
+          ∙ ap (stream other info) next
+
+  -- only the last one counts
+  pub content_twice : (first second : List ℕ) (names : List (List ℕ)) (tree : Tree)
+      → content_changed_at cases second names (content_changed_at cases first names tree) ≡ content_changed_at cases second names tree
+  content_twice first second [] tree = refl
+  content_twice first second (name ∷ names) tree =
+      let last = last_name (name ∷ names) in
+      let parents = parent_names (name ∷ names) in
+      ap (with_objects tree)
+      (changed_twice cases (with_fields cases last same_storage (with_content first)) (with_fields cases last same_storage (with_content second)) parents tree.objects
+      ∙ changed_by cases (λ x. with_fields cases last same_storage (with_content second) (with_fields cases last same_storage (with_content first) x))
+      (with_fields cases last same_storage (with_content second)) (content_of_twice last first second) parents tree.objects)

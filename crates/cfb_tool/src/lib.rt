@@ -3,6 +3,7 @@
 
 pub mod asking;
 pub mod details;
+pub mod dumping;
 pub mod explaining;
 pub mod laws;
 pub mod listing;

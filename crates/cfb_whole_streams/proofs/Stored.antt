@@ -30,7 +30,7 @@ use Rattle.cfb_whole_streams.specs.Told.{first_of, first_refusal, refusal_in, re
 refused_not_done : (r : Refusal) → done ≡ refused r → ⊥
 refused_not_done r e = cc
 
-created_rules : (causes : Causes) (setting : Setting) (old new : TreeState) (path : List ℕ) → CallRuns causes setting old (create_stream path) done new
+pub created_rules : (causes : Causes) (setting : Setting) (old new : TreeState) (path : List ℕ) → CallRuns causes setting old (create_stream path) done new
     → FollowsRules setting old (create_stream path) done new
 created_rules causes setting old new path = go old.failed
   where
@@ -49,7 +49,7 @@ named_path rule path = go (names_of_path path) refl
     go (Some names) e h = (names, e)
 
 module _ (cases : Cases) (sound : Bool) (n : ℕ) (tree tree' : Tree) (path : List ℕ) (step : Step cases sound n tree (create_stream path) done tree') where
-  made_sound : sound ≡ true
+  pub made_sound : sound ≡ true
   made_sound = go (outcome cases sound tree (create_stream path)) refl step
     where
       go : (o : Option Refusal) → outcome cases sound tree (create_stream path) ≡ o
@@ -59,7 +59,7 @@ module _ (cases : Cases) (sound : Bool) (n : ℕ) (tree tree' : Tree) (path : Li
           (no_refusal (refusal_of cases tree (create_stream path)) (unsound_refusal sound (create_stream path)) e)) ∙ e)
       go (Some r) e h = absurd (refused_not_done r h.0)
 
-  made_empty : HasStream cases tree' path []
+  pub made_empty : HasStream cases tree' path []
   made_empty =
       let named = named_path (creation_refusal cases tree is_a_stream) path (done_step cases sound n tree tree' (create_stream path) step).0 in
       let is_done : IsDone cases (λ p. create_stream p) named.0 tree tree' = record { path = path; sound = sound; root_len = n; named = named.1; step = step } in
@@ -69,7 +69,7 @@ module _ (cases : Cases) (sound : Bool) (n : ℕ) (tree tree' : Tree) (path : Li
       ]
 
 -- one that was opened leaves the tree as it was
-found_rules : (causes : Causes) (setting : Setting) (old new : TreeState) (path : List ℕ) → CallRuns causes setting old (open_stream path) done new
+pub found_rules : (causes : Causes) (setting : Setting) (old new : TreeState) (path : List ℕ) → CallRuns causes setting old (open_stream path) done new
     → new.tree ≡ old.tree
 found_rules causes setting old new path = go old.failed
   where
@@ -80,7 +80,7 @@ found_rules causes setting old new path = go old.failed
     go false (inr ((r, may, is, rules), off)) = absurd (refused_not_done r is)
 
 -- as it is opened
-opened_with : (cases : Cases) (tree : Tree) (path bytes : List ℕ) → HasStream cases tree path bytes → opened_by_path cases tree path ≡ opened (length bytes) bytes
+pub opened_with : (cases : Cases) (tree : Tree) (path bytes : List ℕ) → HasStream cases tree path bytes → opened_by_path cases tree path ≡ opened (length bytes) bytes
 opened_with cases tree path bytes h =
     ap (λ (o : Option Object). opened (stream_fields (unwrap_or o (a_stream new_stream))).len (stream_fields (unwrap_or o (a_stream new_stream))).content)
     (ap (option_and_then (object_at cases tree)) h.named ∙ h.stands)
@@ -94,7 +94,7 @@ pub record EndsWith (s : StreamState) (bytes : List ℕ) : Type 0 where
   pub content : s.content ≡ bytes
   pub position : s.position ≡ length bytes
 
-ends_opened : EndsWith (opened 0 []) []
+pub ends_opened : EndsWith (opened 0 []) []
 ends_opened = record { len = refl; content = refl; position = refl }
 
 pub some_not_none : (r : Refusal) → Some r ≡ None → ⊥
@@ -187,7 +187,7 @@ module _ (causes : Causes) (setting : StreamSetting) (old new : StreamRun) (befo
 
 -- ---- its closing
 
-closes_unfailed : (causes : Causes) (old : StreamRun) (closing : Option Refusal) (failed : Bool) → closing ≡ None → Closes causes old closing failed → failed ≡ false
+pub closes_unfailed : (causes : Causes) (old : StreamRun) (closing : Option Refusal) (failed : Bool) → closing ≡ None → Closes causes old closing failed → failed ≡ false
 closes_unfailed causes old (Some r) failed none closes = absurd (some_not_none r none)
 closes_unfailed causes old None failed none closes = go old.failed closes
   where
