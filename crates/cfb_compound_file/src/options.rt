@@ -149,7 +149,11 @@ impl<A: Heap + Clone> OpenOptions<A> {
         self.create_as(alloc, Version::V4, medium)
     }
 
-    /// Makes a compound file of this version with nothing in it on this medium, which has no bytes: as `create_with`, which takes version 4.
+    /// Makes a compound file of this version with nothing in it on this medium, which has no bytes (MS-CFB 2.2).
+    ///
+    /// # Errors
+    ///
+    /// `Medium` where the medium fails, and `Memory` where memory is refused.
     pub fn create_as<F: Medium>(
         self,
         alloc: A,
