@@ -87,6 +87,13 @@ fn parent_path<'a, A: Allocator>(
     }
 }
 
+/// How deep the objects stand that are in the storage at a place of the list, or in the one that was
+/// asked.
+fn depth_below<A: Allocator>(list: &[Entry<A>], parent: Option<usize>) -> usize {
+    let above = parent.and_then(|place| list.get(place));
+    above.map_or(0, |storage| storage.depth()).saturating_add(1)
+}
+
 /// What stands between this path and a name: a `/`, unless the path ends with one.
 fn separator(path: &str) -> &str
     ensures { (name : List ℕ)
@@ -164,7 +171,8 @@ fn push_inside<A: Allocator + Clone>(
         let parent = parent_path(path, list.as_slice(), next.parent);
         let told = entry_below(alloc.clone()?, entries, next.number, parent)?;
         let place = list.len();
-        list.push(told)?;
+        let depth = depth_below(list.as_slice(), next.parent);
+        list.push(told.at_depth(depth))?;
         if !goes_inside(order, entries, next.number) {
             continue;
         }

@@ -9,4 +9,4 @@ pub mod listing;
 pub mod playing;
 mod replies;
 pub mod soundness;
-pub mod table;
+pub mod tree;

@@ -12,10 +12,9 @@ use Rattle.cfb_dates.specs.Moments.{moment_text}
 use Rattle.cfb_dates.proofs.Words.{moments_are_one_word}
 use Rattle.cfb_text.specs.Shown.{shown}
 use Rattle.cfb_text.proofs.Bytes.{shown_has_no_control}
-use Rattle.cfb_tool.specs.cfb_outline.Families.{is_stream_kind}
+use Rattle.cfb_shown.specs.cfb_outline.Families.{is_stream_kind}
 use Rattle.cfb_rules.specs.Calls.{EntryInfo}
-use Rattle.cfb_tool.specs.Details.{HasFileNumbers, IsRow, behind_tabs, bits_text, byte_digits, clsid_text, details_line}
-use Rattle.cfb_tool.specs.Listing.{kind_text}
+use Rattle.cfb_shown.specs.Rows.{HasFileNumbers, IsRow, behind_tabs, bits_text, byte_digits, clsid_text, kind_text, row_text}
 
 -- no tab and no end of a line
 abbrev AllInside : List ℕ → Type 0
@@ -117,8 +116,8 @@ clsid_by : (clsid : List ℕ) (b : Bool) → is_nil_bytes clsid ≡ b → AllIns
 clsid_by clsid true e = rw e (omega arith, tt)
 clsid_by clsid false e = rw e (by_index_inside 36 (λ k. if is_hyphen_place k then 45 else hex_digit lower (nibble clsid (digit_place k))) (λ k. place_by clsid k (is_hyphen_place k)))
 
-pub details_are_rows : (info : EntryInfo) → HasFileNumbers info → IsRow (encode_utf8_all (shown info.path)) (details_line info)
-details_are_rows info numbers =
+pub rows_have_seven_fields : (info : EntryInfo) → HasFileNumbers info → IsRow (encode_utf8_all (shown info.path)) (row_text info)
+rows_have_seven_fields info numbers =
     row_of (kind_text info) (decimal info.len) (clsid_text info.clsid) (bits_text info.state_bits) (moment_text info.created) (moment_text info.modified) (encode_utf8_all (shown info.path))
     (kind_inside (is_stream_kind info.obj_type)) (decimal_inside info.len numbers.len) (clsid_by info.clsid (is_nil_bytes info.clsid) refl) (bits_inside info.state_bits)
     (more_inside 33 (moment_text info.created) (omega arith) (moments_are_one_word info.created numbers.created))
