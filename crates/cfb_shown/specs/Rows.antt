@@ -19,7 +19,7 @@ byte_digits byte = digit_glyph false (byte / 16) ∷ digit_glyph false (byte % 1
 
 -- state bits as eight
 abbrev pub bits_text : ℕ → List ℕ
-bits_text bits = byte_digits (bits / 16777216) ++ (byte_digits (bits / 65536 % 256) ++ (byte_digits (bits / 256 % 256) ++ byte_digits (bits % 256)))
+bits_text bits = byte_digits (bits / 16777216 % 256) ++ (byte_digits (bits / 65536 % 256) ++ (byte_digits (bits / 256 % 256) ++ byte_digits (bits % 256)))
 
 -- a class id with hyphens, or `-` where all is zero
 abbrev pub clsid_text : List ℕ → List ℕ
@@ -36,11 +36,14 @@ row_text info = kind_text info ++ (tab ++ (decimal info.len ++ (tab ++ (clsid_te
 
 -- ---- what can be read of such a row
 
--- what stands behind the n-th tab
+-- what stands behind the first tab, and behind the n-th
+abbrev pub behind_tab : List ℕ → List ℕ
+behind_tab [] = []
+behind_tab (byte ∷ rest) = if byte == 9 then rest else behind_tab rest
+
 abbrev pub behind_tabs : ℕ → List ℕ → List ℕ
 behind_tabs zero text = text
-behind_tabs (suc n) [] = []
-behind_tabs (suc n) (byte ∷ rest) = if byte == 9 then behind_tabs n rest else behind_tabs (suc n) rest
+behind_tabs (suc n) text = behind_tabs n (behind_tab text)
 
 -- one line, with seven fields, of which the last one is this
 pub record IsRow (last line : List ℕ) : Type 0 where

@@ -3,6 +3,7 @@ ghost use Rattle.std.specs.Prelude.{◌≡◌, ◌++◌, IfOk, IfErr, OnOk, Some
 ghost use Rattle.cfb_format.specs.Refused.{IsMemory};
 ghost use Rattle.cfb_shown.specs.Rows.{bits_text, clsid_text, kind_text, row_text};
 
+use cfb_codecs::timestamp::Timestamp;
 use cfb_dates::moment::Moment;
 use cfb_format::error::Error;
 use cfb_listing::entry::Entry;
@@ -36,15 +37,17 @@ fn push_row<A: Heap>(lines: &mut String<A>, entry: &Entry<A>) -> Result<(), Erro
 {
     let kind = kind_of(entry);
     let len = entry.len();
-    let clsid = ClassId(entry.clsid());
-    let bits = StateBits(entry.state_bits());
-    let created = Moment(entry.created().value());
-    let modified = Moment(entry.modified().value());
+    let class_id = entry.clsid();
+    let state_bits = entry.state_bits();
+    let (clsid, bits) = (ClassId(class_id), StateBits(state_bits));
+    let created = moment_of(entry.created());
+    let modified = moment_of(entry.modified());
     write!(
         lines,
         "{kind}\t{len}\t{clsid}\t{bits}\t{created}\t{modified}\t"
     )?;
-    push_shown(lines, entry.path())?;
+    let path = entry.path();
+    push_shown(lines, path)?;
     lines.push('\n')?;
     Ok(())
 }
@@ -73,7 +76,7 @@ impl fmt::Display for StateBits {
     ghost output = { λ bits. Some (bits_text bits.0) };
 
     fn fmt<W: fmt::Write>(&self, f: &mut fmt::Formatter<W>) -> fmt::Result {
-        let (first, second) = (self.0 / 0x100_0000, self.0 / 0x1_0000 % 0x100);
+        let (first, second) = (self.0 / 0x100_0000 % 0x100, self.0 / 0x1_0000 % 0x100);
         let (third, last) = (self.0 / 0x100 % 0x100, self.0 % 0x100);
         write!(f, "{first:02x}{second:02x}{third:02x}{last:02x}")
     }
@@ -84,4 +87,11 @@ pub(crate) fn kind_of<A: Heap>(entry: &Entry<A>) -> &'static str
     ensures { result.now ≡ kind_text entry.now }
 {
     if entry.is_stream() { "f" } else { "d" }
+}
+
+/// A moment, to be shown.
+pub(crate) fn moment_of(moment: Timestamp) -> Moment
+    ensures { result.0 ≡ moment }
+{
+    Moment(moment.value())
 }

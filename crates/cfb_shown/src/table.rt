@@ -2,8 +2,7 @@
 ghost use Rattle.std.specs.Prelude.{IfErr};
 ghost use Rattle.cfb_format.specs.Refused.{IsMemory};
 
-use crate::rows::{ClassId, StateBits, kind_of};
-use cfb_dates::moment::Moment;
+use crate::rows::{ClassId, StateBits, kind_of, moment_of};
 use cfb_format::error::Error;
 use cfb_listing::entry::Entry;
 use cfb_text::shown::push_shown;
@@ -92,11 +91,11 @@ fn push_cell<A: Heap>(cell: &mut String<A>, entry: &Entry<A>, column: Column) ->
             write!(cell, "{bits}")?;
         }
         Column::Created => {
-            let created = Moment(entry.created().value());
+            let created = moment_of(entry.created());
             write!(cell, "{created}")?;
         }
         Column::Modified => {
-            let modified = Moment(entry.modified().value());
+            let modified = moment_of(entry.modified());
             write!(cell, "{modified}")?;
         }
     }
