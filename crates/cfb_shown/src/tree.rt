@@ -92,6 +92,7 @@ fn push_lead<A: Heap>(lines: &mut String<A>, above: &[bool], own: Option<bool>) 
 }
 
 /// The cell of a storage that an object is in.
+#[tactic(auto, unfolding(std::specs::Char::encode_utf8))]
 fn beside(is_last: bool) -> &'static str
     ensures { result.now ≡ cell_beside is_last }
 {
@@ -99,6 +100,7 @@ fn beside(is_last: bool) -> &'static str
 }
 
 /// The cell of an object itself.
+#[tactic(auto, unfolding(std::specs::Char::encode_utf8))]
 fn own_cell(is_last: bool) -> &'static str
     ensures { result.now ≡ own_cell is_last }
 {
