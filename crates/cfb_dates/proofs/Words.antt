@@ -50,9 +50,37 @@ fraction_by n false e small = rw e (omega arith, decimals_seen 7 n small)
 dated_seen : (date : Date) (units : ℕ) → AllSeen (dated_of date units)
 dated_seen date units =
     let behind : AllSeen (fraction_text (units % 10_000_000) ++ 90 ∷ []) =
-    append_seen (fraction_text (units % 10_000_000)) (90 ∷ []) (fraction_by (units % 10_000_000) (units % 10_000_000 == 0) refl (omega arith)) (omega arith, tt) in
-    (omega arith, (omega arith, (omega arith, (omega arith, (omega arith, (omega arith, (omega arith, (omega arith, (omega arith, (omega arith,
-    (omega arith, (omega arith, (omega arith, (omega arith, (omega arith, (omega arith, (omega arith, (omega arith, (omega arith, behind)))))))))))))))))))
+    append_seen (fraction_text (units % 10_000_000)) (90 ∷ []) (fraction_by (units % 10_000_000) (units % 10_000_000 == 0) refl (omega arith)) (omega arith, tt) in (
+      omega arith,
+      (
+        omega arith,
+        (
+          omega arith,
+          (
+            omega arith,
+            (
+              omega arith,
+              (
+                omega arith,
+                (
+                  omega arith,
+                  (
+                    omega arith,
+                    (
+                      omega arith,
+                      (
+                        omega arith,
+                        (omega arith, (omega arith, (omega arith, (omega arith, (omega arith, (omega arith, (omega arith, (omega arith, (omega arith, behind))))))))),
+                      ),
+                    ),
+                  ),
+                ),
+              ),
+            ),
+          ),
+        ),
+      ),
+    )
 
 seen_by_shape : (m : ℕ) → m < 2 ^ 64 → Shape m → AllSeen (moment_text m)
 seen_by_shape m small (inl x) = subst AllSeen (sym x.1) (omega arith, tt)

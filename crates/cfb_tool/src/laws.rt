@@ -1,6 +1,5 @@
-//! What is told to be done is stored. None of these functions does anything: each has
-//! laws as its contract.
-ghost use Rattle.cfb_tool.specs.Details.{DetailsAreRows};
+//! What is told to be done is stored. Neither function does anything: each has laws as its
+//! contract.
 ghost use Rattle.cfb_tool.specs.Laws.{AddedIsStored, PlayedTreeIsMade, PutIsStored};
 ghost use Rattle.cfb_whole_streams.specs.Laws.{WrittenIsStored};
 
@@ -18,11 +17,4 @@ pub fn what_is_told_is_stored<S: Seen>()
 /// refusal, the file has that tree.
 pub fn what_is_played_is_made<S: Seen>()
     ensures { PlayedTreeIsMade S.seen S.promised }
-{}
-
-/// The line of an object in `details` is one row of seven fields, whatever the object is called, and
-/// the last field is its path as it is shown: `meant` gives the path back
-/// (`cfb_text::laws::shown_texts_are_plain_and_apart`).
-pub fn details_are_rows()
-    ensures { DetailsAreRows }
 {}

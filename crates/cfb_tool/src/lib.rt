@@ -10,5 +10,5 @@ pub mod listing;
 pub mod playing;
 mod replies;
 pub mod soundness;
-pub mod table;
+pub mod tree;
 pub mod word;

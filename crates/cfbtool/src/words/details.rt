@@ -3,8 +3,7 @@ use super::print;
 use crate::output::Output;
 use crate::refusal::Refusal;
 use cfb::{CompoundFile, ReadMedium};
-use cfb_tool::details::{details as details_of, details_at};
-use cfb_tool::table::{table, table_at};
+use cfb_tool::details::{details as details_of, details_at, table, table_at};
 use std::alloc::Global;
 
 /// Prints the fields of each object, or of each from the one at this path on: a tab between, or on a

@@ -4,6 +4,7 @@ use Rattle.std.specs.Prelude.{◌==◌, count_by, if◌then◌else◌}
 use Rattle.std.specs.Fmt.{decimal, digit_glyph}
 use Rattle.std.specs.List.{AllByRecursion, sum_by}
 use Rattle.std.specs.Str.{encode_utf8_all}
+use Rattle.std.proofs.lemmas.Bool.Decides.{Decides-eqb}
 use Rattle.std.proofs.lemmas.Fmt.{decimal_by_steps}
 use Rattle.std.proofs.lemmas.List.Sums.{sum_by-append, sum_by-cons}
 use Rattle.uuid.specs.Text.{by_index, digit_place, hex_digit, hyphenated_text, is_hyphen_place, lower, nibble}
@@ -12,10 +13,9 @@ use Rattle.cfb_dates.specs.Moments.{moment_text}
 use Rattle.cfb_dates.proofs.Words.{moments_are_one_word}
 use Rattle.cfb_text.specs.Shown.{shown}
 use Rattle.cfb_text.proofs.Bytes.{shown_has_no_control}
-use Rattle.cfb_tool.specs.cfb_outline.Families.{is_stream_kind}
+use Rattle.cfb_shown.specs.cfb_outline.Families.{is_stream_kind}
 use Rattle.cfb_rules.specs.Calls.{EntryInfo}
-use Rattle.cfb_tool.specs.Details.{HasFileNumbers, IsRow, behind_tabs, bits_text, byte_digits, clsid_text, details_line}
-use Rattle.cfb_tool.specs.Listing.{kind_text}
+use Rattle.cfb_shown.specs.Rows.{HasFileNumbers, IsRow, behind_tab, behind_tabs, bits_text, byte_digits, clsid_text, kind_text, row_text}
 
 -- no tab and no end of a line
 abbrev AllInside : List ℕ → Type 0
@@ -31,8 +31,12 @@ more_inside n (x ∷ bytes) many all = (let first = all.0 in omega (arith, first
 
 -- ---- counting
 
+not_equal : (x y : ℕ) (b : Bool) → (x == y) ≡ b → (x ≡ y → ⊥) → (x == y) ≡ false
+not_equal x y true e other = absurd (other ((Decides-eqb x y).0 e))
+not_equal x y false e other = e
+
 is_other : (byte mark : ℕ) → 11 ≤ byte → mark < 11 → (byte == mark) ≡ false
-is_other byte mark inside low = search rules
+is_other byte mark inside low = not_equal byte mark (byte == mark) refl (λ same. omega (arith, same))
 
 none_inside : (mark : ℕ) (bytes : List ℕ) → mark < 11 → AllInside bytes → count_by (λ byte. byte == mark) bytes ≡ 0
 none_inside mark [] low all = refl
@@ -57,15 +61,18 @@ no_end piece rest all =
 
 -- ---- fields
 
+past_tab : (piece rest : List ℕ) → AllInside piece → behind_tab (piece ++ 9 ∷ rest) ≡ rest
+past_tab [] rest all = refl
+past_tab (x ∷ piece) rest all =
+    ap (λ (b : Bool). if b then piece ++ 9 ∷ rest else behind_tab (piece ++ 9 ∷ rest)) (is_other x 9 all.0 (omega arith))
+    ∙ past_tab piece rest all.1
+
 past_field : (n : ℕ) (piece rest : List ℕ) → AllInside piece → behind_tabs (suc n) (piece ++ 9 ∷ rest) ≡ behind_tabs n rest
-past_field n [] rest all = refl
-past_field n (x ∷ piece) rest all =
-    ap (λ (b : Bool). if b then behind_tabs n (piece ++ 9 ∷ rest) else behind_tabs (suc n) (piece ++ 9 ∷ rest)) (is_other x 9 all.0 (omega arith))
-    ∙ past_field n piece rest all.1
+past_field n piece rest all = ap (behind_tabs n) (past_tab piece rest all)
 
 row_of : (a b c d e f path : List ℕ) → AllInside a → AllInside b → AllInside c → AllInside d → AllInside e → AllInside f → AllInside path
     → IsRow path (a ++ 9 ∷ (b ++ 9 ∷ (c ++ 9 ∷ (d ++ 9 ∷ (e ++ 9 ∷ (f ++ 9 ∷ (path ++ 10 ∷ [])))))))
-row_of a b c d e f path ia ib ic id ie if ip =
+row_of a b c d e f path pa pb pc pd pe pf pp =
     let last : List ℕ = path ++ 10 ∷ [] in
     let six : List ℕ = f ++ 9 ∷ last in
     let five : List ℕ = e ++ 9 ∷ six in
@@ -73,9 +80,9 @@ row_of a b c d e f path ia ib ic id ie if ip =
     let three : List ℕ = c ++ 9 ∷ four in
     let two : List ℕ = b ++ 9 ∷ three in
     record {
-      tabs = a_tab a two 5 ia (a_tab b three 4 ib (a_tab c four 3 ic (a_tab d five 2 id (a_tab e six 1 ie (a_tab f last 0 if (behind 9 path (10 ∷ []) (omega arith) ip))))));
-      ends = no_end a two ia ∙ no_end b three ib ∙ no_end c four ic ∙ no_end d five id ∙ no_end e six ie ∙ no_end f last if ∙ behind 10 path (10 ∷ []) (omega arith) ip;
-      path = past_field 5 a two ia ∙ past_field 4 b three ib ∙ past_field 3 c four ic ∙ past_field 2 d five id ∙ past_field 1 e six ie ∙ past_field 0 f last if;
+      tabs = a_tab a two 5 pa (a_tab b three 4 pb (a_tab c four 3 pc (a_tab d five 2 pd (a_tab e six 1 pe (a_tab f last 0 pf (behind 9 path (10 ∷ []) (omega arith) pp))))));
+      ends = no_end a two pa ∙ no_end b three pb ∙ no_end c four pc ∙ no_end d five pd ∙ no_end e six pe ∙ no_end f last pf ∙ behind 10 path (10 ∷ []) (omega arith) pp;
+      path = past_field 5 a two pa ∙ past_field 4 b three pb ∙ past_field 3 c four pc ∙ past_field 2 d five pd ∙ past_field 1 e six pe ∙ past_field 0 f last pf;
     }
 
 -- ---- what stands in the fields
@@ -96,7 +103,7 @@ byte_inside byte = (digit_by (byte / 16) (nat_lt (byte / 16) 10) refl, (digit_by
 
 bits_inside : (bits : ℕ) → AllInside (bits_text bits)
 bits_inside bits =
-    append_inside (byte_digits (bits / 16777216)) (byte_digits (bits / 65536 % 256) ++ (byte_digits (bits / 256 % 256) ++ byte_digits (bits % 256))) (byte_inside (bits / 16777216))
+    append_inside (byte_digits (bits / 16777216 % 256)) (byte_digits (bits / 65536 % 256) ++ (byte_digits (bits / 256 % 256) ++ byte_digits (bits % 256))) (byte_inside (bits / 16777216 % 256))
     (append_inside (byte_digits (bits / 65536 % 256)) (byte_digits (bits / 256 % 256) ++ byte_digits (bits % 256)) (byte_inside (bits / 65536 % 256))
     (append_inside (byte_digits (bits / 256 % 256)) (byte_digits (bits % 256)) (byte_inside (bits / 256 % 256)) (byte_inside (bits % 256))))
 
@@ -117,8 +124,8 @@ clsid_by : (clsid : List ℕ) (b : Bool) → is_nil_bytes clsid ≡ b → AllIns
 clsid_by clsid true e = rw e (omega arith, tt)
 clsid_by clsid false e = rw e (by_index_inside 36 (λ k. if is_hyphen_place k then 45 else hex_digit lower (nibble clsid (digit_place k))) (λ k. place_by clsid k (is_hyphen_place k)))
 
-pub details_are_rows : (info : EntryInfo) → HasFileNumbers info → IsRow (encode_utf8_all (shown info.path)) (details_line info)
-details_are_rows info numbers =
+pub rows_have_seven_fields : (info : EntryInfo) → HasFileNumbers info → IsRow (encode_utf8_all (shown info.path)) (row_text info)
+rows_have_seven_fields info numbers =
     row_of (kind_text info) (decimal info.len) (clsid_text info.clsid) (bits_text info.state_bits) (moment_text info.created) (moment_text info.modified) (encode_utf8_all (shown info.path))
     (kind_inside (is_stream_kind info.obj_type)) (decimal_inside info.len numbers.len) (clsid_by info.clsid (is_nil_bytes info.clsid) refl) (bits_inside info.state_bits)
     (more_inside 33 (moment_text info.created) (omega arith) (moments_are_one_word info.created numbers.created))

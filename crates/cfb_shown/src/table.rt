@@ -1,51 +1,12 @@
-//! All fields of objects as a table for people, which leaves out the columns that say nothing.
-ghost use Rattle.std.specs.Prelude.{IsTrue, IfErr, chars};
+//! All fields of objects as a table for people.
+ghost use Rattle.std.specs.Prelude.{IfErr};
 ghost use Rattle.cfb_format.specs.Refused.{IsMemory};
-ghost use Rattle.cfb_tool.specs.cfb_path_changes.Answers.{AnswersNot};
-ghost use Rattle.cfb_rules.specs.Calls.{walk, walk_storage};
 
-use crate::details::{ClassId, StateBits};
-use crate::listing::{kind_of, walked, walked_at};
-use cfb_commands::CompoundFile;
-use cfb_dates::moment::Moment;
+use crate::rows::{ClassId, StateBits, kind_of, moment_of};
 use cfb_format::error::Error;
-use cfb_format::medium::ReadMedium;
 use cfb_listing::entry::Entry;
 use cfb_text::shown::push_shown;
 use std::alloc::Allocator as Heap;
-
-/// The same fields as those of `details`, padded with blanks. A column is left out in which no row
-/// says anything: `-`, or no state bits. What is printed is tested, and not proved.
-///
-/// # Errors
-///
-/// Those of `walk`, and `Memory` for the lines.
-pub fn table<F: ReadMedium, A: Heap + Clone>(
-    alloc: &A,
-    file: &CompoundFile<F, A>,
-) -> Result<String<A>, Error>
-    ensures refused { IsTrue F.tells → IfErr result (AnswersNot file.now walk) }
-{
-    let told = walked(alloc, file)?;
-    table_of(alloc, told.as_slice())
-}
-
-/// The same for the object at this path and all that is in it.
-///
-/// # Errors
-///
-/// Those of `walk_storage`, and `Memory` for the lines.
-pub fn table_at<F: ReadMedium, A: Heap + Clone>(
-    alloc: &A,
-    file: &CompoundFile<F, A>,
-    path: &str,
-) -> Result<String<A>, Error>
-    ensures refused { IsTrue F.tells
-        → IfErr result (AnswersNot file.now (walk_storage (chars path.now))) }
-{
-    let told = walked_at(alloc, file, path)?;
-    table_of(alloc, told.as_slice())
-}
 
 /// A column of the table. The path is none: it ends a row as it is.
 #[derive(Clone, Copy)]
@@ -67,8 +28,13 @@ const COLUMNS: [Column; 6] = [
     Column::Modified,
 ];
 
-/// A row for each of these objects. `Memory`.
-fn table_of<A: Heap + Clone>(alloc: &A, told: &[Entry<A>]) -> Result<String<A>, Error>
+/// The fields of `rows_of`, padded with blanks. A column is left out in which no row says anything:
+/// `-`, or no state bits. What is printed is tested, and not proved.
+///
+/// # Errors
+///
+/// `Memory`, and no other one.
+pub fn table_of<A: Heap + Clone>(alloc: &A, told: &[Entry<A>]) -> Result<String<A>, Error>
     ensures kind { IfErr result IsMemory }
 {
     let mut widths = Vec::with_capacity(alloc.clone()?, COLUMNS.len())?;
@@ -92,11 +58,7 @@ fn table_of<A: Heap + Clone>(alloc: &A, told: &[Entry<A>]) -> Result<String<A>, 
 }
 
 /// How wide the column has to be: 0 where it says nothing of any of these objects. `Memory`.
-fn width_of<A: Heap + Clone>(
-    alloc: &A,
-    told: &[Entry<A>],
-    column: Column,
-) -> Result<usize, Error>
+fn width_of<A: Heap + Clone>(alloc: &A, told: &[Entry<A>], column: Column) -> Result<usize, Error>
     ensures kind { IfErr result IsMemory }
 {
     let mut cell = String::new(alloc.clone()?);
@@ -129,11 +91,11 @@ fn push_cell<A: Heap>(cell: &mut String<A>, entry: &Entry<A>, column: Column) ->
             write!(cell, "{bits}")?;
         }
         Column::Created => {
-            let created = Moment(entry.created().value());
+            let created = moment_of(entry.created());
             write!(cell, "{created}")?;
         }
         Column::Modified => {
-            let modified = Moment(entry.modified().value());
+            let modified = moment_of(entry.modified());
             write!(cell, "{modified}")?;
         }
     }
