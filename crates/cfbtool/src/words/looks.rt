@@ -64,9 +64,9 @@ fn look_into<H: Files<File = File> + AllocGlobal, F: ReadMedium, W: Output, E: O
         Asked::TreeAll(_) | Asked::TreeAt(..) => tree(alloc, &file, at, out),
         Asked::Check(_) | Asked::CheckStrict(_) => print_soundness(alloc, &file, out),
         Asked::Cat(..) => cat(alloc, &mut file, path.as_str(), out),
-        Asked::Info(name) => info(alloc, &mut file, name, out),
-        Asked::Map(_) => map(alloc, &mut file, out),
-        Asked::Dump(_) => dump(alloc, &mut file, out, faults),
+        Asked::Info(name) => info(rt, name, &file, out),
+        Asked::Map(_) => map(alloc, &file, out),
+        Asked::Dump(_) => dump(alloc, &mut file, out),
         Asked::ExtractAll(..) | Asked::ExtractAt(..) => {
             extract(rt, &mut file, at, About::of(asked), faults)
         }

@@ -1,14 +1,17 @@
 //! `map`.
+use super::print;
 use crate::output::Output;
 use crate::refusal::Refusal;
 use cfb::{CompoundFile, ReadMedium};
+use cfb_tool::mapping::map as map_of;
 use std::alloc::Global;
 
 /// Prints which sectors belong to what.
 pub(super) fn map<F: ReadMedium, W: Output>(
-    _alloc: Global,
-    _file: &mut CompoundFile<F>,
-    _out: &mut W,
+    alloc: Global,
+    file: &CompoundFile<F>,
+    out: &mut W,
 ) -> Result<(), Refusal> {
-    Err(Refusal::WrongWords)
+    let text = map_of(&alloc, file)?;
+    print(text.as_bytes(), out)
 }
