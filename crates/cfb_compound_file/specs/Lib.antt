@@ -29,3 +29,5 @@ pub mod Printed
 pub mod Asking
 pub mod Taken
 pub mod Numbers
+pub mod Writing
+pub mod Closing

@@ -2,12 +2,10 @@ pub use Rattle.cfb_commands.proofs.cfb_volume
 pub use Rattle.cfb_commands.proofs.cfb_agreement
 pub use Rattle.cfb_commands.proofs.cfb_compound_file
 pub mod Lines
+pub mod Fields
 pub mod Listed
 pub mod Telling
 pub mod Turns
 pub mod Runs
 pub mod Pieces
 pub mod Stored
-pub mod WholeWrites
-pub mod WholePuts
-pub mod WholeReads

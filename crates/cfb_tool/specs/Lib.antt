@@ -8,6 +8,6 @@ pub use Rattle.cfb_commands.specs.cfb_compound_file
 pub mod Word
 pub mod Asking
 pub mod Listing
+pub mod Details
 pub mod Playing
-pub mod Content
 pub mod Laws

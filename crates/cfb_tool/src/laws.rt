@@ -1,5 +1,8 @@
-//! What is told to be done is stored. The function does nothing: it has laws as its contract.
-ghost use Rattle.cfb_tool.specs.Laws.{AddedIsStored, PutIsStored, WrittenIsStored};
+//! What is told to be done is stored. Neither function does anything: each has laws as its
+//! contract.
+ghost use Rattle.cfb_tool.specs.Details.{DetailsAreRows};
+ghost use Rattle.cfb_tool.specs.Laws.{AddedIsStored, PutIsStored};
+ghost use Rattle.cfb_whole_streams.specs.Laws.{WrittenIsStored};
 
 use cfb_rules::laws::Seen;
 
@@ -9,4 +12,11 @@ pub fn what_is_told_is_stored<S: Seen>()
     ensures written { WrittenIsStored S.seen S.promised }
     ensures put { PutIsStored S.seen S.promised }
     ensures added { AddedIsStored S.seen S.promised }
+{}
+
+/// The line of an object in `details` is one row of seven fields, whatever the object is called, and
+/// the last field is its path as it is shown: `meant` gives the path back
+/// (`cfb_text::laws::shown_texts_are_plain_and_apart`).
+pub fn details_are_rows()
+    ensures { DetailsAreRows }
 {}

@@ -2,10 +2,12 @@
 #![tactic(auto)]
 
 pub mod asking;
-pub mod content;
+pub mod details;
+pub mod explaining;
 pub mod laws;
 pub mod listing;
 pub mod playing;
 mod replies;
 pub mod soundness;
+pub mod table;
 pub mod word;

@@ -71,7 +71,7 @@ pub fn shown_listing_at<F: ReadMedium, A: Heap + Clone>(
 }
 
 /// What `walk` tells, in order. It is refused as that is; `Memory` for the list too.
-fn walked<F: ReadMedium, A: Heap + Clone>(
+pub(crate) fn walked<F: ReadMedium, A: Heap + Clone>(
     alloc: &A,
     file: &CompoundFile<F, A>,
 ) -> Result<Vec<Entry<A>, A>, Error>
@@ -84,7 +84,7 @@ fn walked<F: ReadMedium, A: Heap + Clone>(
 }
 
 /// What `walk_storage` tells, in order. It is refused as that is; `Memory` for the list too.
-fn walked_at<F: ReadMedium, A: Heap + Clone>(
+pub(crate) fn walked_at<F: ReadMedium, A: Heap + Clone>(
     alloc: &A,
     file: &CompoundFile<F, A>,
     path: &str,
@@ -150,7 +150,7 @@ fn push_shown_line<A: Heap>(lines: &mut String<A>, entry: &Entry<A>) -> Result<(
 }
 
 /// `f` for a stream, `d` for a storage.
-fn kind_of<A: Heap>(entry: &Entry<A>) -> &'static str
+pub(crate) fn kind_of<A: Heap>(entry: &Entry<A>) -> &'static str
     ensures { result.now ≡ kind_text entry.now }
 {
     if entry.is_stream() { "f" } else { "d" }

@@ -24,6 +24,8 @@ pub(crate) enum Refusal {
     Opening(Error),
     /// A call was refused so, at PATH where one is given.
     Of(Error),
+    /// So many bytes of the stream at PATH can be read, of so many that it has.
+    Cut(u64, u64),
     /// The system refused a call at FILE.
     System(io::Error),
     /// The system refused a call at the other file that was named.
@@ -186,6 +188,13 @@ pub(crate) fn tell<E: Output>(refusal: Refusal, about: About<'_>, faults: &mut E
         Refusal::System(e) => writeln!(faults, "cfbtool: medium failed: {file}: {e}"),
         Refusal::OtherSystem(e) => tell_system(about.other.unwrap_or(""), &e, faults),
         Refusal::Busy => writeln!(faults, "cfbtool: {file}: another program is changing it"),
+        Refusal::Cut(got, len) => {
+            let path = Shown(about.path.unwrap_or(""));
+            writeln!(
+                faults,
+                "cfbtool: {file}: {path}: {got} of {len} bytes can be read"
+            )
+        }
         Refusal::NotText => {
             let path = Shown(about.path.unwrap_or(""));
             writeln!(

@@ -3,6 +3,7 @@ use acts::{
     Seen, damage, has_len, is_link, is_writable, make_old, note, set_mode, stays, stays_at,
     stays_in_place, stays_locked,
 };
+use helps::are_helped;
 use library::{Outcome, comes_of};
 use runs::{
     CONTENT, Run, SOUND_3, SOUND_4, are_shown, are_told, is_each_broken, is_each_told, say,
@@ -13,9 +14,11 @@ use std::test::Fail;
 use std::{env, fs};
 
 mod acts;
+mod changes;
 mod compacts;
 mod extracts;
 mod files;
+mod helps;
 mod library;
 mod lines;
 mod lists;
@@ -30,6 +33,8 @@ enum Step<'a> {
     Runs(&'a [Run<'a>]),
     /// The same with a terminal as output.
     OnScreen(&'a [Run<'a>]),
+    /// Each of these words has a help, in both spellings.
+    Helps(&'a [&'a str]),
     /// Runs of each of these words, with each of these inputs: the status, and what is told.
     Each(&'a [&'a [&'a str]], &'a [&'a [u8]], u8, &'a [u8]),
     /// Runs of each of these words whose input and output fail.
@@ -214,6 +219,7 @@ fn is_done(rt: &HostRuntime, world: &mut World, step: &Step<'_>) -> bool {
     match step {
         Step::Runs(runs) => are_told(rt, world, runs),
         Step::OnScreen(runs) => are_shown(rt, world, runs),
+        Step::Helps(calls) => are_helped(rt, world, calls),
         Step::Each(all, inputs, status, told) => {
             is_each_told(rt, world, all, inputs, (*status, told))
         }

@@ -15,6 +15,7 @@ use std::rt::Files;
 
 mod changes;
 mod copies;
+mod cuts;
 mod details;
 mod dump;
 mod extract;
@@ -101,7 +102,7 @@ fn answer<H: Files<File = File> + AllocGlobal, R: Read, W: Output, E: Output>(
         }
         Asked::Run(path) => run_input(rt, path, input, out),
         Asked::RunExplained(path) => run_explained(rt, path, input, out, faults),
-        Asked::Compact(path, target) => compact(rt, path, target),
+        Asked::Compact(path, target) => compact(rt, path, target, faults),
         Asked::Salvage(path, target) => salvage(rt, path, target, out),
         Asked::ExtractAll(_, folder) | Asked::ExtractAt(_, _, folder) if is_there(rt, folder) => {
             Err(Refusal::TargetExists)

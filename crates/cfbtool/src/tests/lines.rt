@@ -28,7 +28,7 @@ const TEXTS: [Row; 40] = [
 fn are_commands(alloc: Global, (text, wanted): &Row) -> bool {
     match commands_in(alloc, text) {
         Ok(commands) => *wanted == Some(commands.len()),
-        Err(LinesError::WrongWords) => wanted.is_none(),
+        Err(LinesError::WrongWords(..)) => wanted.is_none(),
         Err(LinesError::Memory) => false,
     }
 }

@@ -1,4 +1,5 @@
 //! The words that only read FILE.
+use super::cuts::not_read;
 use super::details::details;
 use super::dump::dump;
 use super::extract::extract;
@@ -13,7 +14,6 @@ use crate::refusal::{About, Refusal};
 use cfb::{CompoundFile, ReadMedium};
 use cfb_text::meant::meant;
 use cfb_tool::asking::Asked;
-use cfb_tool::content::content_at;
 use cfb_tool::listing::{listing, listing_at, shown_listing, shown_listing_at};
 use cfb_tool::soundness::soundness_line;
 use std::alloc::Global;
@@ -98,7 +98,10 @@ fn cat<F: ReadMedium, W: Output>(
     stream: &str,
     out: &mut W,
 ) -> Result<(), Refusal> {
-    let bytes = content_at(alloc, file, stream)?;
+    let bytes = match cfb::read_stream(alloc, file, stream) {
+        Ok(bytes) => bytes,
+        Err(e) => return Err(not_read(file, stream, e)),
+    };
     if out.is_terminal() && !is_plain_text(bytes.as_slice()) {
         return Err(Refusal::NotText);
     }
