@@ -50,7 +50,7 @@ pub trait Source {
         ensures refused { IfErr result IsMemory };
 
     /// Puts a beginning of what can be read of the stream of that entry from byte `at` on into a
-    /// beginning of `into`, which has room, and answers how many bytes there are: at least one.
+    /// beginning of `into`, and answers how many bytes there are: none only where that has no room.
     /// `Medium`, `Memory`.
     fn read_piece(&mut self, entry: u32, at: u64, into: &mut [u8]) -> Result<usize, Error>
         requires { entry < length (listed self.old) }
@@ -61,9 +61,9 @@ pub trait Source {
         ensures bound { IfOk result (λ n. n ≤ length into.new) }
         ensures ok { tells self.old
             → at < length (content self.old (entry_at (listed self.old) entry))
-            → 0 < length into.old → IfOk result (ReadsPiece
-            (content self.old (entry_at (listed self.old) entry)) at into.new) }
+            → IfOk result (ReadsPiece (content self.old (entry_at (listed self.old) entry)) at
+            into.new) }
         ensures refused { tells self.old
             → at < length (content self.old (entry_at (listed self.old) entry))
-            → 0 < length into.old → IfErr result (IsBreak ⊥) };
+            → IfErr result (IsBreak ⊥) };
 }
