@@ -7,3 +7,5 @@ mod copying;
 mod faults;
 #[cfg(test)]
 mod objects;
+#[cfg(test)]
+mod salvaging;
