@@ -1,7 +1,8 @@
 -- What can be read of a file, copied into a new one: what that is, and when there is none.
-use Rattle.std.specs.Prelude.{◌≡◌, Bool, true, false, IsTrue, List, Result, IsErrAnd, ⊤}
+use Rattle.std.specs.Prelude.{ℕ, ◌≡◌, Bool, true, false, IsTrue, List, [], ◌∷◌, length, Result, IsErrAnd, ⊤}
 use Rattle.cfb_format.specs.declared.error.Error.{Error}
 use Rattle.cfb_format.specs.Bytes.{max_regular_sector}
+use Rattle.cfb_format.specs.DirectoryEntry.{Entry, unless_stream}
 use Rattle.cfb_format.specs.Full.{IsTooLarge}
 use Rattle.cfb_format.specs.Meaning.{Means}
 use Rattle.cfb_format.specs.Refused.{HasReason, no_error}
@@ -11,6 +12,10 @@ use Rattle.cfb_copy_sizes.specs.declared.cut.Extent.{Extent}
 use Rattle.cfb_copies.specs.cfb_mini_sectors.State.{bytes_of, cases_of, version_of}
 use Rattle.cfb_copies.specs.cfb_agreement.Files.{FileState, is_failed}
 use Rattle.cfb_copies.specs.Copies.{IsKindOrMemory, MeansCut}
+
+-- how much can be read of the object of this entry, if it is a stream
+abbrev pub extents_at : (Entry → List ℕ) → Entry → List Extent
+extents_at content e = unless_stream e.obj_type (record { kept = length (content e); len = e.stream_len } ∷ []) []
 
 -- so much can be read of each stream of the file's tree, in the order of a walk
 abbrev pub TellsExtents : FileState → List Extent → Type 0

@@ -1,10 +1,12 @@
 //! What can be read of a file, copied into an empty medium.
-ghost use Rattle.std.specs.Prelude.{◌≡◌, ◌||◌, [], false, true, IsTrue, IfOk, IfErr, IsErrAnd, OnOk};
+ghost use Rattle.std.specs.Prelude.{◌≡◌, ◌<◌, ◌||◌, ◌++◌, [], false, true, length, IsTrue, IfOk, IfErr, IsErrAnd, OnOk};
 ghost use Rattle.cfb_format.specs.declared.error.Error.TheVariants.{Failed};
 ghost use Rattle.cfb_format.specs.Refused.{IsMemory};
+ghost use Rattle.cfb_format.specs.Siblings.{entry_at};
+ghost use Rattle.cfb_copies.specs.cfb_mini_sectors.State.{content_of, entries_of};
 ghost use Rattle.cfb_copies.specs.cfb_agreement.Files.{Agrees, Holds, failures_of, is_failed};
 ghost use Rattle.cfb_copies.specs.Copies.{AreCopyable, IsMadeCopy, ListsObjects, TakesAfter};
-ghost use Rattle.cfb_copies.specs.Salvaged.{FitsCut, IsFullOrMemory, IsSalvaged, RefusesCut, SalvageRefused, TellsExtents};
+ghost use Rattle.cfb_copies.specs.Salvaged.{FitsCut, IsFullOrMemory, IsSalvaged, RefusesCut, SalvageRefused, TellsExtents, extents_at};
 ghost use Rattle.cfb_copies.specs.Steps.{CountsEither, IsNoFault, IsReadOnly};
 
 use crate::checking::{is_allowed, kind_of, not_copied};
@@ -39,6 +41,29 @@ struct Prepared<A: Heap> {
     extents: Vec<Extent, A>,
 }
 
+/// Appends how much can be read of the object of that entry, if it is a stream. `Memory`.
+fn add_extent<F: ReadMedium, A: Heap + Clone>(
+    source: &Volume<F, A>,
+    entry: u32,
+    extents: &mut Vec<Extent, A>,
+) -> Result<(), Error>
+    requires inside { entry < length (entries_of source.now.base) }
+    ensures added { IsTrue F.tells → Holds source.now → OnOk result
+        (extents.new.items ≡ extents.old.items ++ extents_at (content_of source.now.base)
+        (entry_at (entries_of source.now.base) entry)) }
+    ensures err { IfErr result IsMemory }
+{
+    match kind_of(source.entries(), entry) {
+        ObjType::Stream => {
+            let kept = kept_len(source, entry, Keep::Readable)?;
+            let len = source.len(entry);
+            extents.push(Extent { kept, len })?;
+            Ok(())
+        }
+        _ => Ok(()),
+    }
+}
+
 /// How much can be read of each stream of the list, in its order. `Memory`.
 fn extents_of<F: ReadMedium, A: Heap + Clone>(
     source: &Volume<F, A>,
@@ -53,17 +78,13 @@ fn extents_of<F: ReadMedium, A: Heap + Clone>(
 {
     parts_stand_at_places();
     places_are_the_walk();
-    let entries = source.entries();
+    let _entries = source.entries();
     let mut extents = Vec::new(source.heap().clone()?);
     for place in list {
         if !is_allowed(source, place.entry) {
             return Err(not_copied(place.entry));
         }
-        if kind_of(entries, place.entry) == ObjType::Stream {
-            let kept = kept_len(source, place.entry, Keep::Readable)?;
-            let len = source.len(place.entry);
-            extents.push(Extent { kept, len })?;
-        }
+        add_extent(source, place.entry, &mut extents)?;
     }
     Ok(extents)
 }
