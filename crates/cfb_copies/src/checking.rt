@@ -2,7 +2,7 @@
 ghost use Rattle.std.specs.Prelude.{◌≡◌, ◌↔◌, ◌<◌, ℕ, true, length, chars, IsTrue, IfOk, IfErr, OnOk};
 ghost use Rattle.std.specs.List.{list_any};
 ghost use Rattle.cfb_format.specs.Names.{is_forbidden_character};
-ghost use Rattle.cfb_format.specs.Refused.{IsInvalidData, IsInvalidOrMemory, IsMemory};
+ghost use Rattle.cfb_format.specs.Refused.{IsInvalidOrMemory, IsMemory};
 ghost use Rattle.cfb_format.specs.Siblings.{entry_at};
 ghost use Rattle.cfb_codecs.specs.EntryModel.{entries_of as entries_in, entry_of};
 ghost use Rattle.cfb_copies.specs.cfb_trees.Reached.{IsObject};
@@ -79,11 +79,9 @@ pub(crate) fn is_allowed<F: ReadMedium, A: Heap>(source: &Volume<F, A>, entry: u
     }
 }
 
-/// A refusal of an object that no file may have.
-pub(crate) fn not_copied(entry: u32) -> Error
-    ensures { IsInvalidData result }
-{
-    Error::InvalidData(Detail::number("object that can't be copied", u64::from(entry)))
+/// What is told of an object that can't be copied.
+pub(crate) fn not_copied(entry: u32) -> Detail {
+    Detail::number("object that can't be copied", u64::from(entry))
 }
 
 /// Whether the object of that entry can be given to another file whole: all of a stream can be read. `Memory`.
@@ -130,7 +128,7 @@ pub(crate) fn check_objects<F: ReadMedium, A: Heap + Clone>(
     for place in list {
         let copyable = is_copyable(source, place.entry)?;
         if !copyable {
-            return Err(not_copied(place.entry));
+            return Err(Error::InvalidData(not_copied(place.entry)));
         }
     }
     Ok(())

@@ -40,6 +40,9 @@ pub(crate) fn kept_len<F: ReadMedium, A: Heap + Clone>(
     let len = source.len(entry);
     match keep {
         Keep::Whole => Ok(len),
-        Keep::Readable => Ok(source.readable(entry)?.min(len)),
+        Keep::Readable => {
+            let readable = source.readable(entry)?;
+            Ok(readable.min(len))
+        }
     }
 }

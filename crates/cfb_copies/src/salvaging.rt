@@ -82,7 +82,7 @@ fn extents_of<F: ReadMedium, A: Heap + Clone>(
     let mut extents = Vec::new(source.heap().clone()?);
     for place in list {
         if !is_allowed(source, place.entry) {
-            return Err(not_copied(place.entry));
+            return Err(Error::InvalidData(not_copied(place.entry)));
         }
         add_extent(source, place.entry, &mut extents)?;
     }
@@ -145,11 +145,14 @@ pub fn salvage_volume<F: ReadMedium, W: Medium, A: Heap + Clone>(
     if source.is_failed() {
         return Err(Error::Failed);
     }
-    let Prepared { list, extents } = prepare_cut(source)?;
+    let prepared = prepare_cut(source)?;
     let mut volume = make_empty(source, dest, buffer_limit)?;
-    let listed = list.as_slice();
+    let listed = prepared.list.as_slice();
     match fill(source, listed, &mut volume, Keep::Readable) {
-        Ok(()) => Ok(Salvaged { volume, extents }),
+        Ok(()) => {
+            let Prepared { list: _, extents } = prepared;
+            Ok(Salvaged { volume, extents })
+        }
         Err(error) => Err(counted(error)),
     }
 }
