@@ -11,6 +11,7 @@ use std::alloc::Global;
 use std::test::Fail;
 
 /// How many streams a cut file still has, and how many of them are whole; none where it can't be opened.
+#[derive(Drop)]
 struct Found {
     streams: usize,
     whole: usize,

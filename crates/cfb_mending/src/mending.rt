@@ -29,6 +29,7 @@ const LINKS_AT: [usize; 3] = [68, 72, 76];
 const LEN_AT: usize = 120;
 
 /// A file that is looked through.
+#[derive(Drop)]
 struct Scan<F: ReadMedium, A: Heap + Clone> {
     medium: F,
     version: Version,
@@ -42,6 +43,7 @@ struct Scan<F: ReadMedium, A: Heap + Clone> {
 }
 
 /// What one sector holds.
+#[derive(Drop)]
 struct Loaded {
     bytes: [u8; MAX_SECTOR_LEN],
 }
