@@ -1,4 +1,4 @@
-//! The words that make a new file of FILE.
+//! `compact`.
 use super::cuts::tell_first_cut;
 use super::files::{is_there, opened, to_make, to_read};
 use crate::lent::Lent;
@@ -6,7 +6,6 @@ use crate::output::Output;
 use crate::refusal::Refusal;
 use cfb::{CompoundFile, Error, Medium, ReadMedium};
 use std::fs::File;
-use std::io::Write;
 use std::rt::Files;
 
 /// `compact`. Something at the target is found before the file is opened.
@@ -49,15 +48,4 @@ fn copy_into<F: ReadMedium, T: Medium>(
 ) -> Result<(), Refusal> {
     let _copy = file.copy_to(medium)?;
     Ok(())
-}
-
-/// `salvage`.
-pub(super) fn salvage<H: Files<File = File> + AllocGlobal, W: Write>(
-    rt: &H,
-    path: &str,
-    target: &str,
-    out: &mut W,
-) -> Result<(), Refusal> {
-    let _ = (rt, path, target, out);
-    Err(Refusal::WrongWords)
 }
