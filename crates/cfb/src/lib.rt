@@ -1,5 +1,22 @@
-//! Compound files (MS-CFB): a tree of storages and streams in one file. It has no code of its own,
-//! but gives the public names of all crates of the library.
+//! Compound files ([MS-CFB]), the container of `.doc`, `.xls`, `.msg` and `.msi`: a tree of storages and streams in one file. A storage has
+//! storages and streams below it, a stream has bytes, and a path like `/storage/stream` leads to an object.
+//!
+//! **Where to start.** `open`, `open_rw`, `create` take a path of the system; `CompoundFile::{open, create}` any medium, as a `MemoryMedium`
+//! or a `SliceMedium`. `read_stream`, `write_stream` and `copy_stream` do a stream whole; `open_read_stream` and `create_stream` give one with
+//! std's `Read`, `BufRead`, `Seek` and `Write`. `walk`, `entry` and `read_storage` tell what is there. The crate `cfb_tasks` has ten short
+//! examples, and `cfb_example` one that goes there and back.
+//!
+//! **Errors.** A call answers `Error`, which `?` turns into an `io::Error`. What was refused by the rules has changed nothing; where the
+//! medium, memory or numbers refuse in the midst of a change, `is_failed` tells whether the file takes no more changes.
+//!
+//! **What is proved** stands in the clauses of each function (`docs/CLAIMS.md`), and `laws` has what follows from them. Sizes, lengths and
+//! places are in bytes, moments in units of 100 ns since 1601.
+//!
+//! The modules `laws` and `internal` are public for proofs and tests; `internal` may change in any version.
+//!
+//! This crate has no code of its own, but gives the public names of all crates of the library.
+//!
+//! [MS-CFB]: https://learn.microsoft.com/openspecs/windows_protocols/ms-cfb
 #![tactic(auto)]
 
 pub use cfb_codecs::path::CaseMapper;
@@ -11,7 +28,8 @@ pub use cfb_compound_file::options::OpenOptions;
 pub use cfb_compound_file::read_stream::ReadStream;
 pub use cfb_compound_file::stream::Stream;
 pub use cfb_files::file::{FileMedium, FileReadMedium};
-pub use cfb_files_opening::{create, open, open_rw};
+pub use cfb_files::locking;
+pub use cfb_files_opening::{create, create_as, open, open_rw};
 pub use cfb_format::error::{Detail, Error};
 pub use cfb_format::medium::{Medium, MediumFault, ReadMedium};
 pub use cfb_format::memory::MemoryMedium;
@@ -19,7 +37,12 @@ pub use cfb_format::validate::Validation;
 pub use cfb_format::version::Version;
 pub use cfb_listing::entries::Entries;
 pub use cfb_listing::entry::Entry;
+pub use cfb_slices::seek::SeekMedium;
+pub use cfb_slices::slice::SliceMedium;
 pub use cfb_std_streams::kinds::{std_error, std_kind};
+pub use cfb_whole_streams::copying::copy_stream;
+pub use cfb_whole_streams::reading::read_stream;
+pub use cfb_whole_streams::writing::write_stream;
 
 /// What follows from what the calls promise. None of these functions does anything: each has laws as its contract.
 pub mod laws {
@@ -35,7 +58,8 @@ pub mod laws {
     pub use cfb_rules::laws as rules;
 }
 
-/// The layers that compound files are made of.
+/// The layers that compound files are made of, for tests and for media and tools of this repository. No part of the stable surface: any of
+/// it may change or go in any version.
 pub mod internal {
     pub use cfb_access::writing::write_content;
     pub use cfb_alloc::alloc::{Allocator, HeaderWord};
@@ -60,4 +84,6 @@ pub mod internal {
     pub use cfb_mini_chains::mini_chain::MiniChain;
     pub use cfb_resizing::resizing::resize_content;
     pub use cfb_sectors::sector::{Sector, SectorInit, Sectors};
+    pub use cfb_slices::seek::SeekMedium;
+    pub use cfb_slices::slice::SliceMedium;
 }

@@ -4,33 +4,34 @@
 #[cfg(test)]
 mod tests;
 
-use cfb::{CompoundFile, Error, MemoryMedium, std_error};
+use cfb::{CompoundFile, Error, MemoryMedium, Stream};
 use std::alloc::Global;
-use std::io::{self, Write};
+use std::io::SeekFrom;
 
-/// A file whose stream `/data` has all of these bytes.
-pub fn packed(alloc: Global, bytes: &[u8]) -> io::Result<MemoryMedium> {
-    let medium = MemoryMedium::new(alloc);
-    let mut file = CompoundFile::create(alloc, medium).map_err(std_error)?;
-    put(&mut file, bytes)?;
+/// A file whose stream `/data` has exactly these bytes.
+pub fn packed(alloc: Global, bytes: &[u8]) -> Result<MemoryMedium, Error> {
+    let mut file = CompoundFile::create(alloc, MemoryMedium::new(alloc))?;
+    cfb::write_stream(&mut file, "/data", bytes)?;
     Ok(file.into_inner())
-}
-
-fn put(file: &mut CompoundFile<MemoryMedium>, bytes: &[u8]) -> io::Result<()> {
-    let mut stream = file.create_stream("/data").map_err(std_error)?;
-    let written = stream.write_all(bytes);
-    let closed = stream.close(); // an open stream cannot be dropped
-    written?;
-    closed.map_err(std_error)
 }
 
 /// All bytes of the stream `/data`.
 pub fn unpacked(alloc: Global, medium: MemoryMedium) -> Result<Vec<u8>, Error> {
     let mut file = CompoundFile::open(alloc, medium)?;
-    let mut bytes = Vec::new(alloc);
-    let mut stream = file.open_read_stream("/data")?;
-    let read = stream.read_to_end(&mut bytes);
-    stream.close()?;
-    read?;
-    Ok(bytes)
+    cfb::read_stream(alloc, &mut file, "/data")
+}
+
+/// The same file, with the bytes behind those that are there, written and closed by hand: the first of the two errors is answered.
+pub fn extended(alloc: Global, medium: MemoryMedium, bytes: &[u8]) -> Result<MemoryMedium, Error> {
+    let mut file = CompoundFile::open(alloc, medium)?;
+    let mut stream = file.open_stream("/data")?;
+    let written = appended(&mut stream, bytes);
+    stream.finish(written)?; // an open stream can't be dropped
+    Ok(file.into_inner())
+}
+
+/// Writes the bytes behind the end.
+fn appended(stream: &mut Stream<'_, MemoryMedium>, bytes: &[u8]) -> Result<(), Error> {
+    stream.seek(SeekFrom::End(0))?;
+    stream.write_all(bytes)
 }

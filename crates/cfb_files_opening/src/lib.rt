@@ -11,15 +11,19 @@ ghost use Rattle.cfb_compound_file.specs.Opening.{IsOfCreating, permissive_optio
 ghost use Rattle.cfb_compound_file.specs.Taken.{TakesOptions};
 
 use cfb_compound_file::compound_file::CompoundFile;
+use cfb_compound_file::options::OpenOptions;
 use cfb_files::file::{FileMedium, FileReadMedium};
 use cfb_format::error::Error;
+use cfb_format::version::Version;
 use std::alloc::Allocator as Heap;
 use std::fs::File;
 use std::rt::Files;
 
-/// Opens the compound file at this path of the system, to be read.
+/// Opens the compound file at this path of the system, to be read. The file is not locked, so that another may change it.
 ///
-/// `Medium(Open)` where the file is not opened; else it is refused as `CompoundFile::open` is.
+/// # Errors
+///
+/// `Medium(Open)` where the file is not opened; else as `CompoundFile::open`.
 pub fn open<R: Files<File = File>, A: Heap + Clone>(
     rt: &R,
     alloc: A,
@@ -33,9 +37,12 @@ pub fn open<R: Files<File = File>, A: Heap + Clone>(
     CompoundFile::open(alloc, medium)
 }
 
-/// Opens the compound file at this path of the system, to be read and changed in place.
+/// Opens the compound file at this path of the system, to be read and changed in place. The file is locked as long as it is open
+/// (`cfb_files::locking`).
 ///
-/// `Medium(Open)` where the file is not opened; else it is refused as `CompoundFile::open` is.
+/// # Errors
+///
+/// `Medium(Open)` where the file is not opened, and where another has it open to be changed; else as `CompoundFile::open`.
 pub fn open_rw<R: Files<File = File>, A: Heap + Clone>(
     rt: &R,
     alloc: A,
@@ -49,10 +56,13 @@ pub fn open_rw<R: Files<File = File>, A: Heap + Clone>(
     CompoundFile::open(alloc, medium)
 }
 
-/// Makes a compound file of version 4 with nothing in it at this path of the system. An older file
-/// there is emptied first.
+/// Makes a compound file of version 4 with nothing in it at this path of the system. An older file there is emptied first. The file is
+/// locked as long as it is open (`cfb_files::locking`).
 ///
-/// `Medium(Open)` where the file is not opened; else it is refused as `CompoundFile::create` is.
+/// # Errors
+///
+/// `Medium(Open)` where the file is not opened, and where another has it open to be changed: then the older file keeps its bytes. Else as
+/// `CompoundFile::create`.
 pub fn create<R: Files<File = File>, A: Heap + Clone>(
     rt: &R,
     alloc: A,
@@ -65,4 +75,24 @@ pub fn create<R: Files<File = File>, A: Heap + Clone>(
 {
     let medium = FileMedium::create(rt, path)?;
     CompoundFile::create(alloc, medium)
+}
+
+/// Makes a compound file of this version with nothing in it at this path of the system, as `create` does one of version 4.
+///
+/// # Errors
+///
+/// As `create`.
+pub fn create_as<R: Files<File = File>, A: Heap + Clone>(
+    rt: &R,
+    alloc: A,
+    version: Version,
+    path: &str,
+) -> Result<CompoundFile<FileMedium, A>, Error>
+    ensures version { IfOk result (λ file. version_of file.base ≡ version) }
+    ensures options { IfOk result (TakesOptions permissive_options) }
+    ensures unfailed { IfOk result (λ file. is_failed file ≡ false) }
+    ensures kinds { IfErr result IsOfCreating }
+{
+    let medium = FileMedium::create(rt, path)?;
+    OpenOptions::new().create_as(alloc, version, medium)
 }

@@ -1,6 +1,7 @@
 -- Text as it is shown.
-use Rattle.std.specs.Prelude.{ℕ, ◌+◌, ◌/◌, ◌%◌, ◌≡◌, ◌≢◌, List, [], ◌∷◌, Bool, false, ◌&&◌, ◌||◌, ◌==◌, nat_lt, nat_le, flat_map, if◌then◌else◌}
+use Rattle.std.specs.Prelude.{ℕ, ◌+◌, ◌/◌, ◌%◌, ◌≤◌, ◌≡◌, ◌≢◌, List, [], ◌∷◌, Bool, false, ◌&&◌, ◌||◌, ◌==◌, nat_lt, nat_le, flat_map, if◌then◌else◌}
 use Rattle.std.specs.List.{AllByRecursion}
+use Rattle.std.specs.Str.{encode_utf8_all}
 
 -- a control (U+0000 to 1F, 7F to 9F), a mark without width or of the direction of writing (200B to 200F, 2028 to 202E, 2060 to 2069), or the mark of byte order (FEFF)
 abbrev pub is_hidden : ℕ → Bool
@@ -24,6 +25,10 @@ shown text = flat_map shown_char text
 -- nothing that is shown is hidden
 abbrev pub ShowsPlainly : Type 0
 ShowsPlainly = (text : List ℕ) → AllByRecursion (λ c. is_hidden c ≡ false) (shown text)
+
+-- nor has any byte of it the number of a control of ASCII: no tab and no end of a line
+abbrev pub ShowsNoControl : Type 0
+ShowsNoControl = (text : List ℕ) → AllByRecursion (λ byte. 32 ≤ byte) (encode_utf8_all (shown text))
 
 -- a text of which nothing is hidden is shown as it is
 abbrev pub ShowsAsItIs : Type 0

@@ -6,8 +6,8 @@ pub mod Listed
 pub mod Telling
 pub mod Turns
 pub mod Runs
+pub mod Explained
+pub mod Dumped
 pub mod Pieces
 pub mod Stored
-pub mod WholeWrites
-pub mod WholePuts
-pub mod WholeReads
+pub mod Rebuilt

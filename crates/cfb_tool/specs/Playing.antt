@@ -1,56 +1,19 @@
 -- Commands that are done to their end: a write goes on until all of its bytes are taken.
-use Rattle.std.specs.Prelude.{ℕ, ◌≡◌, ◌+◌, ◌==◌, pos, Bool, true, false, List, [], ◌∷◌, ◌++◌, length, drop, Option, Some, None, Result, MatchBool, MatchResult, IsTrue}
+use Rattle.std.specs.Prelude.{ℕ, ◌≡◌, ◌+◌, ◌==◌, pos, Bool, true, false, List, [], ◌∷◌, ◌++◌, length, drop, Option, Some, None, Result, Err, ◌⊎◌, MatchBool, MatchResult, IsTrue}
 use Rattle.cfb_format.specs.declared.error.Error.{Error}
+use Rattle.cfb_format.specs.declared.error.Error.TheVariants.{Memory}
 use Rattle.cfb_format.specs.declared.medium.MediumFault.{MediumFault}
-use Rattle.cfb_rules.specs.Calls.{Reply, done, entries, flag, one_entry, refused}
 use Rattle.cfb_rules.specs.Lists.{Command, CommandReply, by_path, on_stream, opens, replied, streamed}
 use Rattle.cfb_rules.specs.Refusal.{Refusal, medium_failed, out_of_memory, refusal_number}
-use Rattle.cfb_rules.specs.StreamCalls.{StreamCall, StreamReply, answered, count, from_end, got, not_done, offset, ready, seek, write}
+use Rattle.cfb_rules.specs.StreamCalls.{StreamCall, StreamReply, from_end, seek, write}
 use Rattle.cfb_tool.specs.cfb_agreement.Files.{FileState}
-use Rattle.cfb_commands.specs.Commands.{refusal_of_error}
+use Rattle.cfb_commands.specs.Commands.{refusal_of_error, refusal_of_result}
 use Rattle.cfb_commands.specs.Working.{RunsLegally}
+use Rattle.cfb_whole_streams.specs.Told.{refusal_in, taken_by_work}
 
 -- ---- what a reply tells
 
--- why an operation was refused, if it was
-abbrev pub refusal_of_work : StreamReply → Option Refusal
-refusal_of_work (not_done refusal) = Some refusal
-refusal_of_work ready = None
-refusal_of_work (got bytes) = None
-refusal_of_work (count n) = None
-refusal_of_work (offset at) = None
-refusal_of_work (answered b) = None
-
-abbrev pub first_of : Option Refusal → Option Refusal → Option Refusal
-first_of (Some refusal) other = Some refusal
-first_of None other = other
-
--- the first refusal of the operations, or that of closing
-abbrev pub first_refusal : List StreamReply → (closing : Option Refusal) → Option Refusal
-first_refusal [] closing = closing
-first_refusal (reply ∷ replies) closing = first_of (refusal_of_work reply) (first_refusal replies closing)
-
-abbrev pub refusal_of_call : Reply → Option Refusal
-refusal_of_call (refused refusal) = Some refusal
-refusal_of_call done = None
-refusal_of_call (flag b) = None
-refusal_of_call (one_entry e) = None
-refusal_of_call (entries es) = None
-
-abbrev pub refusal_in : CommandReply → Option Refusal
-refusal_in (replied reply) = refusal_of_call reply
-refusal_in (streamed replies closing) = first_refusal replies closing
-
--- how many bytes an operation took, if it is a write
-abbrev pub taken_by_work : StreamReply → ℕ
-taken_by_work (count n) = n
-taken_by_work ready = 0
-taken_by_work (got bytes) = 0
-taken_by_work (offset at) = 0
-taken_by_work (answered b) = 0
-taken_by_work (not_done refusal) = 0
-
--- and the last one
+-- how many bytes the last operation took
 abbrev pub last_count : List StreamReply → ℕ
 last_count [] = 0
 last_count (reply ∷ []) = taken_by_work reply
@@ -168,6 +131,11 @@ module _ (can_give : MediumFault → Bool) (old : FileState) where
     pub plays : PlaysAll asked told commands replies
     pub runs : RunsLegally can_give old commands replies new
 
+-- one command was done to its end; or memory was refused before anything was done
+abbrev pub IsPlayedUnlessMemory : (MediumFault → Bool) → FileState → (asked : Command) → Result (Unit {0}) Error → FileState → Type 0
+IsPlayedUnlessMemory can_give old asked result new =
+    IsPlayed can_give old asked (refusal_of_result result) new ⊎ ((result ≡ Err Memory) × (new ≡ old))
+
 -- the commands of a list were done, and a line for each was put behind the text
 pub record ArePlayed (tells : Bool) (can_give : MediumFault → Bool) (old : FileState) (asked : List Command) (text now : List ℕ) (all_done : Bool) (new : FileState) : Type 0 where
   pub told : List (Option Refusal)
@@ -175,3 +143,21 @@ pub record ArePlayed (tells : Bool) (can_give : MediumFault → Bool) (old : Fil
   pub lines : now ≡ text ++ told_lines told
   pub done : all_done ≡ is_all_done told
   pub plays : IsTrue tells → ArePlayedAs can_give old asked told new
+
+-- ---- what was refused, by its place
+
+-- the refusals among what is told of commands from this place on, each with its place
+abbrev pub refusals_from : (place : ℕ) → List (Option Refusal) → List (ℕ × Refusal)
+refusals_from place [] = []
+refusals_from place (None ∷ more) = refusals_from (place + 1) more
+refusals_from place (Some refusal ∷ more) = (place, refusal) ∷ refusals_from (place + 1) more
+
+-- an error at a place, by its kind
+abbrev pub placed : ℕ × Error → ℕ × Refusal
+placed (place, e) = (place, refusal_of_error e)
+
+-- these are the refusals that the lines behind a text tell
+pub record AreToldIn (text now : List ℕ) (refusals : List (ℕ × Refusal)) : Type 0 where
+  pub told : List (Option Refusal)
+  pub lines : now ≡ text ++ told_lines told
+  pub each : refusals ≡ refusals_from 0 told

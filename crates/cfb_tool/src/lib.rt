@@ -2,9 +2,16 @@
 #![tactic(auto)]
 
 pub mod asking;
-pub mod content;
+pub mod info;
+pub mod details;
+pub mod dumping;
+pub mod explaining;
 pub mod laws;
 pub mod listing;
+pub mod mapping;
+mod owners;
 pub mod playing;
 mod replies;
 pub mod soundness;
+pub mod tree;
+pub mod word;

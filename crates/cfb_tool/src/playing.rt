@@ -4,7 +4,7 @@ ghost use Rattle.std.specs.Prelude.{◌≡◌, ◌<◌, ◌≤◌, ◌+◌, ◌*
 ghost use Rattle.cfb_commands.specs.Commands.{refusal_of_result, command_of};
 ghost use Rattle.cfb_format.specs.Refused.{IsMemory};
 ghost use Rattle.cfb_rules.specs.Lists.{Command as Ordered};
-ghost use Rattle.cfb_tool.specs.Playing.{ArePlayed, IsAdded, IsPlayed, PlaysOnce, addition};
+ghost use Rattle.cfb_tool.specs.Playing.{ArePlayed, IsAdded, IsPlayed, IsPlayedUnlessMemory, PlaysOnce, addition};
 
 use crate::replies::{first_error, taken, written_by};
 use cfb_commands::CompoundFile;
@@ -94,7 +94,7 @@ fn go_on<F: Medium, A: Heap + Clone>(
 
 /// Does one command, and goes on behind its write until all bytes are taken. The first refusal;
 /// `Memory` for what is added, too.
-fn do_command<F: Medium, A: Heap + Clone>(
+pub(crate) fn do_command<F: Medium, A: Heap + Clone>(
     file: &mut CompoundFile<F, A>,
     one: &[Command<A>],
     replies: &mut Vec<Reply<A>, A>,
@@ -116,8 +116,24 @@ fn do_command<F: Medium, A: Heap + Clone>(
     }
 }
 
+/// Does one command to its end. The first refusal; `Memory` for its reply too, before anything is
+/// done.
+pub fn play_one<F: Medium, A: Heap + Clone>(
+    alloc: &A,
+    file: &mut CompoundFile<F, A>,
+    command: Command<A>,
+) -> Result<(), Error>
+    ensures { IsTrue F.tells → IsPlayedUnlessMemory (λ f. F.read_faults f || F.write_faults f)
+        file.old (command_of command) result file.new }
+{
+    let mut replies = Vec::with_capacity(alloc.clone()?, 1)?;
+    let mut one = Vec::with_capacity(alloc.clone()?, 1)?;
+    one.push(command)?;
+    do_command(file, one.as_slice(), &mut replies)
+}
+
 /// The command at this place, as a list of one.
-fn one_at<A: Heap>(commands: &[Command<A>], at: usize) -> &[Command<A>]
+pub(crate) fn one_at<A: Heap>(commands: &[Command<A>], at: usize) -> &[Command<A>]
     requires { at < length commands.now }
     ensures { result.now ≡ take 1 (drop at commands.now) }
 {
@@ -155,7 +171,7 @@ pub fn play<F: Medium, A: Heap + Clone>(
 }
 
 /// Appends a line of two letters, for which there is room.
-fn push_line<A: Heap>(lines: &mut Vec<u8, A>, first: u8, second: u8)
+pub(crate) fn push_line<A: Heap>(lines: &mut Vec<u8, A>, first: u8, second: u8)
     requires room { length lines.old.items + 3 ≤ vec_capacity lines.old }
     ensures line { lines.new.items ≡ lines.old.items ++ first ∷ second ∷ 10 ∷ [] }
     ensures capacity { vec_capacity lines.new ≡ vec_capacity lines.old }

@@ -1,0 +1,5 @@
+pub mod Years
+pub mod Months
+pub mod Fractions
+pub mod Texts
+pub mod Words

@@ -1,0 +1,17 @@
+pub use Rattle.cfb_compound_file.specs.cfb_entries
+pub use Rattle.cfb_commands.specs.cfb_rules
+pub use Rattle.cfb_commands.specs.cfb_mini_sectors
+pub use Rattle.cfb_commands.specs.cfb_objects
+pub use Rattle.cfb_commands.specs.cfb_agreement
+pub use Rattle.cfb_commands.specs.cfb_path_changes
+pub use Rattle.cfb_commands.specs.cfb_compound_file
+pub mod Items
+pub mod Walks
+pub mod Memory
+pub mod Pieces
+pub mod Breaks
+pub mod Sources
+pub mod Extracted
+pub mod Steps
+pub mod Cuts
+pub mod Answered

@@ -1,0 +1,5 @@
+pub mod Paths
+pub mod Knowing
+pub mod Composing
+pub mod Claiming
+pub mod Assembling

@@ -1,0 +1,3 @@
+pub mod RowTexts
+pub mod Fields
+pub mod TreeTexts

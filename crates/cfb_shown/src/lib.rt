@@ -1,0 +1,7 @@
+//! The objects of a compound file as text for people: rows of all fields, a table and a tree.
+#![tactic(auto)]
+
+pub mod laws;
+pub mod rows;
+pub mod table;
+pub mod tree;
