@@ -23,4 +23,3 @@ pub mod Calls
 pub mod Fitting
 pub mod Faults
 pub mod Failing
-pub mod Cloned

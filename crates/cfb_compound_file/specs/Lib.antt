@@ -28,7 +28,5 @@ pub mod Adding
 pub mod Printed
 pub mod Asking
 pub mod Taken
-pub mod Flaws
-pub mod Numbers
 pub mod Writing
 pub mod Closing

@@ -7,4 +7,3 @@ pub mod TooMuch
 pub mod Growth
 pub mod Having
 pub mod Created
-pub mod Cuts

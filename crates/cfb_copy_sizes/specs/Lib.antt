@@ -4,4 +4,3 @@ pub use Rattle.cfb_objects.specs as cfb_objects
 pub mod Needs
 pub mod Laws
 pub mod Growth
-pub mod Cut

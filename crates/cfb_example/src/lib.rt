@@ -11,14 +11,18 @@ use std::io::SeekFrom;
 /// A file whose stream `/data` has exactly these bytes.
 pub fn packed(alloc: Global, bytes: &[u8]) -> Result<MemoryMedium, Error> {
     let mut file = CompoundFile::create(alloc, MemoryMedium::new(alloc))?;
-    cfb::write_stream(&mut file, "/data", bytes)?;
+    let mut stream = file.create_stream("/data")?;
+    let written = stream.write_all(bytes);
+    stream.finish(written)?; // an open stream can't be dropped
     Ok(file.into_inner())
 }
 
 /// All bytes of the stream `/data`.
 pub fn unpacked(alloc: Global, medium: MemoryMedium) -> Result<Vec<u8>, Error> {
     let mut file = CompoundFile::open(alloc, medium)?;
-    cfb::read_stream(alloc, &mut file, "/data")
+    let mut bytes = Vec::new(alloc);
+    file.open_read_stream("/data")?.read_to_end(&mut bytes)?;
+    Ok(bytes)
 }
 
 /// The same file, with the bytes behind those that are there, written and closed by hand: the first of the two errors is answered.
@@ -26,7 +30,7 @@ pub fn extended(alloc: Global, medium: MemoryMedium, bytes: &[u8]) -> Result<Mem
     let mut file = CompoundFile::open(alloc, medium)?;
     let mut stream = file.open_stream("/data")?;
     let written = appended(&mut stream, bytes);
-    stream.finish(written)?; // an open stream can't be dropped
+    stream.finish(written)?;
     Ok(file.into_inner())
 }
 

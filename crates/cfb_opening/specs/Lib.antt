@@ -9,4 +9,3 @@ pub mod Known
 pub mod KnownMinis
 pub mod Opened
 pub mod Streams
-pub mod ReadFile

@@ -7,7 +7,8 @@ pub mod Telling
 pub mod Turns
 pub mod Runs
 pub mod Explained
-pub mod Dumped
 pub mod Pieces
 pub mod Stored
-pub mod Rebuilt
+pub mod WholeWrites
+pub mod WholePuts
+pub mod WholeReads

@@ -35,20 +35,8 @@ pub enum Asked<'a> {
     Check(&'a str),
     /// `check FILE strict`: the same, and what does no harm is refused too.
     CheckStrict(&'a str),
-    /// `info FILE`: the header, the sectors, and why the file is not sound.
-    Info(&'a str),
-    /// `map FILE`: which sectors belong to what.
-    Map(&'a str),
-    /// `dump FILE`: lines of `run` that make the file's tree.
-    Dump(&'a str),
-    /// `extract FILE DIR`: all streams as files of a new folder.
-    ExtractAll(&'a str, &'a str),
-    /// `extract FILE PATH DIR`: the same of the object at this path.
-    ExtractAt(&'a str, &'a str, &'a str),
     /// `compact FILE NEW`: a copy in which no sector is free.
     Compact(&'a str, &'a str),
-    /// `salvage FILE NEW`: a copy of what can be read.
-    Salvage(&'a str, &'a str),
     /// `run FILE`: the commands on standard input, one a line.
     Run(&'a str),
     /// `run -e FILE`: the same, and each refusal is explained.
@@ -159,9 +147,6 @@ fn asked_of_file<'a>(call: &str, file: &'a str) -> Option<Asked<'a>>
         "ls" => Some(Asked::ListAll(file)),
         "tree" => Some(Asked::TreeAll(file)),
         "check" => Some(Asked::Check(file)),
-        "info" => Some(Asked::Info(file)),
-        "map" => Some(Asked::Map(file)),
-        "dump" => Some(Asked::Dump(file)),
         "run" => Some(Asked::Run(file)),
         _ => None,
     }
@@ -181,9 +166,7 @@ fn asked_of_two<'a>(call: &str, first: &'a str, second: &'a str) -> Option<Asked
         "cat" => Some(Asked::Cat(first, second)),
         "put" => Some(Asked::Put(first, second)),
         "check" => asked_of_mode(first, second),
-        "extract" => Some(Asked::ExtractAll(first, second)),
         "compact" => Some(Asked::Compact(first, second)),
-        "salvage" => Some(Asked::Salvage(first, second)),
         "run" => asked_of_option(first, second),
         _ => match change_by(call) {
             Some(change) => Some(Asked::OneChange(change, first, second)),
@@ -260,7 +243,6 @@ fn asked_of_three<'a>(
     match call {
         "ls" => asked_of_details(first, second, third),
         "put" => Some(Asked::PutFrom(first, second, third)),
-        "extract" => Some(Asked::ExtractAt(first, second, third)),
         _ => match change_by(call) {
             Some(change) => Some(Asked::OneChangeBy(change, first, second, third)),
             None => None,

@@ -1,7 +1,5 @@
-//! What is told to be done is stored. Neither function does anything: each has laws as its
-//! contract.
-ghost use Rattle.cfb_tool.specs.Laws.{AddedIsStored, PlayedTreeIsMade, PutIsStored};
-ghost use Rattle.cfb_whole_streams.specs.Laws.{WrittenIsStored};
+//! What is told to be done is stored. The function does nothing: it has laws as its contract.
+ghost use Rattle.cfb_tool.specs.Laws.{AddedIsStored, PutIsStored, WrittenIsStored};
 
 use cfb_rules::laws::Seen;
 
@@ -11,10 +9,4 @@ pub fn what_is_told_is_stored<S: Seen>()
     ensures written { WrittenIsStored S.seen S.promised }
     ensures put { PutIsStored S.seen S.promised }
     ensures added { AddedIsStored S.seen S.promised }
-{}
-
-/// Where the commands that make a tree are done to their end in an empty file, and none tells a
-/// refusal, the file has that tree.
-pub fn what_is_played_is_made<S: Seen>()
-    ensures { PlayedTreeIsMade S.seen S.promised }
 {}

@@ -2,14 +2,11 @@
 #![tactic(auto)]
 
 pub mod asking;
-pub mod info;
+pub mod content;
 pub mod details;
-pub mod dumping;
 pub mod explaining;
 pub mod laws;
 pub mod listing;
-pub mod mapping;
-mod owners;
 pub mod playing;
 mod replies;
 pub mod soundness;

@@ -34,18 +34,13 @@ pub enum Change {
 pub enum Word {
     Ls,
     Tree,
-    Info,
-    Map,
     Check,
     Cat,
-    Extract,
-    Dump,
     Create,
     Put,
     Changing(Change),
     Run,
     Compact,
-    Salvage,
 }
 
 impl Change {
@@ -76,18 +71,13 @@ impl Word {
         match self {
             Word::Ls => "ls",
             Word::Tree => "tree",
-            Word::Info => "info",
-            Word::Map => "map",
             Word::Check => "check",
             Word::Cat => "cat",
-            Word::Extract => "extract",
-            Word::Dump => "dump",
             Word::Create => "create",
             Word::Put => "put",
             Word::Changing(change) => change.text(),
             Word::Run => "run",
             Word::Compact => "compact",
-            Word::Salvage => "salvage",
         }
     }
 }
@@ -122,17 +112,12 @@ pub fn word_by(text: &str) -> Option<Word>
     match text {
         "ls" => Some(Word::Ls),
         "tree" => Some(Word::Tree),
-        "info" => Some(Word::Info),
-        "map" => Some(Word::Map),
         "check" => Some(Word::Check),
         "cat" => Some(Word::Cat),
-        "extract" => Some(Word::Extract),
-        "dump" => Some(Word::Dump),
         "create" => Some(Word::Create),
         "put" => Some(Word::Put),
         "run" => Some(Word::Run),
         "compact" => Some(Word::Compact),
-        "salvage" => Some(Word::Salvage),
         _ => match change_by(text) {
             Some(change) => Some(Word::Changing(change)),
             None => None,

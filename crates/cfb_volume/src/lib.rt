@@ -4,7 +4,6 @@
 mod clearing;
 mod inserting;
 mod marking;
-mod parts;
 mod removing;
 pub mod volume;
 

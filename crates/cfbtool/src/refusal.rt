@@ -24,8 +24,6 @@ pub(crate) enum Refusal {
     Opening(Error),
     /// A call was refused so, at PATH where one is given.
     Of(Error),
-    /// So many bytes of the stream at PATH can be read, of so many that it has.
-    Cut(u64, u64),
     /// The system refused a call at FILE.
     System(io::Error),
     /// The system refused a call at the other file that was named.
@@ -136,9 +134,6 @@ impl<'a> About<'a> {
             | Asked::TreeAll(file)
             | Asked::Check(file)
             | Asked::CheckStrict(file)
-            | Asked::Info(file)
-            | Asked::Map(file)
-            | Asked::Dump(file)
             | Asked::Run(file)
             | Asked::RunExplained(file) => About::new(file),
             Asked::ListAt(file, path)
@@ -148,12 +143,8 @@ impl<'a> About<'a> {
             | Asked::Put(file, path)
             | Asked::OneChange(_, file, path)
             | Asked::OneChangeBy(_, file, path, _) => About::new(file).at(path),
-            Asked::PutFrom(file, path, other) | Asked::ExtractAt(file, path, other) => {
-                About::new(file).at(path).and(other)
-            }
-            Asked::ExtractAll(file, other)
-            | Asked::Compact(file, other)
-            | Asked::Salvage(file, other) => About::new(file).and(other),
+            Asked::PutFrom(file, path, other) => About::new(file).at(path).and(other),
+            Asked::Compact(file, other) => About::new(file).and(other),
             _ => About::new(""),
         }
     }
@@ -188,13 +179,6 @@ pub(crate) fn tell<E: Output>(refusal: Refusal, about: About<'_>, faults: &mut E
         Refusal::System(e) => writeln!(faults, "cfbtool: medium failed: {file}: {e}"),
         Refusal::OtherSystem(e) => tell_system(about.other.unwrap_or(""), &e, faults),
         Refusal::Busy => writeln!(faults, "cfbtool: {file}: another program is changing it"),
-        Refusal::Cut(got, len) => {
-            let path = Shown(about.path.unwrap_or(""));
-            writeln!(
-                faults,
-                "cfbtool: {file}: {path}: {got} of {len} bytes can be read"
-            )
-        }
         Refusal::NotText => {
             let path = Shown(about.path.unwrap_or(""));
             writeln!(
@@ -221,11 +205,8 @@ fn tell_error<E: Output>(e: Error, about: About<'_>, faults: &mut E) -> io::Resu
     let file = Shown(about.file);
     match (e, about.path) {
         (Error::Memory, _) => writeln!(faults, "cfbtool: {e}"),
-        (Error::Medium(_) | Error::Full | Error::Failed, _) => {
+        (Error::Medium(_) | Error::Full | Error::Unsound | Error::Failed, _) => {
             writeln!(faults, "cfbtool: {e}: {file}")
-        }
-        (Error::Unsound, _) => {
-            writeln!(faults, "cfbtool: {e}: {file} (see 'cfbtool info {file}')")
         }
         (_, Some(path)) => {
             let path = Shown(path);

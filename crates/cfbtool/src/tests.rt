@@ -16,7 +16,6 @@ use std::{env, fs};
 mod acts;
 mod changes;
 mod compacts;
-mod extracts;
 mod files;
 mod helps;
 mod library;
@@ -26,6 +25,7 @@ mod opening;
 mod puts;
 mod runs;
 mod shows;
+mod trees;
 
 /// A step of a test. A word or a name that begins with `@` is a file of the test's folder.
 enum Step<'a> {

@@ -8,7 +8,6 @@ use changes::{change_one, put_from, put_input, run_explained, run_input};
 use compact::compact;
 use files::{create, is_there};
 use looks::look;
-use salvage::salvage;
 use std::fs::File;
 use std::io::{Read, Write};
 use std::process::ExitCode;
@@ -16,16 +15,10 @@ use std::rt::Files;
 
 mod changes;
 mod compact;
-mod cuts;
 mod details;
-mod dump;
-mod extract;
 mod files;
-mod info;
 mod lines;
 mod looks;
-mod map;
-mod salvage;
 mod tree;
 
 /// Does what the words say, with `input` as standard input, `out` as standard output and `faults`
@@ -36,13 +29,9 @@ mod tree;
 /// - `ls [-l] FILE [PATH]`: a line for each object, or for each from the one at this path on: `d` or
 ///   `f`, its length, and its path; with `-l` all of its fields.
 /// - `tree FILE [PATH]`: the same objects as a tree.
-/// - `info FILE`: the header, the sectors, and why the file is not sound.
-/// - `map FILE`: which sectors belong to what.
 /// - `check FILE`, `check FILE strict`: prints `version V sound`, or `version V not sound` with the
 ///   status 1 and nothing on `faults`.
 /// - `cat FILE PATH`: the bytes of this stream on `out`, none where it is refused.
-/// - `extract FILE [PATH] DIR`: all streams as files of a new folder.
-/// - `dump FILE`: lines of `run` that make the file's tree.
 /// - `create 3 FILE`, `create 4 FILE`: a new empty file of this version; an old one is overwritten.
 /// - `put FILE PATH [FROM]`: a stream at this path, with the bytes of `input`, or those of FROM.
 /// - `mkdir`, `mkdirs`, `rmdir`, `rmtree`, `rm`, `touch`, `bits`, `len`, `clsid`, `add`, then
@@ -51,7 +40,6 @@ mod tree;
 ///   first refusal, with the status 1 and nothing on `faults`. A line that is no command makes the
 ///   words wrong, and then nothing is done. `run -e FILE` explains both on `faults`.
 /// - `compact FILE NEW`: a copy in a new file, in which no sector is free.
-/// - `salvage FILE NEW`: a copy of what can be read.
 /// - `help`, `--help`, `-h`, `help WORD`, `WORD --help`, `--version`: what the words are.
 pub fn tool<H: Files<File = File> + AllocGlobal, R: Read, W: Output, E: Output>(
     rt: &H,
@@ -104,12 +92,8 @@ fn answer<H: Files<File = File> + AllocGlobal, R: Read, W: Output, E: Output>(
         }
         Asked::Run(path) => run_input(rt, path, input, out),
         Asked::RunExplained(path) => run_explained(rt, path, input, out, faults),
-        Asked::Compact(path, target) => compact(rt, path, target, faults),
-        Asked::Salvage(path, target) => salvage(rt, path, target, out),
-        Asked::ExtractAll(_, folder) | Asked::ExtractAt(_, _, folder) if is_there(rt, folder) => {
-            Err(Refusal::TargetExists)
-        }
-        _ => look(rt, asked, out, faults),
+        Asked::Compact(path, target) => compact(rt, path, target),
+        _ => look(rt, asked, out),
     }
 }
 

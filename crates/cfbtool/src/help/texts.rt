@@ -32,37 +32,6 @@ Example: cfbtool tree a.cfb
 Fails if FILE is no compound file, or nothing is at PATH.
 ";
 
-pub(super) const INFO: &str = "cfbtool info FILE
-
-The version, the sectors and directory entries and their use, whether a strict
-reader takes the file, whether it is sound (consistent), and if not, at most 20
-reasons.
-The status is 0 if the file is sound, else 1.
-
-Example: cfbtool info a.cfb
-file              a.cfb
-length            2560 bytes
-...
-sound             yes
-
-Fails if FILE is no compound file.
-";
-
-pub(super) const MAP: &str = "cfbtool map FILE
-
-What each sector belongs to: first and last sector, a tab, and the FAT, the
-DIFAT, the directory, the MiniFAT, the mini stream, a path, free or unused.
-A sector that is used twice has both, with a tab between.
-
-Example: cfbtool map a.cfb
-0\tthe FAT
-1\tthe directory
-2\tthe MiniFAT
-3\tthe mini stream
-
-Fails if FILE is no compound file.
-";
-
 pub(super) const CHECK: &str = "cfbtool check FILE [strict]
 
 'version V sound' (status 0) or 'version V not sound' (1): a file is sound if no
@@ -72,7 +41,7 @@ sector is used twice, every chain ends and every stream can be read.
 Example: cfbtool check a.cfb
 version 3 sound
 
-Fails if FILE is no compound file. 'cfbtool info' says why one is not sound.
+Fails if FILE is no compound file.
 ";
 
 pub(super) const CAT: &str = "cfbtool cat FILE PATH
@@ -85,34 +54,6 @@ Example: cfbtool cat a.cfb /docs/note
 hello
 
 Fails if no stream is at PATH, or it cannot be read whole.
-";
-
-pub(super) const EXTRACT: &str = "cfbtool extract FILE [PATH] DIR
-
-A new folder DIR, with a folder for each storage and a file for each stream, or
-what is at PATH. A control character and \" * / : < > ? \\ | % in a name become %
-and two hexadecimal digits (%u and four above U+00FF); an empty name and a first
-'.' or '-' get a '%' in front. Nothing is written outside DIR.
-
-Example: cfbtool extract a.cfb out && cat out/docs/note
-hello
-
-Fails if DIR is there. If a stream cannot be read whole, it writes the first
-bytes, says so and goes on; the status is 1.
-";
-
-pub(super) const DUMP: &str = "cfbtool dump FILE
-
-Lines of 'run' that make the same tree in an empty file: paths, class ids,
-state bits, timestamps, and all bytes in hexadecimal.
-A control character is shown as \\u0005.
-
-Example: cfbtool dump a.cfb
-# cfbtool dump, version 3
-mkdir\t/docs\t0
-put\t/docs/note\t68656c6c6f0a
-
-Fails if FILE is no compound file, or no path leads to a storage or stream.
 ";
 
 pub(super) const CREATE: &str = "cfbtool create 3|4 FILE
@@ -178,14 +119,14 @@ Fails if no storage is at PATH, or it is not empty, or it is the root.
 
 pub(super) const RMTREE: &str = "cfbtool rmtree FILE PATH
 
-Removes the storage at PATH with all that is in it.
+Removes what is at PATH with all that is in it; of the root all that is in it.
 The file keeps its length.
 'cfbtool compact' makes a shorter copy.
 
 Example: cfbtool rmtree a.cfb /docs && cfbtool ls a.cfb
 d 0 /
 
-Fails if no storage is at PATH, or it is the root.
+Fails if nothing is at PATH.
 ";
 
 pub(super) const RM: &str = "cfbtool rm FILE PATH
@@ -285,16 +226,4 @@ Example: cfbtool compact a.cfb b.cfb && cfbtool check b.cfb strict
 version 3 sound
 
 Fails if NEW is there, or a stream cannot be read whole.
-";
-
-pub(super) const SALVAGE: &str = "cfbtool salvage FILE NEW
-
-Copies what can be read of a damaged file into the new file NEW.
-A 'cut' line names a stream of which the first bytes are kept, a 'lost' line one
-of which none are. The status is 0 if all is kept, else 1.
-
-Example: cfbtool salvage a.cfb b.cfb
-kept\t1 of 1 streams\t6 of 6 bytes
-
-Fails if NEW is there, or FILE is no compound file.
 ";

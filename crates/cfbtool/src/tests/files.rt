@@ -66,9 +66,9 @@ const NOT_WRITTEN: &[Run<'static>] = &[
 
 const PUT_BY_LINK: &[Run<'static>] = &[(&["put", "@link", "/b"], CONTENT, 0, b"", b"")];
 
-const UNSOUND: &[u8] = b"cfbtool: file is not sound: @f (see 'cfbtool info @f')\n";
+const UNSOUND: &[u8] = b"cfbtool: file is not sound: @f\n";
 
-const UNREADABLE: &[u8] = b"cfbtool: @f: /a: 4964 of 5000 bytes can be read\n";
+const UNREADABLE: &[u8] = b"cfbtool: @f: /a: not all of the stream can be read\n";
 
 #[rattlefmt::skip]
 const NO_BYTES: &[Run<'static>] = &[

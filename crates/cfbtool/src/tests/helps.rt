@@ -11,18 +11,13 @@ const SCREEN: &[u8] =
 
   ls [-l] FILE [PATH]     objects: d or f, length, path; -l: ids, bits, times
   tree FILE [PATH]        the same as a tree
-  info FILE               header, sectors, and why the file is not sound
-  map FILE                which sectors belong to what
   check FILE [strict]     sound (status 0) or not (1)
   cat FILE PATH           the bytes of a stream
-  extract FILE [PATH] DIR all streams into a new folder
-  dump FILE               as lines that 'run' takes
   create 3|4 FILE         an empty file; EMPTIES one that is there
   put FILE PATH [FROM]    a stream, from FROM or standard input
   mkdir mkdirs rmdir rmtree rm touch bits len clsid add FILE PATH ...
   run [-e] FILE           such lines from standard input; -e: explains refusals
   compact FILE NEW        a copy without free sectors
-  salvage FILE NEW        what can be read of a damaged file
 
 PATH is /storage/stream, in any case of letters; \\u0005 is the character U+0005.
 Status: 0 done, 1 refused, 2 wrong words. More: cfbtool help WORD.
@@ -39,9 +34,8 @@ const SCREENS: &[Run<'static>] = &[
 /// The words of the screen.
 #[rattlefmt::skip]
 const ALL: &[&str] = &[
-    "ls", "tree", "info", "map", "check", "cat", "extract", "dump", "create", "put", "mkdir",
-    "mkdirs", "rmdir", "rmtree", "rm", "touch", "bits", "len", "clsid", "add", "run", "compact",
-    "salvage",
+    "ls", "tree", "check", "cat", "create", "put", "mkdir", "mkdirs", "rmdir", "rmtree", "rm",
+    "touch", "bits", "len", "clsid", "add", "run", "compact",
 ];
 
 /// Whether it begins with this word behind the program's name, and each line has 80 bytes at most.

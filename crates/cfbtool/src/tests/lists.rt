@@ -16,9 +16,8 @@ const WRONG: &[&[&str]] = &[
     &["compact"], &["compact", "@f"], &["compact", "@f", "@g", "@h"], &["run"],
     &["run", "@f", "@g"], &["run", "@f", "-e"], &["run", "-e", "@f", "@g"], &["mkdir"],
     &["mkdir", "@f"], &["mkdir", "@f", "/s", "0", "0"], &["ls", "-L", "@f", "/"],
-    &["ls", "-l", "@f", "/", "/"], &["tree"], &["tree", "@f", "/", "/"], &["info"],
-    &["info", "@f", "/"], &["map", "@f", "/"], &["dump", "@f", "/"], &["extract", "@f"],
-    &["extract", "@f", "/", "@d", "@d"], &["salvage", "@f"], &["help", "nope"], &["help", ""],
+    &["ls", "-l", "@f", "/", "/"], &["tree"], &["tree", "@f", "/", "/"],
+    &["help", "nope"], &["help", ""],
     &["help", "help"], &["help", "ls", "tree"], &["nope", "--help"], &["--help", "ls"],
     &["--help", "--help"], &["-h", "ls"], &["--version", "ls"], &["version"],
 ];

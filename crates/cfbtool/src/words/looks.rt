@@ -1,11 +1,6 @@
 //! The words that only read FILE.
-use super::cuts::not_read;
 use super::details::details;
-use super::dump::dump;
-use super::extract::extract;
 use super::files::{opened, to_read};
-use super::info::info;
-use super::map::map;
 use super::print;
 use super::tree::tree;
 use crate::lent::Lent;
@@ -14,6 +9,7 @@ use crate::refusal::{About, Refusal};
 use cfb::{CompoundFile, ReadMedium};
 use cfb_text::meant::meant;
 use cfb_tool::asking::Asked;
+use cfb_tool::content::content_at;
 use cfb_tool::listing::{listing, listing_at, shown_listing, shown_listing_at};
 use cfb_tool::soundness::soundness_line;
 use std::alloc::Global;
@@ -21,14 +17,13 @@ use std::fs::File;
 use std::rt::Files;
 
 /// Does what is asked of FILE.
-pub(super) fn look<H: Files<File = File> + AllocGlobal, W: Output, E: Output>(
+pub(super) fn look<H: Files<File = File> + AllocGlobal, W: Output>(
     rt: &H,
     asked: Asked<'_>,
     out: &mut W,
-    faults: &mut E,
 ) -> Result<(), Refusal> {
     let mut medium = to_read(rt, About::of(asked).file)?;
-    let done = look_into(rt, asked, Lent(&mut medium), out, faults);
+    let done = look_into(rt.alloc(), asked, Lent(&mut medium), out);
     done.map_err(|refusal| refusal.because(medium.last_error()))
 }
 
@@ -46,14 +41,12 @@ fn opened_for<F: ReadMedium>(
     }
 }
 
-fn look_into<H: Files<File = File> + AllocGlobal, F: ReadMedium, W: Output, E: Output>(
-    rt: &H,
+fn look_into<F: ReadMedium, W: Output>(
+    alloc: Global,
     asked: Asked<'_>,
     medium: F,
     out: &mut W,
-    faults: &mut E,
 ) -> Result<(), Refusal> {
-    let alloc = rt.alloc();
     let mut file = opened_for(alloc, asked, medium)?;
     let given = About::of(asked).path;
     let path = meant(alloc, given.unwrap_or(""))?;
@@ -64,12 +57,6 @@ fn look_into<H: Files<File = File> + AllocGlobal, F: ReadMedium, W: Output, E: O
         Asked::TreeAll(_) | Asked::TreeAt(..) => tree(alloc, &file, at, out),
         Asked::Check(_) | Asked::CheckStrict(_) => print_soundness(alloc, &file, out),
         Asked::Cat(..) => cat(alloc, &mut file, path.as_str(), out),
-        Asked::Info(name) => info(rt, name, &file, out),
-        Asked::Map(_) => map(alloc, &file, out),
-        Asked::Dump(_) => dump(alloc, &mut file, out),
-        Asked::ExtractAll(..) | Asked::ExtractAt(..) => {
-            extract(rt, &mut file, at, About::of(asked), faults)
-        }
         _ => Err(Refusal::WrongWords),
     }
 }
@@ -98,10 +85,7 @@ fn cat<F: ReadMedium, W: Output>(
     stream: &str,
     out: &mut W,
 ) -> Result<(), Refusal> {
-    let bytes = match cfb::read_stream(alloc, file, stream) {
-        Ok(bytes) => bytes,
-        Err(e) => return Err(not_read(file, stream, e)),
-    };
+    let bytes = content_at(alloc, file, stream)?;
     if out.is_terminal() && !is_plain_text(bytes.as_slice()) {
         return Err(Refusal::NotText);
     }

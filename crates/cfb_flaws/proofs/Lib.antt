@@ -1,5 +1,0 @@
-pub mod Paths
-pub mod Knowing
-pub mod Composing
-pub mod Claiming
-pub mod Assembling
