@@ -24,10 +24,10 @@ pub record AreToldUpTo (text now : List ℕ) (refusals : List (ℕ × Refusal)) 
   pub told : List (Option Refusal)
   pub lines : now ≡ text ++ told_lines told
   pub each : refusals ≡ refusals_from 0 told
-  pub count : length told ≡ count
+  pub many : length told ≡ count
 
 pub none_told : (text : List ℕ) → AreToldUpTo text text [] 0
-none_told text = record { told = []; lines = sym (append-nil text); each = refl; count = refl }
+none_told text = record { told = []; lines = sym (append-nil text); each = refl; many = refl }
 
 pub all_told : (text now : List ℕ) (refusals : List (ℕ × Refusal)) (count : ℕ) → AreToldUpTo text now refusals count → AreToldIn text now refusals
 all_told text now refusals count t = record { told = t.told; lines = t.lines; each = t.each }
@@ -39,9 +39,9 @@ one_told text now next old new count told t line refused = record {
   lines = line ∙ ap (λ (ls : List ℕ). ls ++ told_line told) t.lines ∙ append_assoc text (told_lines t.told) (told_line told)
       ∙ ap (λ (ls : List ℕ). text ++ ls) (sym (lines_more t.told told));
   each = refused ∙ ap (λ (rs : List (ℕ × Refusal)). rs ++ refusals_from count (told ∷ [])) t.each
-      ∙ ap (λ (n : ℕ). refusals_from 0 t.told ++ refusals_from n (told ∷ [])) (let e : count ≡ 0 + length t.told = omega (arith, t.count) in e)
+      ∙ ap (λ (n : ℕ). refusals_from 0 t.told ++ refusals_from n (told ∷ [])) (let e : count ≡ 0 + length t.told = omega (arith, t.many) in e)
       ∙ sym (refusals_behind 0 t.told told);
-  count = omega (arith, length-append t.told (told ∷ []), t.count);
+  many = omega (arith, length-append t.told (told ∷ []), t.many);
 }
 
 pub ok_told : (text now next : List ℕ) (refusals : List (ℕ × Error)) (count : ℕ) → AreToldUpTo text now (map placed refusals) count → next ≡ now ++ 111 ∷ 107 ∷ 10 ∷ []

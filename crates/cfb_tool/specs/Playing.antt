@@ -1,14 +1,13 @@
 -- Commands that are done to their end: a write goes on until all of its bytes are taken.
-use Rattle.std.specs.Prelude.{ℕ, ◌≡◌, ◌+◌, ◌==◌, pos, Bool, true, false, List, [], ◌∷◌, ◌++◌, length, drop, Option, Some, None, Result, Err, ◌⊎◌, MatchBool, MatchResult, IsTrue}
+use Rattle.std.specs.Prelude.{ℕ, ◌≡◌, ◌+◌, ◌==◌, pos, Bool, true, false, List, [], ◌∷◌, ◌++◌, length, drop, Option, Some, None, Result, MatchBool, MatchResult, IsTrue}
 use Rattle.cfb_format.specs.declared.error.Error.{Error}
-use Rattle.cfb_format.specs.declared.error.Error.TheVariants.{Memory}
 use Rattle.cfb_format.specs.declared.medium.MediumFault.{MediumFault}
 use Rattle.cfb_rules.specs.Calls.{Reply, done, entries, flag, one_entry, refused}
 use Rattle.cfb_rules.specs.Lists.{Command, CommandReply, by_path, on_stream, opens, replied, streamed}
 use Rattle.cfb_rules.specs.Refusal.{Refusal, medium_failed, out_of_memory, refusal_number}
 use Rattle.cfb_rules.specs.StreamCalls.{StreamCall, StreamReply, answered, count, from_end, got, not_done, offset, ready, seek, write}
 use Rattle.cfb_tool.specs.cfb_agreement.Files.{FileState}
-use Rattle.cfb_commands.specs.Commands.{refusal_of_error, refusal_of_result}
+use Rattle.cfb_commands.specs.Commands.{refusal_of_error}
 use Rattle.cfb_commands.specs.Working.{RunsLegally}
 
 -- ---- what a reply tells
@@ -168,11 +167,6 @@ module _ (can_give : MediumFault → Bool) (old : FileState) where
     pub replies : List CommandReply
     pub plays : PlaysAll asked told commands replies
     pub runs : RunsLegally can_give old commands replies new
-
--- one command was done to its end; or memory was refused before anything was done
-abbrev pub IsPlayedUnlessMemory : (MediumFault → Bool) → FileState → (asked : Command) → Result (Unit {0}) Error → FileState → Type 0
-IsPlayedUnlessMemory can_give old asked result new =
-    IsPlayed can_give old asked (refusal_of_result result) new ⊎ ((result ≡ Err Memory) × (new ≡ old))
 
 -- the commands of a list were done, and a line for each was put behind the text
 pub record ArePlayed (tells : Bool) (can_give : MediumFault → Bool) (old : FileState) (asked : List Command) (text now : List ℕ) (all_done : Bool) (new : FileState) : Type 0 where

@@ -4,7 +4,7 @@ ghost use Rattle.std.specs.Prelude.{◌≡◌, ◌<◌, ◌≤◌, ◌+◌, ◌*
 ghost use Rattle.cfb_commands.specs.Commands.{refusal_of_result, command_of};
 ghost use Rattle.cfb_format.specs.Refused.{IsMemory};
 ghost use Rattle.cfb_rules.specs.Lists.{Command as Ordered};
-ghost use Rattle.cfb_tool.specs.Playing.{ArePlayed, IsAdded, IsPlayed, IsPlayedUnlessMemory, PlaysOnce, addition};
+ghost use Rattle.cfb_tool.specs.Playing.{ArePlayed, IsAdded, IsPlayed, PlaysOnce, addition};
 
 use crate::replies::{first_error, taken, written_by};
 use cfb_commands::CompoundFile;
@@ -114,22 +114,6 @@ pub(crate) fn do_command<F: Medium, A: Heap + Clone>(
         Some((path, bytes)) => go_on(file, path, behind(bytes, count), replies),
         None => Ok(()),
     }
-}
-
-/// Does one command to its end. The first refusal; `Memory` for its reply too, before anything is
-/// done.
-pub fn play_one<F: Medium, A: Heap + Clone>(
-    alloc: &A,
-    file: &mut CompoundFile<F, A>,
-    command: Command<A>,
-) -> Result<(), Error>
-    ensures { IsTrue F.tells → IsPlayedUnlessMemory (λ f. F.read_faults f || F.write_faults f)
-        file.old (command_of command) result file.new }
-{
-    let mut replies = Vec::with_capacity(alloc.clone()?, 1)?;
-    let mut one = Vec::with_capacity(alloc.clone()?, 1)?;
-    one.push(command)?;
-    do_command(file, one.as_slice(), &mut replies)
 }
 
 /// The command at this place, as a list of one.
