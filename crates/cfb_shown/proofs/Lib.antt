@@ -1,3 +1,2 @@
 pub mod RowTexts
 pub mod Fields
-pub mod TreeTexts

@@ -1,7 +1,6 @@
 //! Objects as a tree of text.
-ghost use Rattle.std.specs.Prelude.{◌≡◌, ◌++◌, IfErr, IfOk, OnOk, drop, string_bytes};
+ghost use Rattle.std.specs.Prelude.{IfErr};
 ghost use Rattle.cfb_format.specs.Refused.{IsMemory};
-ghost use Rattle.cfb_shown.specs.Trees.{IsCountedTreeOf, IsTreeOf, bytes_in, cell_beside, end_text, lead_text, name_text, own_cell, stream_len, streams_in};
 
 use cfb_format::error::Error;
 use cfb_listing::entry::Entry;
@@ -10,14 +9,13 @@ use std::alloc::Allocator as Heap;
 
 /// A line for each of these objects, an empty one, and one that counts what is below the first. A
 /// line has a cell for each storage that the object is in, and the name as it is shown, with a `/`
-/// behind that of a storage, and its length behind that of a stream. Which cells these are is tested,
-/// and not proved.
+/// behind that of a storage, and its length behind that of a stream. What is printed is tested, and
+/// not proved.
 ///
 /// # Errors
 ///
 /// `Memory`, and no other one.
 pub fn tree_of<A: Heap + Clone>(alloc: &A, told: &[Entry<A>]) -> Result<String<A>, Error>
-    ensures tree { IfOk result (λ text. IsCountedTreeOf told.now (string_bytes text)) }
     ensures kind { IfErr result IsMemory }
 {
     let mut lines = lines_of(alloc, told)?;
@@ -35,7 +33,6 @@ pub fn tree_of<A: Heap + Clone>(alloc: &A, told: &[Entry<A>]) -> Result<String<A
 
 /// A line for each of these objects. `Memory`.
 fn lines_of<A: Heap + Clone>(alloc: &A, told: &[Entry<A>]) -> Result<String<A>, Error>
-    ensures tree { IfOk result (λ text. IsTreeOf told.now (string_bytes text)) }
     ensures kind { IfErr result IsMemory }
 {
     let mut lasts = last_ones(alloc, told)?;
@@ -77,8 +74,6 @@ fn own_lead(depth: usize, is_last: bool) -> Option<bool> {
 
 /// Appends the cells in front of a name. `Memory`.
 fn push_lead<A: Heap>(lines: &mut String<A>, above: &[bool], own: Option<bool>) -> Result<(), Error>
-    ensures cells { OnOk result (string_bytes lines.new
-        ≡ string_bytes lines.old ++ lead_text above.now own) }
     ensures kind { IfErr result IsMemory }
 {
     let Some(is_last) = own else {
@@ -92,25 +87,17 @@ fn push_lead<A: Heap>(lines: &mut String<A>, above: &[bool], own: Option<bool>) 
 }
 
 /// The cell of a storage that an object is in.
-#[tactic(auto, unfolding(std::specs::Char::encode_utf8))]
-fn beside(is_last: bool) -> &'static str
-    ensures { result.now ≡ cell_beside is_last }
-{
+fn beside(is_last: bool) -> &'static str {
     if is_last { "    " } else { "│   " }
 }
 
 /// The cell of an object itself.
-#[tactic(auto, unfolding(std::specs::Char::encode_utf8))]
-fn own_cell(is_last: bool) -> &'static str
-    ensures { result.now ≡ own_cell is_last }
-{
+fn own_cell(is_last: bool) -> &'static str {
     if is_last { "└── " } else { "├── " }
 }
 
 /// Appends the name of an object as it is shown, but not that of the root. `Memory`.
 fn push_name<A: Heap>(lines: &mut String<A>, entry: &Entry<A>) -> Result<(), Error>
-    ensures name { OnOk result (string_bytes lines.new
-        ≡ string_bytes lines.old ++ name_text entry.now) }
     ensures kind { IfErr result IsMemory }
 {
     if entry.is_root() {
@@ -123,8 +110,6 @@ fn push_name<A: Heap>(lines: &mut String<A>, entry: &Entry<A>) -> Result<(), Err
 
 /// Appends what stands behind the name of an object. `Memory`.
 fn push_end<A: Heap>(lines: &mut String<A>, entry: &Entry<A>) -> Result<(), Error>
-    ensures end { OnOk result (string_bytes lines.new
-        ≡ string_bytes lines.old ++ end_text entry.now) }
     ensures kind { IfErr result IsMemory }
 {
     if entry.is_stream() {
@@ -137,24 +122,17 @@ fn push_end<A: Heap>(lines: &mut String<A>, entry: &Entry<A>) -> Result<(), Erro
 }
 
 /// How many of these objects are streams.
-fn count_streams<A: Heap>(told: &[Entry<A>]) -> usize
-    ensures { result ≡ streams_in told.now }
-{
+fn count_streams<A: Heap>(told: &[Entry<A>]) -> usize {
     told.iter().filter(|entry| entry.is_stream()).count()
 }
 
 /// The objects behind the first one.
-fn below_first<A: Heap>(told: &[Entry<A>]) -> &[Entry<A>]
-    ensures { result.now ≡ drop 1 told.now }
-{
+fn below_first<A: Heap>(told: &[Entry<A>]) -> &[Entry<A>] {
     if told.is_empty() { told } else { &told[1..] }
 }
 
 /// How many bytes these streams have together, or the largest number where it cannot say so many.
-#[tactic(auto, using(crate::proofs::TreeTexts::bytes_more))]
-fn count_bytes<A: Heap>(told: &[Entry<A>]) -> u64
-    ensures { result ≡ bytes_in told.now }
-{
+fn count_bytes<A: Heap>(told: &[Entry<A>]) -> u64 {
     let mut bytes: u64 = 0;
     for entry in told {
         bytes = bytes.saturating_add(len_of(entry));
@@ -163,8 +141,6 @@ fn count_bytes<A: Heap>(told: &[Entry<A>]) -> u64
 }
 
 /// The length of a stream, and 0 of a storage.
-fn len_of<A: Heap>(entry: &Entry<A>) -> u64
-    ensures { result ≡ stream_len entry.now }
-{
+fn len_of<A: Heap>(entry: &Entry<A>) -> u64 {
     if entry.is_stream() { entry.len() } else { 0 }
 }
