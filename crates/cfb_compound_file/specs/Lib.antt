@@ -28,6 +28,6 @@ pub mod Adding
 pub mod Printed
 pub mod Asking
 pub mod Taken
-pub mod Numbers
+pub mod Numbered
 pub mod Writing
 pub mod Closing

@@ -10,7 +10,7 @@ ghost use Rattle.cfb_compound_file.specs.cfb_volume.Answers.{content_at};
 ghost use Rattle.cfb_agreement.specs.Files.{Agrees, IsAsBefore, failures_of, is_failed};
 ghost use Rattle.cfb_path_changes.specs.Answers.{AnswersNot};
 ghost use Rattle.cfb_stream_buffer.specs.Contents.{ReadsPart};
-ghost use Rattle.cfb_compound_file.specs.Numbers.{IsNumberAt, KeepsEntries};
+ghost use Rattle.cfb_compound_file.specs.Numbered.{IsNumberAt, KeepsEntries};
 
 use crate::compound_file::CompoundFile;
 use cfb_codecs::direntry::DirEntry;
