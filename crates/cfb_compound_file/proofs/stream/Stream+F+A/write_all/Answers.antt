@@ -57,7 +57,7 @@ returns-in_err-first-clause-whole g c =
     let w = c.write.ensures in
     let k = c.in_err-first.ensures in
     rw (p.1, p.2) (λ told. refused_once _ old c.args.bytes.now c.in_err-first.field-0.0 now
-    (record { runs = k.runs told; refused = k.refused told; foreseen = k.foreseen told; goes_on = goes_told _ old now told w.goes_on; once = w.once told; counts = k.counts told; none = w.none }))
+        (record { runs = k.runs told; refused = k.refused told; foreseen = k.foreseen told; goes_on = goes_told _ old now told w.goes_on; once = w.once told; counts = k.counts told; none = w.none }))
 
 pub returns-in_err-count-clause-any : goal.returns-in_err-count-clause-any
 returns-in_err-count-clause-any g c =
@@ -83,7 +83,7 @@ returns-in_err-count-clause-whole g c =
     let w = c.write-in-loop-rest.ensures in
     let k = c.in_err-count.ensures in
     rw (p.1, p.2) (λ told. begun_refused _ first c.args.bytes.now rest old (i.begun told) c.in_err-count.field-0.0 now
-    (record { runs = k.runs told; refused = k.refused told; foreseen = k.foreseen told; goes_on = goes_told _ old now told w.goes_on; once = w.once told; counts = k.counts told; none = w.none }))
+        (record { runs = k.runs told; refused = k.refused told; foreseen = k.foreseen told; goes_on = goes_told _ old now told w.goes_on; once = w.once told; counts = k.counts told; none = w.none }))
 
 pub returns-then-count-eq0-clause-any : goal.returns-then-count-eq0-clause-any
 returns-then-count-eq0-clause-any g c =
