@@ -29,3 +29,4 @@ pub mod RefusedKinds
 pub mod Heeding
 pub mod Writing
 pub mod Closing
+pub mod Pieced

@@ -28,6 +28,7 @@ pub mod Adding
 pub mod Printed
 pub mod Asking
 pub mod Taken
+pub mod Numbered
 pub mod Flaws
 pub mod Numbers
 pub mod Writing

@@ -22,7 +22,7 @@ use Rattle.cfb_extract.proofs.cfb_agreement.HeldBytes.{held-means-its-tree}
 use Rattle.cfb_extract.specs.cfb_path_changes.Answers.{MeansTree}
 use Rattle.cfb_extract.specs.cfb_path_changes.Finding.{IsObjectOf}
 use Rattle.cfb_extract.specs.cfb_entries.EntryList.{AreInOrder}
-use Rattle.cfb_extract.specs.cfb_compound_file.Numbers.{IsNumberAt}
+use Rattle.cfb_extract.specs.cfb_compound_file.Numbered.{IsNumberAt}
 use Rattle.cfb_extract.proofs.cfb_compound_file.Asked.{RootIsNamed, tree_in}
 use Rattle.cfb_extract.specs.declared.walk.Walked.{Walked}
 use Rattle.cfb_extract.specs.Walks.{walked_from}

@@ -27,8 +27,10 @@ put_alone-requires g c =
 pub walk_inside-requires : goal.walk_inside-requires
 walk_inside-requires g c =
     storage-in-list c.args.file.now c.entries-2.result.now c.in_ok-number.number c.entries-2.ensures.entries c.entries-2.ensures.in_order
-    (λ o is. (c.in_ok-number.ensures.found.object o is,
-    no-stream-by-test c.entries.result.now (entries_of c.args.file.now.base) c.in_ok-number.number c.is_stream.result c.entries.ensures.entries c.is_stream.ensures c.if-is_stream.false))
+    (λ o is. (
+      c.in_ok-number.ensures.found.object o is,
+      no-stream-by-test c.entries.result.now (entries_of c.args.file.now.base) c.in_ok-number.number c.is_stream.result c.entries.ensures.entries c.is_stream.ensures c.if-is_stream.false,
+    ))
 
 pub put_all-requires : goal.put_all-requires
 put_all-requires g c =

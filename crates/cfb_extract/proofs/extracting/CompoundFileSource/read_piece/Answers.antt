@@ -1,5 +1,5 @@
 use Rattle.std.proofs.Common.{◌∙◌, ap}
-use Rattle.cfb_format.specs.DirectoryEntry.{Entry}
+use Rattle.std.proofs.lemmas.Result.{IfOk-weaker}
 use Rattle.cfb_extract.specs.cfb_agreement.Files.{FileState}
 use Rattle.cfb_extract.proofs.cfb_agreement.Flags.{as-before-same}
 use Rattle.cfb_extract.specs.cfb_mini_sectors.State.{content_of}
@@ -14,3 +14,6 @@ returns-clause-kept g c = λ told. ap (λ (z : FileState). kept_of z) (as-before
 
 pub returns-clause-content : goal.returns-clause-content
 returns-clause-content g c = λ told. ap (λ (z : FileState). content_of z.base) (as-before-same _ _ (c.read_of.ensures.same told.0))
+
+pub returns-clause-ok : goal.returns-clause-ok
+returns-clause-ok g c = λ told less. IfOk-weaker c.read_of.result _ _ (λ n piece. record { inside = piece.inside; gives = piece.gives }) (c.read_of.ensures.ok told.0 told.1 less)

@@ -1,16 +1,16 @@
 //! The objects of a compound file by the numbers of their entries. What goes through all of them by these needs no paths: a name that no
 //! path says does not stop it.
-ghost use Rattle.std.specs.Prelude.{◌≡◌, ◌<◌, ◌≤◌, false, length, IsTrue, IfOk, IfErr, chars};
+ghost use Rattle.std.specs.Prelude.{◌≡◌, ◌<◌, ◌≤◌, ◌-◌, false, length, min, IsTrue, IfOk, IfErr, chars};
 ghost use Rattle.cfb_codecs.specs.EntryModel.{entries_of as entries_in};
 ghost use Rattle.cfb_format.specs.Refused.{CountsFailure, IsBreak, IsMemory};
 ghost use Rattle.cfb_compound_file.specs.cfb_entries.EntryList.{AreInOrder};
+ghost use Rattle.cfb_compound_file.specs.cfb_content.Contents.{len_of};
 ghost use Rattle.cfb_compound_file.specs.cfb_mini_sectors.State.{cases_of, entries_of};
 ghost use Rattle.cfb_compound_file.specs.cfb_rules.Calls.{walk_storage};
 ghost use Rattle.cfb_compound_file.specs.cfb_volume.Answers.{content_at};
 ghost use Rattle.cfb_agreement.specs.Files.{Agrees, IsAsBefore, failures_of, is_failed};
 ghost use Rattle.cfb_path_changes.specs.Answers.{AnswersNot};
-ghost use Rattle.cfb_stream_buffer.specs.Contents.{ReadsPart};
-ghost use Rattle.cfb_compound_file.specs.Numbers.{IsNumberAt, KeepsEntries};
+ghost use Rattle.cfb_compound_file.specs.Numbered.{GivesPiece, IsNumberAt, KeepsEntries};
 
 use crate::compound_file::CompoundFile;
 use cfb_codecs::direntry::DirEntry;
@@ -50,16 +50,19 @@ impl<F: ReadMedium, A: Heap + Clone> CompoundFile<F, A> {
         self.volume.readable(entry)
     }
 
-    /// Puts a beginning of what can be read of the stream of that entry from byte `at` on into a beginning of `into`, which has room, and
-    /// answers how many bytes there are: at least one. `Medium`, `Memory`. All is as before but the count of failures.
+    /// Puts a beginning of what can be read of the stream of that entry from byte `at` on into a beginning of `into`, and answers how many
+    /// bytes there are: at least one, where `into` has room and `at` lies before the end. `Medium`, `Memory`, and past what can be read
+    /// `InvalidData`. All is as before but the count of failures.
     pub fn read_of(&mut self, entry: u32, at: u64, into: &mut [u8]) -> Result<usize, Error>
         requires { entry < length (entries_of self.old.base) }
         ensures same { IsTrue F.tells → IsAsBefore self.old self.new }
         ensures keeps { KeepsEntries self.old self.new }
         ensures bound { IfOk result (λ n. n ≤ length into.new) }
+        ensures some { IfOk result (λ n.
+            0 < min (length into.old) (len_of self.old.base entry - at) → 0 < n) }
         ensures ok { IsTrue F.tells → is_failed self.old ≡ false
-            → at < length (content_at self.old entry) → 0 < length into.old
-            → IfOk result (ReadsPart (content_at self.old entry) at into.new) }
+            → at < length (content_at self.old entry)
+            → IfOk result (GivesPiece (content_at self.old entry) at into.new) }
         ensures refused { IsTrue F.tells → is_failed self.old ≡ false
             → at < length (content_at self.old entry) → IfErr result (IsBreak ⊥) }
         ensures counts { IsTrue F.tells → CountsFailure F.read_faults result

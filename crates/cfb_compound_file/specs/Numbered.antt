@@ -1,5 +1,5 @@
 -- Objects by the numbers of their entries.
-use Rattle.std.specs.Prelude.{ℕ, ◌≡◌, List, Some}
+use Rattle.std.specs.Prelude.{ℕ, ◌+◌, ◌≡◌, ◌≤◌, List, Some, drop, length, take}
 use Rattle.cfb_format.specs.Path.{names_of_path}
 use Rattle.cfb_compound_file.specs.cfb_mini_sectors.State.{cases_of, entries_of}
 use Rattle.cfb_agreement.specs.Files.{FileState, is_failed}
@@ -17,3 +17,8 @@ pub record KeepsEntries (old new : FileState) : Type 0 where
   pub entries : entries_of new.base ≡ entries_of old.base
   pub cases : cases_of new.base ≡ cases_of old.base
   pub failed : is_failed new ≡ is_failed old
+
+-- that many bytes of what lies at the place
+pub record GivesPiece (content : List ℕ) (at : ℕ) (into : List ℕ) (n : ℕ) : Type 0 where
+  pub inside : at + n ≤ length content
+  pub gives : take n into ≡ take n (drop at content)
