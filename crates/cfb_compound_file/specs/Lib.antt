@@ -30,6 +30,5 @@ pub mod Asking
 pub mod Taken
 pub mod Numbered
 pub mod Flaws
-pub mod Numbers
 pub mod Writing
 pub mod Closing
