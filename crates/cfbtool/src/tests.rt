@@ -26,6 +26,7 @@ mod opening;
 mod puts;
 mod runs;
 mod shows;
+mod trees;
 
 /// A step of a test. A word or a name that begins with `@` is a file of the test's folder.
 enum Step<'a> {
