@@ -21,8 +21,8 @@ f\t0\t-\t000000ff\t-\t-\t/v\n", b""),
     (&["ls", "-l", "@f", "/S/T"], b"", 0, b"d\t0\t-\t00000000\t1970-01-01T00:00:00Z\t1970-01-01T00:00:00Z\t/S/t\n\
 f\t3\t-\t00000000\t-\t-\t/S/t/u\n", b""),
     (&["ls", "-l", "@f", "/x"], b"", 1, b"", b"cfbtool: @f: /x: nothing is at this path\n"),
-    (&["tree", "@f"], b"", 0, "/\n├── s/\n│   ├── t/\n│   │   └── u  3\n│   └── \\u0009\\u000a  2\n└── v  0\n\n2 storages, 3 streams, 5 bytes\n".as_bytes(), b""),
-    (&["tree", "@f", "/s"], b"", 0, "s/\n├── t/\n│   └── u  3\n└── \\u0009\\u000a  2\n\n1 storages, 2 streams, 5 bytes\n".as_bytes(), b""),
+    (&["tree", "@f"], b"", 0, b"/\n\xe2\x94\x9c\xe2\x94\x80\xe2\x94\x80 s/\n\xe2\x94\x82   \xe2\x94\x9c\xe2\x94\x80\xe2\x94\x80 t/\n\xe2\x94\x82   \xe2\x94\x82   \xe2\x94\x94\xe2\x94\x80\xe2\x94\x80 u  3\n\xe2\x94\x82   \xe2\x94\x94\xe2\x94\x80\xe2\x94\x80 \\u0009\\u000a  2\n\xe2\x94\x94\xe2\x94\x80\xe2\x94\x80 v  0\n\n2 storages, 3 streams, 5 bytes\n", b""),
+    (&["tree", "@f", "/s"], b"", 0, b"s/\n\xe2\x94\x9c\xe2\x94\x80\xe2\x94\x80 t/\n\xe2\x94\x82   \xe2\x94\x94\xe2\x94\x80\xe2\x94\x80 u  3\n\xe2\x94\x94\xe2\x94\x80\xe2\x94\x80 \\u0009\\u000a  2\n\n1 storages, 2 streams, 5 bytes\n", b""),
     (&["tree", "@f", "/v"], b"", 0, b"v  0\n\n0 storages, 1 streams, 0 bytes\n", b""),
     (&["tree", "@f", "/x"], b"", 1, b"", b"cfbtool: @f: /x: nothing is at this path\n"),
 ];
