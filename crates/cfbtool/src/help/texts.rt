@@ -78,7 +78,7 @@ Fails if FILE is no compound file. 'cfbtool info' says why one is not sound.
 pub(super) const CAT: &str = "cfbtool cat FILE PATH
 
 The bytes of the stream at PATH, or none if it fails.
-A terminal gets text only: UTF-8, and of the control characters tabs and
+A terminal gets text only: UTF-8 without control characters, except tabs and
 newlines.
 
 Example: cfbtool cat a.cfb /docs/note
@@ -178,14 +178,14 @@ Fails if no storage is at PATH, or it is not empty, or it is the root.
 
 pub(super) const RMTREE: &str = "cfbtool rmtree FILE PATH
 
-Removes the storage at PATH with all that is in it.
-The file keeps its length.
+Removes the storage or stream at PATH with all that is in it.
+The root itself stays. The file keeps its length.
 'cfbtool compact' makes a shorter copy.
 
 Example: cfbtool rmtree a.cfb /docs && cfbtool ls a.cfb
 d 0 /
 
-Fails if no storage is at PATH, or it is the root.
+Fails if nothing is at PATH.
 ";
 
 pub(super) const RM: &str = "cfbtool rm FILE PATH

@@ -42,7 +42,7 @@ const REFUSED: &[Run<'static>] = &[
     (&["rmdir", "@f", "/a\\u0005b"], b"", 1, b"", b"cfbtool: @f: /a\\u0005b: the storage is not empty\n"),
     (&["rmdir", "@f", "/none"], b"", 1, b"", b"cfbtool: @f: /none: nothing is at this path\n"),
     (&["rmdir", "@f", "/"], b"", 1, b"", b"cfbtool: @f: /: the root stays\n"),
-    (&["rmtree", "@f", "/"], b"", 1, b"", b"cfbtool: @f: /: the root stays\n"),
+    (&["rmtree", "@f", "/none"], b"", 1, b"", b"cfbtool: @f: /none: nothing is at this path\n"),
     (&["rm", "@f", "/docs"], b"", 1, b"", b"cfbtool: @f: /docs: no stream is at this path\n"),
     (&["rm", "@f", "/n\u{202e}"], b"", 1, b"", b"cfbtool: @f: /n\\u202e: nothing is at this path\n"),
     (&["len", "@f", "/none", "1"], b"", 1, b"", b"cfbtool: @f: /none: nothing is at this path\n"),
@@ -82,10 +82,18 @@ const WRONG_LINE: &[Run<'static>] = &[
     (&["run", "-e", "@f"], b"mkdri\t/x\t0", 2, b"", b"cfbtool: wrong words\ncfbtool: line 1: no word 'mkdri'\n"),
 ];
 
+/// All that is in the root goes, and the root stays.
+#[rattlefmt::skip]
+const EMPTIED: &[Run<'static>] = &[
+    (&["rmtree", "@f", "/"], b"", 0, b"", b""),
+    (&["ls", "@f"], b"", 0, b"d 0 /\n", b""),
+];
+
 #[rattlefmt::skip]
 static CHANGED: &[Step<'static>] = &[
     Runs(CHANGES), Note, StaysAt(REFUSED), Each(WRONG, &[b"abc"], 2, WRONG_WORDS), Stays,
     StaysAt(EXPLAINED), OnScreen(WRONG_LINE), Stays,
+    Runs(EMPTIED),
 ];
 
 #[test]
