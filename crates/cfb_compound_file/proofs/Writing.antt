@@ -1,5 +1,6 @@
 -- Writes in turn.
-use Rattle.std.proofs.Common.{◌≡◌, ◌<◌, ◌==◌, ℕ, Bool, true, false, List, [], ◌∷◌, ◌++◌, ap, append_assoc, arith, drop, inl, inr, length, refl, subst, sym}
+use Rattle.std.proofs.Common.{◌≡◌, ◌<◌, ◌≤◌, ◌+◌, ◌-◌, ◌==◌, ℕ, Bool, true, false, List, [], ◌∷◌, ◌++◌, ap, append_assoc, arith, drop, inl, inr, length, refl, subst, sym, take}
+use Rattle.std.proofs.lemmas.List.{length-drop, take_all}
 use Rattle.std.specs.Prelude.{◌⊎◌, IsTrue, MatchBool, Result, Ok, Err, nat_le}
 use Rattle.cfb_format.specs.declared.error.Error.{Error}
 use Rattle.cfb_format.specs.declared.medium.MediumFault.{MediumFault}
@@ -50,6 +51,10 @@ takes_some old new bytes some runs = runs_take (causes_of old.file new.file) (st
 
 -- ---- in turn
 
+-- what is left behind so many bytes
+rest_is : (bytes : List ℕ) (n : ℕ) → take (length bytes - n) (drop n bytes) ≡ drop n bytes
+rest_is bytes n = take_all (length bytes - n) (drop n bytes) (omega (arith, length-drop n bytes))
+
 module _ (can_give : MediumFault → Bool) where
   -- a beginning is written, and the rest is left
   pub record IsBegun (old : OpenStream) (bytes rest : List ℕ) (now : OpenStream) : Type 0 where
@@ -57,19 +62,22 @@ module _ (can_give : MediumFault → Bool) where
     pub goes : (more : List WriteDone) (result : Result (Unit {0}) Error) (new : OpenStream)
         → WriteInTurn can_give now rest more result new → WriteInTurn can_give old bytes (done ++ more) result new
 
-  pub begun_once : (old : OpenStream) (bytes : List ℕ) (n : ℕ) (now : OpenStream) → IsWrite can_give old bytes (Ok n) now → IsBegun old bytes (drop n bytes) now
-  begun_once old bytes n now w = record { done = record { taken = n; after = now } ∷ []; goes = λ more result new rest. (w, rest) }
+  pub begun_once : (old : OpenStream) (bytes : List ℕ) (n : ℕ) (now : OpenStream) → IsWrite can_give old bytes (Ok n) now → IsBegun old bytes (take (length bytes - n) (drop n bytes)) now
+  begun_once old bytes n now w = record {
+    done = record { taken = n; after = now } ∷ [];
+    goes = λ more result new rest. (w, subst (λ (bs : List ℕ). WriteInTurn can_give now bs more result new) (rest_is bytes n) rest);
+  }
 
   pub refused_once : (old : OpenStream) (bytes : List ℕ) (e : Error) (new : OpenStream) → IsWrite can_give old bytes (Err e) new → IsWrittenInTurn can_give old bytes (Err e) new
   refused_once old bytes e new w = record { done = []; writes = w }
 
   module _ (old : OpenStream) (bytes rest : List ℕ) (now : OpenStream) (b : IsBegun old bytes rest now) where
-    pub begun_more : (n : ℕ) (next : OpenStream) → IsWrite can_give now rest (Ok n) next → IsBegun old bytes (drop n rest) next
+    pub begun_more : (n : ℕ) (next : OpenStream) → IsWrite can_give now rest (Ok n) next → IsBegun old bytes (take (length rest - n) (drop n rest)) next
     begun_more n next w = record {
       done = b.done ++ record { taken = n; after = next } ∷ [];
       goes = λ more result new later.
           subst (λ (ds : List WriteDone). WriteInTurn can_give old bytes ds result new) (sym (append_assoc {A = WriteDone} b.done (record { taken = n; after = next } ∷ []) more))
-          (b.goes (record { taken = n; after = next } ∷ more) result new (w, later));
+          (b.goes (record { taken = n; after = next } ∷ more) result new (w, subst (λ (bs : List ℕ). WriteInTurn can_give next bs more result new) (rest_is rest n) later));
     }
 
     pub begun_refused : (e : Error) (next : OpenStream) → IsWrite can_give now rest (Err e) next → IsWrittenInTurn can_give old bytes (Err e) next
