@@ -27,3 +27,5 @@ pub mod Reopening
 pub mod Beginning
 pub mod RefusedKinds
 pub mod Heeding
+pub mod Writing
+pub mod Closing

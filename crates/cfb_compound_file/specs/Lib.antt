@@ -28,3 +28,5 @@ pub mod Adding
 pub mod Printed
 pub mod Asking
 pub mod Taken
+pub mod Writing
+pub mod Closing

@@ -52,6 +52,14 @@ impl<F: ReadMedium, A: Heap> CompoundFile<F, A> {
         self.volume.is_failed()
     }
 
+    /// The medium, as it stands: what the file keeps back of open streams is not on it.
+    pub fn medium(&self) -> &F
+        ensures bytes { F.bytes result.now ≡ bytes_of self.now.base }
+        ensures failures { F.failures result.now ≡ failures_of self.now }
+    {
+        self.volume.inner()
+    }
+
     /// The medium, with the bytes as they stand. Those of a sound file that has not failed can be opened again; strictly too, if the file
     /// was made here, and what is opened from them is as made again.
     pub fn into_inner(self) -> F

@@ -17,9 +17,11 @@ use std::fs::File;
 use std::rt::Files;
 
 impl<A: Heap + Clone> OpenOptions<A> {
-    /// Opens the compound file at this path of the system, to be read.
+    /// Opens the compound file at this path of the system, to be read. The file is not locked, so that another may change it.
     ///
-    /// `Medium(Open)` where the file is not opened; else it is refused as `open_with` is.
+    /// # Errors
+    ///
+    /// `Medium(Open)` where the file is not opened; else as `open_with`.
     pub fn open<R: Files<File = File>>(
         self,
         rt: &R,
@@ -34,9 +36,12 @@ impl<A: Heap + Clone> OpenOptions<A> {
         self.open_with(alloc, medium)
     }
 
-    /// Opens the compound file at this path of the system, to be read and changed in place.
+    /// Opens the compound file at this path of the system, to be read and changed in place. The file is locked as long as it is open
+    /// (`cfb_files::locking`).
     ///
-    /// `Medium(Open)` where the file is not opened; else it is refused as `open_with` is.
+    /// # Errors
+    ///
+    /// `Medium(Open)` where the file is not opened, and where another has it open to be changed; else as `open_with`.
     pub fn open_rw<R: Files<File = File>>(
         self,
         rt: &R,
@@ -51,10 +56,13 @@ impl<A: Heap + Clone> OpenOptions<A> {
         self.open_with(alloc, medium)
     }
 
-    /// Makes a compound file of version 4 with nothing in it at this path of the system. An older
-    /// file there is emptied first.
+    /// Makes a compound file of version 4 with nothing in it at this path of the system. An older file there is emptied first. The file is
+    /// locked as long as it is open (`cfb_files::locking`).
     ///
-    /// `Medium(Open)` where the file is not opened; else it is refused as `create_with` is.
+    /// # Errors
+    ///
+    /// `Medium(Open)` where the file is not opened, and where another has it open to be changed: then the older file keeps its bytes. Else as
+    /// `create_with`.
     pub fn create<R: Files<File = File>>(
         self,
         rt: &R,

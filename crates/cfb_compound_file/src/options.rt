@@ -28,7 +28,7 @@ use std::marker::Model;
 pub(crate) const DEFAULT_BUFFER_SIZE: usize = 1048576;
 
 /// How a compound file is opened or made.
-#[derive(Drop)]
+#[derive(Debug, Drop)]
 pub struct OpenOptions<A: Heap = Global> {
     max_buffer_size: usize,
     max_sectors: u32,
@@ -149,8 +149,12 @@ impl<A: Heap + Clone> OpenOptions<A> {
         self.create_as(alloc, Version::V4, medium)
     }
 
-    /// The same in this version.
-    pub(crate) fn create_as<F: Medium>(
+    /// Makes a compound file of this version with nothing in it on this medium, which has no bytes (MS-CFB 2.2).
+    ///
+    /// # Errors
+    ///
+    /// `Medium` where the medium fails, and `Memory` where memory is refused.
+    pub fn create_as<F: Medium>(
         self,
         alloc: A,
         version: Version,

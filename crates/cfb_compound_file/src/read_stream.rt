@@ -21,7 +21,8 @@ use std::io::SeekFrom;
 
 /// A stream that is open to be read. No call of it writes, and none makes the file fail; what is refused keeps content and position.
 ///
-/// Every call but `len`, `is_empty`, `position` and `consume` answers `Failed` on a file that has failed.
+/// Every call but `len`, `is_empty`, `position` and `consume` answers `Failed` on a file that has failed. It may be let go without `close`.
+#[derive(Drop)]
 pub struct ReadStream<'a, F: ReadMedium, A: Heap = Global, W: Held = ReadWindow<A>> {
     pub(crate) file: &'a mut CompoundFile<F, A>,
     pub(crate) entry: u32,

@@ -9,12 +9,14 @@ ghost use Rattle.cfb_stream_window.specs.Windows.{IsLengthened, Suits, whence_of
 ghost use Rattle.cfb_path_changes.specs.Answers.{causes_of};
 ghost use Rattle.cfb_compound_file.specs.Buffering.{BuffersRead, BuffersRest, BuffersSeek, BuffersWrite};
 ghost use Rattle.cfb_compound_file.specs.Stored.{ChangesStream, KeepsRest, kept_of, stored_of};
+ghost use Rattle.cfb_compound_file.specs.Closing.{IsFinished, IsFirstError};
+ghost use Rattle.cfb_compound_file.specs.Writing.{IsWrittenInTurn};
 ghost use Rattle.cfb_compound_file.specs.StreamAnswers.{ClosesTree, GoesOn, GoesOnInTurn, HasRoomForBoth, IsClosingRefused, IsFailed, IsStreamRefused, LacksRoomToWrite, LacksRoomToWriteOut, LosesRoomBetween, StreamHeedsFlags, StreamHeedsWritingOut, StreamRunsBy, StreamRunsOn, causes_of_len, WritesOutFirst, open_stream_of, run_in, stored_in, stream_in};
 
 use crate::compound_file::CompoundFile;
 use crate::held::Held;
 use cfb_format::error::Error;
-use cfb_format::medium::Medium;
+use cfb_format::medium::{Medium, MediumFault};
 use cfb_stream_window::window::Window;
 use std::alloc::{Allocator as Heap, Global};
 use std::fmt;
@@ -179,6 +181,30 @@ impl<'a, F: Medium, A: Heap + Clone> Stream<'a, F, A> {
         self.window.write(self.file, self.entry, bytes)
     }
 
+    /// Writes all of the bytes at the position, by writes in turn.
+    ///
+    /// # Errors
+    ///
+    /// As the first `write` that is refused; a beginning of the bytes may be written then.
+    pub fn write_all(&mut self, bytes: &[u8]) -> Result<(), Error>
+        ensures same_file { (file_of self.new).ghost_name ≡ (file_of self.old).ghost_name }
+        ensures any { StreamHeedsFlags IsFailed (open_of self.old) result (open_of self.new) }
+        ensures whole { IsTrue F.tells → IsWrittenInTurn (λ f. F.read_faults f || F.write_faults f)
+            (open_of self.old) bytes.now result (open_of self.new) }
+    {
+        let first = self.write(bytes)?;
+        let mut rest = &bytes[first..];
+        while !rest.is_empty() {
+            let count = self.write(rest)?;
+            // a write of bytes takes at least one of them
+            if count == 0 {
+                return Err(Error::Medium(MediumFault::Stuck));
+            }
+            rest = &rest[count..];
+        }
+        Ok(())
+    }
+
     /// Goes to a place in the stream. `InvalidInput` for a place outside of it; with bytes kept back also `Medium`, `Memory` and `Full`.
     pub fn seek(&mut self, to: SeekFrom) -> Result<u64, Error>
         ensures same_file { (file_of self.new).ghost_name ≡ (file_of self.old).ghost_name }
@@ -302,6 +328,20 @@ impl<'a, F: Medium, A: Heap + Clone> Stream<'a, F, A> {
         } = self;
         finish(file, entry, window)
     }
+
+    /// Ends the work on the stream as `close` does, whatever was `done` on it, and answers that. An open stream can't be dropped, so a function
+    /// that ends early by `?` does its work in another, and hands what that answers to this call.
+    ///
+    /// # Errors
+    ///
+    /// That of `done`; and where it was done, that of `close`.
+    pub fn finish<T: Drop, E: From<Error>>(self, done: Result<T, E>) -> Result<T, E>
+        ensures { IsFinished E.from_gives F.tells (λ f. F.read_faults f || F.write_faults f)
+            (open_of self.entry) done result self.exit.0.now }
+    {
+        let closed = self.close();
+        first_error(done, closed)
+    }
 }
 
 impl<'a, F: Medium, A: Heap> fmt::Debug for Stream<'a, F, A> {
@@ -350,4 +390,20 @@ fn finish<F: Medium, A: Heap + Clone>(
     // What the file keeps in memory is what its bytes say still.
     let _is_failed = file.is_failed();
     closed
+}
+
+/// What was done on a stream; or the first error, of it and of the closing behind it.
+fn first_error<T: Drop, E: From<Error>>(
+    done: Result<T, E>,
+    closed: Result<(), Error>,
+) -> Result<T, E>
+    ensures { IsFirstError E.from_gives done closed result }
+{
+    match done {
+        Err(error) => Err(error),
+        Ok(value) => match closed {
+            Ok(()) => Ok(value),
+            Err(error) => Err(E::from(error)),
+        },
+    }
 }

@@ -6,7 +6,7 @@ mod tests;
 
 use cfb::{CompoundFile, Error, MemoryMedium, std_error};
 use std::alloc::Global;
-use std::io::{self, Write};
+use std::io;
 
 /// A file whose stream `/data` has all of these bytes.
 pub fn packed(alloc: Global, bytes: &[u8]) -> io::Result<MemoryMedium> {
@@ -20,7 +20,7 @@ fn put(file: &mut CompoundFile<MemoryMedium>, bytes: &[u8]) -> io::Result<()> {
     let mut stream = file.create_stream("/data").map_err(std_error)?;
     let written = stream.write_all(bytes);
     let closed = stream.close(); // an open stream cannot be dropped
-    written?;
+    written.map_err(std_error)?;
     closed.map_err(std_error)
 }
 

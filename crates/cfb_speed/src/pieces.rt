@@ -2,7 +2,7 @@
 
 use anyhow::Result;
 use cfb::{CompoundFile, MemoryMedium, ReadStream, Stream};
-use std::io::{Seek, SeekFrom, Write};
+use std::io::{Seek, SeekFrom};
 
 /// A compound file in memory.
 pub type File = CompoundFile<MemoryMedium>;

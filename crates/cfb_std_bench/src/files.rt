@@ -4,7 +4,7 @@ use cfb_format::error::Error;
 use cfb_format::memory::MemoryMedium;
 use cfb_format::version::Version;
 use std::alloc::Global;
-use std::io::{self, ErrorKind, Write};
+use std::io::{self, ErrorKind};
 use std::test::Fail;
 
 /// The path of the one stream.
