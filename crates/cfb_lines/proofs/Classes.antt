@@ -1,6 +1,6 @@
 -- A class id, read from a text.
 use Rattle.std.proofs.Common.{◌≡◌, ℕ, List, false, true, subst, sym}
-use Rattle.std.specs.Prelude.{Option, Some, None, Result, Ok, Err, IsOk, IfOk, MatchOption, ◌↔◌}
+use Rattle.std.specs.Prelude.{Option, Some, Result, Ok, Err, IsOk, IfOk, MatchOption, ◌↔◌}
 use Rattle.std.specs.Result.{result_ok}
 use Rattle.uuid.specs.Text.{parsed}
 

@@ -1,5 +1,5 @@
 -- Fields that say something, and lines one after the other.
-use Rattle.std.proofs.Common.{◌≡◌, ℕ, ◌+◌, ◌==◌, List, [], ◌∷◌, ◌++◌, length, map, sum, Option, Some, None, true, refl, sym, ◌∙◌, ap, subst, append_assoc, append-nil, arith, length-append}
+use Rattle.std.proofs.Common.{◌≡◌, ℕ, ◌+◌, ◌==◌, List, [], ◌∷◌, ◌++◌, length, sum, Option, Some, true, refl, sym, ◌∙◌, ap, subst, append_assoc, append-nil, arith, length-append}
 use Rattle.std.proofs.lemmas.Bool.{eqb-true}
 use Rattle.std.specs.Prelude.{IfErr, Result, Ok, Err, chars, if◌then◌else◌}
 use Rattle.cfb_text.specs.Meant.{meant}
@@ -14,11 +14,9 @@ use Rattle.cfb_lines.specs.declared.word.Word.TheVariants.{Mkdir, Mkdirs, Touch,
 use Rattle.cfb_lines.specs.declared.word.Field.{Field}
 use Rattle.cfb_lines.specs.declared.word.Field.TheVariants.{Seconds, Number32, Number64, Bytes, ClassId}
 use Rattle.cfb_lines.specs.Commands.{IsLine, IsScript, Says}
-use Rattle.cfb_lines.specs.Fields.{IsHex, IsNumber, IsSeconds}
 use Rattle.cfb_lines.specs.Lines.{command_lines, comment_count, lines_in}
 use Rattle.cfb_lines.specs.Wrong.{IsFirstWrong, IsNotA, IsOfField, IsWrongBehind, IsWrongWith, TellsFirstWrong, TellsWrong, WrongIf, error_at}
 use Rattle.cfb_lines.specs.Words.{field_behind, field_count, spelling}
-use Rattle.uuid.specs.Text.{parsed}
 
 -- ---- words are told apart by how they are spelled
 

@@ -2,16 +2,15 @@
 use Rattle.std.proofs.Common.{◌≡◌, ◌≢◌, ℕ, zero, suc, ◌+◌, ◌-◌, ◌/◌, ◌%◌, ◌<◌, ◌≤◌, ◌^◌, ◌==◌, inl, Bool, true, false, List, [], ◌∷◌, ◌++◌, length, get_or, refl, sym, ◌∙◌, ap, subst, append_assoc, append-nil, arith, flat_map, eqb}
 use Rattle.std.proofs.lemmas.Bool.{leb-true, ltb-true}
 use Rattle.std.proofs.lemmas.Fmt.{IsAscii-decimal, decimal_is_IsNumeral}
-use Rattle.std.proofs.lemmas.Grind.{flat_map-append}
 use Rattle.std.proofs.lemmas.List.Splits.{slice_split-cons_no, slice_split-cons_yes}
 use Rattle.std.proofs.lemmas.Str.{IsUtf8-append, IsUtf8-from_ascii, IsUtf8-nil, encodes-chars, inside_one}
 use Rattle.std.proofs.lemmas.Str.Parse.{digit_at}
 use Rattle.std.specs.Prelude.{◌&&◌, Some, chars, drop, encode_utf8, encode_utf8_all, nat_eq, nat_le, nat_lt, pos, if◌then◌else◌}
 use Rattle.std.specs.Fmt.{decimal}
 use Rattle.std.specs.List.{AllByRecursion, AllZip, list_all, onto_first, slice_split, starts_with}
-use Rattle.std.specs.Str.{IsAscii, IsUtf8}
+use Rattle.std.specs.Str.{IsUtf8}
 use Rattle.std.specs.Str.Parse.{AllDigits}
-use Rattle.uuid.specs.Text.{by_index, digit_place, hyphen, hyphenated_text, is_hyphen_place, lower, nibble, parsed}
+use Rattle.uuid.specs.Text.{digit_place, hyphen, hyphenated_text, is_hyphen_place, lower, nibble, parsed}
 use Rattle.uuid.specs.Text.{hex_digit as uuid_digit}
 use Rattle.uuid.proofs.TextLemmas.{by_index_at, by_index_length}
 use Rattle.cfb_format.specs.Timestamp.{unix_epoch}
@@ -24,9 +23,9 @@ use Rattle.cfb_lines.specs.cfb_rules.Lists.{Command, by_path, creates, on_stream
 use Rattle.cfb_lines.specs.cfb_rules.StreamCalls.{write}
 use Rattle.cfb_lines.specs.declared.word.Word.{Word}
 use Rattle.cfb_lines.specs.declared.word.Word.TheVariants.{Mkdir, Mkdirs, Touch, Created, Modified, Rmdir, Rmtree, Rm, Clsid, Bits, Len, Put, Add}
-use Rattle.cfb_lines.specs.Commands.{IsLine, IsScript, Says}
+use Rattle.cfb_lines.specs.Commands.{IsLine, Says}
 use Rattle.cfb_lines.specs.Fields.{IsNumber, hex_digit, hex_pair}
-use Rattle.cfb_lines.specs.Lines.{command_lines, comment, lines_in, lines_of_parts}
+use Rattle.cfb_lines.specs.Lines.{comment, lines_in, lines_of_parts}
 use Rattle.cfb_lines.specs.Words.{spelling}
 use Rattle.cfb_lines.specs.Writing.{AddsLines, IsHeadOf, IsLineOf, Lacks, LinesAreAScript, ended}
 use Rattle.cfb_lines.proofs.Parts.{lines_more, some_part}

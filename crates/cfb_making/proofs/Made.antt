@@ -1,10 +1,9 @@
 -- The commands of a tree make it.
-use Rattle.std.proofs.Common.{◌≡◌, ◌==◌, ℕ, List, [], ◌∷◌, ◌++◌, Bool, true, false, refl, sym, ◌∙◌, ap, subst, arith}
+use Rattle.std.proofs.Common.{◌≡◌, ◌==◌, ℕ, List, [], ◌∷◌, ◌++◌, Bool, true, false, refl, sym, ◌∙◌, ap, subst}
 use Rattle.std.proofs.lemmas.Bool.{eqb-true}
-use Rattle.std.proofs.lemmas.Grind.{flat_map-append}
 use Rattle.std.proofs.lemmas.List.Folds.{list_all-append}
 use Rattle.std.proofs.lemmas.Slice.Eq.{bytes_eq-Decides}
-use Rattle.std.specs.Prelude.{Option, Some, None, ⊤, ◌&&◌, flat_map, is_some, length, option_and_then, option_map, if◌then◌else◌, unwrap_or}
+use Rattle.std.specs.Prelude.{Option, Some, None, ⊤, ◌&&◌, flat_map, is_some, length, if◌then◌else◌, unwrap_or}
 use Rattle.std.specs.Option.{option_map_or}
 use Rattle.std.specs.List.{list_all}
 use Rattle.std.specs.Str.{bytes_eq}
@@ -13,13 +12,13 @@ use Rattle.cfb_format.specs.DirectoryEntry.{nil_clsid}
 use Rattle.cfb_format.specs.Names.{Cases, is_valid_name}
 use Rattle.cfb_format.specs.Path.{is_plain_name, names_of_path, path_of_names}
 use Rattle.cfb_format.specs.Timestamp.{unix_epoch}
-use Rattle.cfb_format.specs.Tree.{StorageInfo, StreamInfo, Objects, nothing, storage, stream, Tree, Object, a_storage, a_stream, AreWhole, IsOrdered}
+use Rattle.cfb_format.specs.Tree.{StorageInfo, StreamInfo, Objects, nothing, storage, stream, Tree, Object, a_storage, a_stream}
 use Rattle.cfb_codecs.proofs.PathBack.{names-back}
-use Rattle.cfb_rules.specs.Calls.{Call, create_storage, create_stream, set_created_time, set_modified_time, set_state_bits, set_storage_clsid}
+use Rattle.cfb_rules.specs.Calls.{Call, set_created_time, set_modified_time, set_state_bits, set_storage_clsid}
 use Rattle.cfb_rules.specs.CallChanges.{content_changed_at, fields_changed_at, new_storage, new_stream, same_storage, same_stream, storage_added_at, stream_added_at, stream_created_at, tree_after, with_content}
 use Rattle.cfb_rules.specs.CallRefusals.{always, creation_refusal, is_a_storage, is_a_stream, never, object_refusal, path_refusal, refusal_of, place_refusal}
 use Rattle.cfb_rules.specs.Finding.{last_name, object_at, parent_names}
-use Rattle.cfb_rules.specs.Lists.{Command, by_path, creates, on_stream}
+use Rattle.cfb_rules.specs.Lists.{Command, creates, on_stream}
 use Rattle.cfb_rules.specs.Refusal.{Refusal, invalid_input}
 use Rattle.cfb_rules.specs.StreamCalls.{write}
 use Rattle.cfb_rules.proofs.CreatedFound.{added_found}
@@ -27,7 +26,7 @@ use Rattle.cfb_rules.proofs.CallFacts.{last_at}
 use Rattle.cfb_built.specs.Copied.{CanAllBeCopied, HasFreePlace, Part, names_of, part_copied, parts_copied, parts_in, storage_part, stream_part}
 use Rattle.cfb_built.proofs.Allowed.{walk_allowed}
 use Rattle.cfb_built.proofs.Built.{built}
-use Rattle.cfb_making.specs.Making.{AreDone, CanAllBeNamed, CanBeNamed, TreeIsMade, field_commands, part_commands, storage_commands, stream_commands, tree_after_command, tree_commands, unless_so}
+use Rattle.cfb_making.specs.Making.{AreDone, CanAllBeNamed, TreeIsMade, field_commands, part_commands, storage_commands, stream_commands, tree_after_command, unless_so}
 use Rattle.cfb_making.proofs.Put.{fields_put, put_at, storage_fields, stream_fields}
 
 module _ (cases : Cases) where

@@ -1,6 +1,6 @@
 -- An object that was put into a storage, and its fields.
 use Rattle.std.proofs.Common.{◌≡◌, ℕ, List, [], ◌∷◌, Bool, true, false, refl, sym, ◌∙◌, ap}
-use Rattle.std.specs.Prelude.{Option, Some, None, ⊤, option_and_then, option_map, if◌then◌else◌}
+use Rattle.std.specs.Prelude.{Option, Some, None, ⊤, option_and_then, if◌then◌else◌}
 use Rattle.std.specs.Ordering.{is_lt}
 use Rattle.cfb_format.specs.Names.{Cases, name_cmp}
 use Rattle.cfb_format.specs.Tree.{StorageInfo, StreamInfo, Objects, nothing, storage, stream, Tree, Object, a_storage, a_stream, Found, is_same_name, object_named, put_in_order}

@@ -1,5 +1,4 @@
-use Rattle.std.proofs.Common.{ℕ, ◌+◌, ◌∷◌, [], List, arith, length, map, subst, sym}
-use Rattle.std.proofs.lemmas.Bool.{eqb-false}
+use Rattle.std.proofs.Common.{◌+◌, ◌∷◌, [], List, arith, map, subst, sym}
 use Rattle.std.proofs.lemmas.List.{map-append}
 use Rattle.cfb_commands.specs.Commands.{command_of}
 use Rattle.cfb_lines.specs.cfb_rules.Lists.{Command}

@@ -1,4 +1,4 @@
-use Rattle.std.proofs.Common.{ℕ, ◌+◌, ◌≤◌, length, map}
+use Rattle.std.proofs.Common.{◌+◌, ◌≤◌, length, map}
 use Rattle.cfb_commands.specs.Commands.{command_of}
 use Rattle.cfb_lines.proofs.Scripts.{IsReadUpTo}
 use Rattle.cfb_lines.proofs.lines.commands_in.Given as goal

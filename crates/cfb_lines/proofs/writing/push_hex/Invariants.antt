@@ -1,4 +1,4 @@
-use Rattle.std.proofs.Common.{◌≡◌, ◌++◌, ℕ, flat_map, string_bytes, take}
+use Rattle.std.proofs.Common.{◌≡◌, ◌++◌, flat_map, string_bytes, take}
 use Rattle.cfb_lines.specs.Fields.{hex_pair}
 use Rattle.cfb_lines.proofs.writing.push_hex.Given as goal
 
