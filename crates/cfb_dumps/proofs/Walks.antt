@@ -61,12 +61,12 @@ module _ (cases : Cases) (tree : Tree) where
   -- the bytes that were told are those of the stream
   same_stream_told : (names : List (List ℕ)) (path content : List ℕ) (info : StreamInfo) → names_of_path path ≡ Some names → object_at cases tree names ≡ Some (a_stream info)
       → StandsWith cases tree path content → (content ≡ info.content) × (length info.content ≡ info.len)
-  same_stream_told names path content info named stands with =
-      let same : with.names ≡ names = let both : Some with.names ≡ Some names = sym with.named ∙ named in cc in
-      let here : Some (a_stream with.info) ≡ Some (a_stream info) = sym with.stands ∙ ap (object_at cases tree) same ∙ stands in
-      let is : with.info ≡ info = cc in (
-        sym with.content ∙ ap (λ (i : StreamInfo). i.content) is,
-        ap length (sym (ap (λ (i : StreamInfo). i.content) is) ∙ with.content) ∙ sym with.len ∙ ap (λ (i : StreamInfo). i.len) is,
+  same_stream_told names path content info named stands has =
+      let same : has.names ≡ names = let both : Some has.names ≡ Some names = sym has.named ∙ named in cc in
+      let here : Some (a_stream has.info) ≡ Some (a_stream info) = sym has.stands ∙ ap (object_at cases tree) same ∙ stands in
+      let is : has.info ≡ info = cc in (
+        sym has.bytes ∙ ap (λ (i : StreamInfo). i.content) is,
+        ap length (sym (ap (λ (i : StreamInfo). i.content) is) ∙ has.bytes) ∙ sym has.len ∙ ap (λ (i : StreamInfo). i.len) is,
       )
 
   record IsWalked (names : List (List ℕ)) (objects : Objects) (commands : List Command) : Type 0 where
@@ -120,7 +120,7 @@ module _ (cases : Cases) (tree : Tree) where
 pub dumps_make_the_tree : DumpsMakeTheTree
 dumps_make_the_tree cases tree root_len rest text commands ordered told whole adds =
     let walk = objects_walked cases tree [] tree.objects told.1 refl (finds-inside cases tree [] (root_of tree).name tree.root tree.objects refl (names_in tree.objects)) ordered told.3 in
-    let is : commands ≡ tree_commands tree = told.4 ∙ ap (λ (cs : List Command). field_commands 0 (path_of_names []) tree.root ++ cs) walk.commands in
+    let is : commands ≡ tree_commands tree = told.4 ∙ ap (λ (cs : List Command). field_commands 0 (path_of_names []) tree.root ++ cs) walk.are in
     record {
       commands = commands;
       script = lines_are_a_script rest text commands whole adds;

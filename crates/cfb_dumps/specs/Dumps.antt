@@ -41,7 +41,7 @@ pub record StandsWith (cases : Cases) (tree : Tree) (path content : List ℕ) : 
   pub info : StreamInfo
   pub stands : object_at cases tree names ≡ Some (a_stream info)
   pub len : info.len ≡ length content
-  pub content : info.content ≡ content
+  pub bytes : info.content ≡ content
 
 -- what is to hold of an object of this kind where it is told with these bytes
 abbrev pub IsToldAs : ObjType → Cases → Tree → EntryInfo → List ℕ → Type 0

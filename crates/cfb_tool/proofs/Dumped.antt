@@ -91,7 +91,7 @@ module _ (old file : FileState) (read : IsOnlyRead old file) (tree : Tree) (mean
         info = has.info;
         stands = subst (λ (cases : Cases). object_at cases tree has.names ≡ Some (a_stream has.info)) (ap (λ (f : FileState). cases_of f.base) read.kept) has.stands;
         len = has.len;
-        content = has.content;
+        bytes = has.content;
       }
 
   told_as : (kind : ObjType) (info : EntryInfo) (content : List ℕ) → IsNamedAs kind info → HoldsAs kind file info content → IsToldAs kind (cases_of old.base) tree info content
