@@ -44,10 +44,7 @@ pub fn can_be_named(name: &str) -> bool
         && not (list_any is_forbidden_character (chars name.now))
         && nat_le (length (utf16_units (chars name.now))) 31) }
 {
-    !says_nothing(name)
-        && !says_parent(name)
-        && !has_forbidden(name)
-        && unit_count(name) <= 31
+    !says_nothing(name) && !says_parent(name) && !has_forbidden(name) && unit_count(name) <= 31
 }
 
 /// Whether `\` stands in a path.

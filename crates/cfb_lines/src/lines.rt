@@ -95,10 +95,7 @@ fn class_id_in(text: &str) -> Result<Uuid, LineError<'_>>
 }
 
 /// Bytes.
-fn content_in<'a, A: Heap + Clone>(
-    alloc: &A,
-    text: &'a str,
-) -> Result<Vec<u8, A>, LineError<'a>>
+fn content_in<'a, A: Heap + Clone>(alloc: &A, text: &'a str) -> Result<Vec<u8, A>, LineError<'a>>
     ensures ok { IfOk result (λ v. IsHex text.entry.now v.items) }
     ensures wrong { IfErr result (IsNotA Field.Bytes text.entry.now) }
 {
@@ -226,10 +223,7 @@ pub fn command_of_words<'a, A: Heap + Clone>(
 }
 
 /// The command of a line.
-fn command_in<'a, A: Heap + Clone>(
-    alloc: &A,
-    line: &'a [u8],
-) -> Result<Command<A>, LineError<'a>>
+fn command_in<'a, A: Heap + Clone>(alloc: &A, line: &'a [u8]) -> Result<Command<A>, LineError<'a>>
     ensures found { IfOk result (λ c. IsLine line.entry.now (command_of c)) }
     ensures wrong { IfErr result (TellsWrong (IsWrongWith line.entry.now)) }
 {
@@ -250,7 +244,11 @@ fn command_in<'a, A: Heap + Clone>(
 pub fn comment_count(input: &[u8]) -> usize
     ensures { result ≡ comment_count input.now }
 {
-    if input.starts_with(b"# cfbtool dump") { 1 } else { 0 }
+    if input.starts_with(b"# cfbtool dump") {
+        1
+    } else {
+        0
+    }
 }
 
 /// What follows the comment in front, if there is one, and how many lines that is.

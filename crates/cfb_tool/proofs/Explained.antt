@@ -8,8 +8,6 @@ use Rattle.cfb_commands.specs.Commands.{refusal_of_error}
 use Rattle.cfb_tool.proofs.Turns.{lines_more}
 use Rattle.cfb_tool.specs.Playing.{AreToldIn, placed, refusals_from, told_line, told_lines}
 
-
-
 refusals_behind : (place : ℕ) (xs : List (Option Refusal)) (x : Option Refusal)
     → refusals_from place (xs ++ x ∷ []) ≡ refusals_from place xs ++ refusals_from (place + length xs) (x ∷ [])
 refusals_behind place [] x = ap (λ (n : ℕ). refusals_from n (x ∷ [])) (let e : place ≡ place + 0 = omega arith in e)

@@ -239,13 +239,13 @@ module _ {S : Type 0} (seen : S → FileView) (promised : S → Deed → S → T
       let built = put_played old new path is.1 commands replies (subst (λ (c : Command). PlaysOne c commands replies None) asked_is plays) run in
       (built.keeps.0, built.tree ∙ ap (λ (c : Command). tree_after_command setting.cases c (seen old).state.tree) (sym asked_is))
 
-  legal_apart : (old new : S) (xs ys : List Command) (as bs : List CommandReply) → length xs ≡ length as → IsLegalRun seen promised setting old (xs ++ ys) (as ++ bs) new
-      → (middle : S) × IsLegalRun seen promised setting old xs as middle × IsLegalRun seen promised setting middle ys bs new
+  legal_apart : (old new : S) (xs ys : List Command) (us bs : List CommandReply) → length xs ≡ length us → IsLegalRun seen promised setting old (xs ++ ys) (us ++ bs) new
+      → (middle : S) × IsLegalRun seen promised setting old xs us middle × IsLegalRun seen promised setting middle ys bs new
   legal_apart old new [] ys [] bs same run = (old, refl, run)
-  legal_apart old new [] ys (a ∷ as) bs same run = absurd (omega arith)
+  legal_apart old new [] ys (a ∷ us) bs same run = absurd (omega arith)
   legal_apart old new (x ∷ xs) ys [] bs same run = absurd (omega arith)
-  legal_apart old new (x ∷ xs) ys (a ∷ as) bs same (next, runs, rest) =
-      let apart = legal_apart next new xs ys as bs (omega arith) rest in
+  legal_apart old new (x ∷ xs) ys (a ∷ us) bs same (next, runs, rest) =
+      let apart = legal_apart next new xs ys us bs (omega arith) rest in
       (apart.0, (next, runs, apart.1), apart.2)
 
   adds_alike : (path bytes : List ℕ) (commands : List Command) (replies : List CommandReply) → AddsInTurn path bytes commands replies None → length commands ≡ length replies
