@@ -115,26 +115,26 @@ impl<A: Heap + Clone> Clone for Command<A> {
                 path.clone()?,
                 *moment,
             )),
-            Command::CreateStorageAll(path, moment) => Command::CreateStorageAll(
+            Command::CreateStorageAll(path, moment) => Ok(Command::CreateStorageAll(
                 path.clone()?,
                 *moment,
-            ),
+            )),
             Command::RemoveStorage(path) => Ok(Command::RemoveStorage(path.clone()?)),
             Command::RemoveStorageAll(path) => Ok(Command::RemoveStorageAll(path.clone()?)),
             Command::RemoveStream(path) => Ok(Command::RemoveStream(path.clone()?)),
-            Command::SetStorageClsid(path, clsid) => Command::SetStorageClsid(
+            Command::SetStorageClsid(path, clsid) => Ok(Command::SetStorageClsid(
                 path.clone()?,
                 *clsid,
-            ),
+            )),
             Command::SetStateBits(path, bits) => Ok(Command::SetStateBits(path.clone()?, *bits)),
-            Command::SetCreatedTime(path, moment) => Command::SetCreatedTime(
+            Command::SetCreatedTime(path, moment) => Ok(Command::SetCreatedTime(
                 path.clone()?,
                 *moment,
-            ),
-            Command::SetModifiedTime(path, moment) => Command::SetModifiedTime(
+            )),
+            Command::SetModifiedTime(path, moment) => Ok(Command::SetModifiedTime(
                 path.clone()?,
                 *moment,
-            ),
+            )),
             Command::Touch(path, moment) => Ok(Command::Touch(path.clone()?, *moment)),
             Command::Flush => Ok(Command::Flush),
             Command::Exists(path) => Ok(Command::Exists(path.clone()?)),
