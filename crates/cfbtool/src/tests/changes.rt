@@ -42,7 +42,6 @@ const REFUSED: &[Run<'static>] = &[
     (&["rmdir", "@f", "/a\\u0005b"], b"", 1, b"", b"cfbtool: @f: /a\\u0005b: the storage is not empty\n"),
     (&["rmdir", "@f", "/none"], b"", 1, b"", b"cfbtool: @f: /none: nothing is at this path\n"),
     (&["rmdir", "@f", "/"], b"", 1, b"", b"cfbtool: @f: /: the root stays\n"),
-    (&["rmtree", "@f", "/"], b"", 1, b"", b"cfbtool: @f: /: the root stays\n"),
     (&["rm", "@f", "/docs"], b"", 1, b"", b"cfbtool: @f: /docs: no stream is at this path\n"),
     (&["rm", "@f", "/n\u{202e}"], b"", 1, b"", b"cfbtool: @f: /n\\u202e: nothing is at this path\n"),
     (&["len", "@f", "/none", "1"], b"", 1, b"", b"cfbtool: @f: /none: nothing is at this path\n"),
