@@ -1,14 +1,12 @@
 -- Lines of commands behind one another.
-use Rattle.std.proofs.Common.{◌≡◌, ◌≢◌, ◌==◌, ◌≤◌, ℕ, List, [], ◌∷◌, ◌++◌, Bool, true, false, refl, sym, ◌∙◌, ap, subst, append_assoc, append-nil, flat_map, arith, length}
-use Rattle.std.proofs.lemmas.Bool.{eqb-true, leb-true}
+use Rattle.std.proofs.Common.{◌≡◌, ◌≢◌, ◌==◌, ℕ, List, [], ◌∷◌, ◌++◌, Bool, true, false, refl, sym, ◌∙◌, ap, subst, append_assoc, append-nil, flat_map, arith, length}
 use Rattle.std.proofs.lemmas.Grind.{flat_map-append}
 use Rattle.std.specs.Prelude.{◌&&◌, ◌||◌, OnOk, Result, nat_le, not}
 use Rattle.std.specs.List.{AllByRecursion, AllZip, list_any}
 use Rattle.cfb_format.specs.declared.objtype.ObjType.{ObjType}
 use Rattle.cfb_format.specs.declared.objtype.ObjType.TheVariants.{Unallocated, Storage, Stream, Root}
-use Rattle.cfb_format.specs.Names.{is_forbidden_character, is_valid_name, utf16_units}
-use Rattle.cfb_format.specs.Path.{is_plain_name, part_says_nothing, part_says_parent, slash}
-use Rattle.cfb_format.specs.Timestamp.{unix_epoch}
+use Rattle.cfb_format.specs.Names.{is_forbidden_character, utf16_units}
+use Rattle.cfb_format.specs.Path.{part_says_nothing, part_says_parent, slash}
 use Rattle.cfb_rules.specs.Calls.{Call, EntryInfo}
 use Rattle.cfb_rules.specs.Lists.{Command, by_path}
 use Rattle.cfb_listing.specs.cfb_outline.Families.{is_root_kind, is_storage_kind, is_stream_kind}

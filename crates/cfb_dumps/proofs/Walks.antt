@@ -2,18 +2,17 @@
 use Rattle.std.proofs.Common.{◌≡◌, ℕ, List, [], ◌∷◌, ◌++◌, Bool, true, refl, sym, ◌∙◌, ap, subst, append_assoc, append-nil, flat_map}
 use Rattle.std.proofs.lemmas.Grind.{flat_map-append}
 use Rattle.std.proofs.lemmas.List.Folds.{list_all-append}
-use Rattle.std.specs.Prelude.{Option, Some, ⊤, ◌&&◌, length, option_map}
+use Rattle.std.specs.Prelude.{Some, ◌&&◌, length, option_map}
 use Rattle.std.specs.List.{list_all}
-use Rattle.cfb_format.specs.declared.objtype.ObjType.TheVariants.{Storage, Stream, Root}
 use Rattle.cfb_format.specs.Names.{Cases}
 use Rattle.cfb_format.specs.Path.{child_path, is_plain_name, names_of_path, path_of_names}
-use Rattle.cfb_format.specs.Tree.{StorageInfo, StreamInfo, Objects, nothing, storage, stream, Tree, Object, Found, a_storage, a_stream, AreWhole, IsOrdered, names_in, object_named}
+use Rattle.cfb_format.specs.Tree.{StreamInfo, Objects, nothing, storage, stream, Tree, Found, a_storage, a_stream, AreWhole, IsOrdered, names_in, object_named}
 use Rattle.cfb_codecs.proofs.PathBack.{names-back}
 use Rattle.cfb_rules.specs.Calls.{EntryInfo}
-use Rattle.cfb_rules.specs.CallReplies.{all_walked, root_info, storage_entry, stream_entry, walked}
-use Rattle.cfb_rules.specs.Finding.{found_at, object_at, root_of}
+use Rattle.cfb_rules.specs.CallReplies.{walked}
+use Rattle.cfb_rules.specs.Finding.{object_at, root_of}
 use Rattle.cfb_rules.specs.Lists.{Command}
-use Rattle.cfb_built.specs.Copied.{Part, parts_in, storage_part, stream_part}
+use Rattle.cfb_built.specs.Copied.{parts_in}
 use Rattle.cfb_format.specs.Created.{empty_tree}
 use Rattle.cfb_making.specs.Making.{AreDone, CanAllBeNamed, field_commands, part_commands, storage_commands, stream_commands, tree_commands}
 use Rattle.cfb_making.proofs.Made.{tree_made}

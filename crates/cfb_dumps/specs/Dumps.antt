@@ -1,12 +1,10 @@
 -- Objects that are told, as the commands that make them.
-use Rattle.std.specs.Prelude.{ℕ, ◌≡◌, ◌≢◌, ⊤, List, [], ◌∷◌, ◌++◌, Some, length}
-use Rattle.std.specs.List.{AllByRecursion}
+use Rattle.std.specs.Prelude.{ℕ, ◌≡◌, ⊤, List, [], ◌∷◌, ◌++◌, Some, length}
 use Rattle.cfb_format.specs.declared.objtype.ObjType.{ObjType}
 use Rattle.cfb_format.specs.declared.objtype.ObjType.TheVariants.{Unallocated, Storage, Stream, Root}
 use Rattle.cfb_format.specs.Created.{empty_tree}
 use Rattle.cfb_format.specs.Names.{Cases}
 use Rattle.cfb_format.specs.Path.{names_of_path}
-use Rattle.cfb_format.specs.Timestamp.{unix_epoch}
 use Rattle.cfb_format.specs.Tree.{StorageInfo, StreamInfo, Tree, IsOrdered, a_stream}
 use Rattle.cfb_rules.specs.Calls.{EntryInfo}
 use Rattle.cfb_rules.specs.CallReplies.{all_walked}

@@ -1,4 +1,4 @@
-use Rattle.std.proofs.Common.{ℕ, ◌≡◌, ◌==◌, ◌∙◌, Bool, true, false, arith, ap, chars, string_bytes, sym}
+use Rattle.std.proofs.Common.{◌==◌, chars, string_bytes}
 use Rattle.cfb_rules.specs.Calls.{set_state_bits}
 use Rattle.cfb_dumps.proofs.Joined.{left_out, not_left_out, other_number, same_number}
 use Rattle.cfb_dumps.proofs.objects.push_own_bits.Goals as goal

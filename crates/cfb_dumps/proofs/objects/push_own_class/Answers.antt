@@ -1,4 +1,4 @@
-use Rattle.std.proofs.Common.{ℕ, ◌≡◌, ◌==◌, ◌∙◌, Bool, true, false, arith, ap, chars, string_bytes, sym}
+use Rattle.std.proofs.Common.{◌∙◌, chars, string_bytes, sym}
 use Rattle.std.specs.Str.{bytes_eq}
 use Rattle.cfb_format.specs.DirectoryEntry.{nil_clsid}
 use Rattle.cfb_rules.specs.Calls.{set_storage_clsid}

@@ -1,4 +1,4 @@
-use Rattle.std.proofs.Common.{ℕ, ◌≡◌, ◌==◌, ◌∙◌, Bool, true, false, arith, ap, chars, string_bytes, sym}
+use Rattle.std.proofs.Common.{◌≡◌, ◌==◌, ◌∙◌, arith, chars, string_bytes, sym}
 use Rattle.cfb_rules.specs.Calls.{set_modified_time}
 use Rattle.cfb_dumps.proofs.Joined.{left_out, not_left_out, other_number, same_number}
 use Rattle.cfb_dumps.proofs.objects.push_own_modified.Goals as goal
