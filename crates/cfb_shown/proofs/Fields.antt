@@ -99,11 +99,11 @@ digit_by d true e = rw e (omega arith)
 digit_by d false e = rw e (omega arith)
 
 byte_inside : (byte : ℕ) → AllInside (byte_digits byte)
-byte_inside byte = (digit_by (byte / 16) (nat_lt (byte / 16) 10) refl, (digit_by (byte % 16) (nat_lt (byte % 16) 10) refl, tt))
+byte_inside byte = (digit_by (byte / 16 % 16) (nat_lt (byte / 16 % 16) 10) refl, (digit_by (byte % 16) (nat_lt (byte % 16) 10) refl, tt))
 
 bits_inside : (bits : ℕ) → AllInside (bits_text bits)
 bits_inside bits =
-    append_inside (byte_digits (bits / 16777216 % 256)) (byte_digits (bits / 65536 % 256) ++ (byte_digits (bits / 256 % 256) ++ byte_digits (bits % 256))) (byte_inside (bits / 16777216 % 256))
+    append_inside (byte_digits (bits / 16777216)) (byte_digits (bits / 65536 % 256) ++ (byte_digits (bits / 256 % 256) ++ byte_digits (bits % 256))) (byte_inside (bits / 16777216))
     (append_inside (byte_digits (bits / 65536 % 256)) (byte_digits (bits / 256 % 256) ++ byte_digits (bits % 256)) (byte_inside (bits / 65536 % 256))
     (append_inside (byte_digits (bits / 256 % 256)) (byte_digits (bits % 256)) (byte_inside (bits / 256 % 256)) (byte_inside (bits % 256))))
 

@@ -1,12 +1,11 @@
 -- Rows of text.
-use Rattle.std.proofs.Common.{◌≡◌, ◌∙◌, ℕ, ◌-◌, ◌/◌, ◌%◌, ◌^◌, ◌<◌, List, [], ◌∷◌, ◌++◌, false, ap, append_assoc, arith}
-use Rattle.std.specs.Fmt.{decimal, digits, format_spec, padded_integral}
-use Rattle.std.proofs.lemmas.Fmt.{hex_byte}
+use Rattle.std.proofs.Common.{◌≡◌, ◌∙◌, ℕ, List, [], ◌∷◌, ◌++◌, ap, append_assoc}
+use Rattle.std.specs.Fmt.{decimal}
 use Rattle.std.specs.Str.{chars, encode_utf8_all}
 use Rattle.cfb_dates.specs.Moments.{moment_text}
 use Rattle.cfb_rules.specs.Calls.{EntryInfo}
 use Rattle.cfb_text.specs.Shown.{shown}
-use Rattle.cfb_shown.specs.Rows.{bits_text, byte_digits, clsid_text, kind_text, row_text, tab}
+use Rattle.cfb_shown.specs.Rows.{bits_text, clsid_text, kind_text, row_text, tab}
 
 abbrev fields_with : List ℕ → ℕ → List ℕ → ℕ → ℕ → ℕ → List ℕ
 fields_with kind len clsid bits created modified = kind ++ (tab ++ (decimal len ++ (tab ++ (clsid_text clsid ++ (tab ++ (bits_text bits ++ (tab
@@ -43,18 +42,5 @@ row_is old fields shown_too new kind path len clsid bits created modified info f
 
 -- ---- state bits
 
--- what `{:02x}` writes
-abbrev padded_byte : ℕ → List ℕ
-padded_byte n = padded_integral (format_spec 32 0 4 2 (2 ^ 64 - 1)) false [] (digits 16 false n)
-
-pub bits_are : (bits : ℕ)
-    → padded_byte (bits / 16777216 % 256) ++ (padded_byte (bits / 65536 % 256) ++ (padded_byte (bits / 256 % 256) ++ padded_byte (bits % 256))) ≡ bits_text bits
-bits_are bits =
-    let a : ℕ = bits / 16777216 % 256 in
-    let b : ℕ = bits / 65536 % 256 in
-    let c : ℕ = bits / 256 % 256 in
-    let d : ℕ = bits % 256 in
-    ap (λ (x : List ℕ). x ++ (padded_byte b ++ (padded_byte c ++ padded_byte d))) (hex_byte false a (omega arith))
-    ∙ ap (λ (x : List ℕ). byte_digits a ++ (x ++ (padded_byte c ++ padded_byte d))) (hex_byte false b (omega arith))
-    ∙ ap (λ (x : List ℕ). byte_digits a ++ (byte_digits b ++ (x ++ padded_byte d))) (hex_byte false c (omega arith))
-    ∙ ap (λ (x : List ℕ). byte_digits a ++ (byte_digits b ++ (byte_digits c ++ x))) (hex_byte false d (omega arith))
+pub two_digits_are : (high low : List ℕ) (h l : ℕ) → high ≡ h ∷ [] → low ≡ l ∷ [] → high ++ low ≡ h ∷ l ∷ []
+two_digits_are high low h l first second = ap (λ (digits : List ℕ). digits ++ low) first ∙ ap (λ (digits : List ℕ). h ∷ digits) second

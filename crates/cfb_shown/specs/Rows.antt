@@ -15,11 +15,11 @@ kind_text info = if is_stream_kind info.obj_type then codes "f" else codes "d"
 
 -- a byte as two digits to the base 16
 abbrev pub byte_digits : ℕ → List ℕ
-byte_digits byte = digit_glyph false (byte / 16) ∷ digit_glyph false (byte % 16) ∷ []
+byte_digits byte = digit_glyph false (byte / 16 % 16) ∷ digit_glyph false (byte % 16) ∷ []
 
 -- state bits as eight
 abbrev pub bits_text : ℕ → List ℕ
-bits_text bits = byte_digits (bits / 16777216 % 256) ++ (byte_digits (bits / 65536 % 256) ++ (byte_digits (bits / 256 % 256) ++ byte_digits (bits % 256)))
+bits_text bits = byte_digits (bits / 16777216) ++ (byte_digits (bits / 65536 % 256) ++ (byte_digits (bits / 256 % 256) ++ byte_digits (bits % 256)))
 
 -- a class id with hyphens, or `-` where all is zero
 abbrev pub clsid_text : List ℕ → List ℕ

@@ -1,7 +1,8 @@
 //! All fields of objects as rows of text.
-ghost use Rattle.std.specs.Prelude.{◌≡◌, ◌++◌, IfOk, IfErr, OnOk, Some, flat_map, string_bytes};
+ghost use Rattle.std.specs.Prelude.{◌≡◌, ◌++◌, ◌%◌, ◌∷◌, [], false, IfOk, IfErr, OnOk, Some, flat_map, string_bytes};
+ghost use Rattle.std.specs.Fmt.{digit_glyph};
 ghost use Rattle.cfb_format.specs.Refused.{IsMemory};
-ghost use Rattle.cfb_shown.specs.Rows.{bits_text, clsid_text, kind_text, row_text};
+ghost use Rattle.cfb_shown.specs.Rows.{bits_text, byte_digits, clsid_text, kind_text, row_text};
 
 use cfb_codecs::timestamp::Timestamp;
 use cfb_dates::moment::Moment;
@@ -76,9 +77,49 @@ impl fmt::Display for StateBits {
     ghost output = { λ bits. Some (bits_text bits.0) };
 
     fn fmt<W: fmt::Write>(&self, f: &mut fmt::Formatter<W>) -> fmt::Result {
-        let (first, second) = (self.0 / 0x100_0000 % 0x100, self.0 / 0x1_0000 % 0x100);
-        let (third, last) = (self.0 / 0x100 % 0x100, self.0 % 0x100);
-        write!(f, "{first:02x}{second:02x}{third:02x}{last:02x}")
+        let first = ByteDigits(self.0 / 0x100_0000);
+        let second = ByteDigits(self.0 / 0x1_0000 % 0x100);
+        let third = ByteDigits(self.0 / 0x100 % 0x100);
+        let last = ByteDigits(self.0 % 0x100);
+        write!(f, "{first}{second}{third}{last}")
+    }
+}
+
+/// A byte, as two digits to the base 16.
+#[derive(Clone, Copy)]
+struct ByteDigits(u32);
+
+impl fmt::Display for ByteDigits {
+    ghost output = { λ byte. Some (byte_digits byte.0) };
+
+    fn fmt<W: fmt::Write>(&self, f: &mut fmt::Formatter<W>) -> fmt::Result {
+        let high = digit_text(self.0 / 16);
+        let low = digit_text(self.0);
+        write!(f, "{high}{low}")
+    }
+}
+
+/// The last digit of a number to the base 16, in lower case.
+fn digit_text(number: u32) -> &'static str
+    ensures { result.now ≡ digit_glyph false (number % 16) ∷ [] }
+{
+    match number % 16 {
+        0 => "0",
+        1 => "1",
+        2 => "2",
+        3 => "3",
+        4 => "4",
+        5 => "5",
+        6 => "6",
+        7 => "7",
+        8 => "8",
+        9 => "9",
+        10 => "a",
+        11 => "b",
+        12 => "c",
+        13 => "d",
+        14 => "e",
+        _ => "f",
     }
 }
 

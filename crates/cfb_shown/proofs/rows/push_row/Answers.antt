@@ -10,4 +10,4 @@ returns-clause-line g c =
     c.in_ok-write.ensures.bytes c.in_ok-push_shown.ensures
     (c.in_ok-push.ensures.bytes ∙ ap (λ (letter : List ℕ). string_bytes c.push_shown.new.into ++ letter) (c.in_ok-push.ensures.ascii (omega arith)))
     c.kind_of-kind.ensures c.len-len.ensures c.clsid-class_id.ensures c.state_bits-state_bits.ensures
-    (c.moment_of-created.ensures ∙ c.created-made.ensures) (c.moment_of-modified.ensures ∙ c.modified-changed.ensures) c.path-path.ensures
+    (c.moment_of-created.ensures ∙ c.created.ensures) (c.moment_of-modified.ensures ∙ c.modified.ensures) c.path-path.ensures
