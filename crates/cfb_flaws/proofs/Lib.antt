@@ -1,0 +1,6 @@
+pub mod Paths
+pub mod Knowing
+pub mod Composing
+pub mod Claiming
+pub mod Assembling
+pub mod Lying
