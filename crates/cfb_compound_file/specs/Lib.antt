@@ -28,3 +28,4 @@ pub mod Adding
 pub mod Printed
 pub mod Asking
 pub mod Taken
+pub mod Flaws

@@ -4,3 +4,5 @@ pub mod Composing
 pub mod Claiming
 pub mod Assembling
 pub mod Lying
+pub mod Truths
+pub mod Reaching

@@ -1,2 +1,5 @@
 pub mod Owners
 pub mod Claims
+pub mod Flaws
+pub mod Telling
+pub mod Reach

@@ -2,6 +2,16 @@
 #![tactic(auto)]
 
 mod claims;
+pub mod flaw;
+pub mod flaws;
+mod known;
 pub mod owner;
 pub mod owners;
+mod reach;
+mod searches;
+mod shared;
 mod starts;
+mod streams;
+mod tables;
+#[cfg(test)]
+mod tests;

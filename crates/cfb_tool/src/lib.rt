@@ -3,8 +3,11 @@
 
 pub mod asking;
 pub mod content;
+pub mod info;
 pub mod laws;
 pub mod listing;
+pub mod mapping;
+mod owners;
 pub mod playing;
 mod replies;
 pub mod soundness;

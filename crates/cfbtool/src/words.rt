@@ -1,6 +1,9 @@
 //! What the program does.
 ghost use Rattle.std.specs.Prelude.{◌≡◌, ◌*◌, ◌≤◌, [], IfOk, vec_capacity};
 
+mod info;
+mod map;
+
 use crate::refusal::{Refusal, tell};
 use cfb::{Command, CompoundFile, Error, FileMedium, FileReadMedium, ReadMedium, Version};
 use cfb_lines::LinesError;
@@ -39,6 +42,19 @@ pub fn tool<H: Files<File = File> + AllocGlobal, R: Read, W: Write, E: Write>(
     out: &mut W,
     faults: &mut E,
 ) -> ExitCode {
+    // FLAWS: for trying alone; INT wires the words.
+    if words.len() == 2 && words[0].as_str() == "info" {
+        return match info::print_info(rt, words[1].as_str(), out) {
+            Ok(()) => ExitCode::SUCCESS,
+            Err(refusal) => tell(refusal, faults),
+        };
+    }
+    if words.len() == 2 && words[0].as_str() == "map" {
+        return match map::print_map(rt, words[1].as_str(), out) {
+            Ok(()) => ExitCode::SUCCESS,
+            Err(refusal) => tell(refusal, faults),
+        };
+    }
     let Some(asked) = asked_by(words) else {
         return tell(Refusal::WrongWords, faults);
     };
