@@ -73,7 +73,7 @@ fn salvaged(alloc: Global, bytes: &[u8], numbers: &[u8]) -> Result<(Found, bool)
 fn is_right_at_all_cuts(alloc: Global, version: Version) -> Result<bool, Fail> {
     let bytes = filled(alloc, version, &STREAMS)?;
     let numbers = numbered(alloc, 150_000)?;
-    let step = bytes.len() / 40 + 3;
+    let step = bytes.len() / 8 + 3;
     let mut len = bytes.len();
     while len > step {
         let Some(first) = bytes.get(..len) else {
