@@ -9,12 +9,11 @@ ghost use Rattle.cfb_compound_file.specs.Opening.{permissive_options};
 
 use crate::compound_file::CompoundFile;
 use crate::options::DEFAULT_BUFFER_SIZE;
+pub use cfb_copies::salvaging::Extent;
 use cfb_copies::salvaging::salvage_volume;
 use cfb_format::error::Error;
 use cfb_format::medium::{Medium, ReadMedium};
 use std::alloc::{Allocator as Heap, Global};
-
-pub use cfb_copies::salvaging::Extent;
 
 /// What could be read of a compound file, in a file of its own.
 #[derive(Drop)]

@@ -72,7 +72,7 @@ module _ (entries : List Entry) (content : Entry → List ℕ) where
       → now ≡ extents_along entries content (map (λ (p : Place). p.entry) (take (i + 1) list))
   along-more list i d so_far now inside was is =
       is
-      ∙ (λ j. was j ++ append-nil (extents_at content (entry_at entries (get_or list i d).entry)) (~ j))
+      ∙ (λ j. was j ++ sym (append-nil (extents_at content (entry_at entries (get_or list i d).entry))) j)
       ∙ sym (along-append (map (λ (p : Place). p.entry) (take i list)) ((get_or list i d).entry ∷ []))
       ∙ ap (λ (l : List ℕ). extents_along entries content l) (sym (ap (map (λ (p : Place). p.entry)) (take_more list i d inside) ∙ map-append (λ (p : Place). p.entry) (take i list) (get_or list i d ∷ [])))
 

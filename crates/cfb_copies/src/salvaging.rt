@@ -12,6 +12,7 @@ ghost use Rattle.cfb_copies.specs.Steps.{CountsEither, IsNoFault, IsReadOnly};
 use crate::checking::{is_allowed, kind_of, not_copied};
 use crate::copying::{counted, fill, make_empty};
 use crate::keeping::{Keep, kept_len};
+pub use cfb_copy_sizes::cut::Extent;
 use cfb_copy_sizes::cut::is_too_large_cut;
 use cfb_format::consts::MAX_REGULAR_SECTOR;
 use cfb_format::error::Error;
@@ -21,8 +22,6 @@ use cfb_places::laws::{parts_stand_at_places, places_are_the_walk};
 use cfb_places::walk::{Place, places};
 use cfb_volume::volume::Volume;
 use std::alloc::{Allocator as Heap, Global};
-
-pub use cfb_copy_sizes::cut::Extent;
 
 /// What could be read of a file, in a file of its own.
 #[derive(Drop)]
@@ -92,9 +91,7 @@ fn extents_of<F: ReadMedium, A: Heap + Clone>(
 /// The list of all objects of a file, and how much of them can be read.
 ///
 /// `Full` exactly where no file of the version has room for that; `Memory`.
-fn prepare_cut<F: ReadMedium, A: Heap + Clone>(
-    source: &Volume<F, A>,
-) -> Result<Prepared<A>, Error>
+fn prepare_cut<F: ReadMedium, A: Heap + Clone>(source: &Volume<F, A>) -> Result<Prepared<A>, Error>
     ensures listed { IfOk result (λ prepared. ListsObjects source.now prepared.list.items) }
     ensures copyable { IfOk result (λ prepared. AreCopyable source.now prepared.list.items) }
     ensures told { IsTrue F.tells → Holds source.now

@@ -11,6 +11,7 @@ use std::alloc::Global;
 use std::test::Fail;
 
 /// How many streams a cut file still has, and how many of them are whole; none where it can't be opened.
+#[derive(Drop)]
 struct Found {
     streams: usize,
     whole: usize,
@@ -22,7 +23,10 @@ fn are_beginnings(
     copy: &mut CompoundFile<MemoryMedium>,
     numbers: &[u8],
 ) -> Result<bool, Error> {
-    let streams: Vec<_> = copy.walk()?.filter(|entry| entry.is_stream()).collect(alloc)?;
+    let streams: Vec<_> = copy
+        .walk()?
+        .filter(|entry| entry.is_stream())
+        .collect(alloc)?;
     for entry in &streams {
         let mut found = Vec::new(alloc);
         let mut stream = copy.open_read_stream(entry.path())?;
@@ -40,13 +44,28 @@ fn are_beginnings(
 fn salvaged(alloc: Global, bytes: &[u8], numbers: &[u8]) -> Result<(Found, bool), Error> {
     let medium = MemoryMedium::from_bytes(Vec::from_slice(alloc, bytes)?);
     let Ok(mut file) = CompoundFile::open(alloc, mended(alloc, medium)?) else {
-        return Ok((Found { streams: 0, whole: 0 }, true));
+        return Ok((
+            Found {
+                streams: 0,
+                whole: 0,
+            },
+            true,
+        ));
     };
     let Salvaged { file, extents } = file.salvage_to(MemoryMedium::new(alloc))?;
     let mut copy = CompoundFile::open_strict(alloc, file.into_inner())?;
     let is_right = copy.is_sound() && are_beginnings(alloc, &mut copy, numbers)?;
-    let whole = extents.iter().filter(|extent| extent.kept == extent.len).count();
-    Ok((Found { streams: extents.len(), whole }, is_right))
+    let whole = extents
+        .iter()
+        .filter(|extent| extent.kept == extent.len)
+        .count();
+    Ok((
+        Found {
+            streams: extents.len(),
+            whole,
+        },
+        is_right,
+    ))
 }
 
 /// Cuts a file at each of many places: how many streams are found then, whether none is found that was not there, and whether more bytes
@@ -54,7 +73,7 @@ fn salvaged(alloc: Global, bytes: &[u8], numbers: &[u8]) -> Result<(Found, bool)
 fn is_right_at_all_cuts(alloc: Global, version: Version) -> Result<bool, Fail> {
     let bytes = filled(alloc, version, &STREAMS)?;
     let numbers = numbered(alloc, 150_000)?;
-    let step = bytes.len() / 40 + 3;
+    let step = bytes.len() / 8 + 3;
     let mut len = bytes.len();
     while len > step {
         let Some(first) = bytes.get(..len) else {

@@ -35,8 +35,8 @@ enum Call {
     Salvage,
 }
 
-/// Streams in mini sectors alone.
-const SHORTER_STREAMS: [StreamRow; 2] = [("/none", 0, 9), ("/Été/ß", 100, 0)];
+/// One in mini sectors and one in sectors.
+const SHORTER_STREAMS: [StreamRow; 2] = [("/Été/ß", 100, 0), ("/Été/Ω", 4096, 2)];
 
 /// More of each than a copy has.
 const TURNS: u64 = 5000;

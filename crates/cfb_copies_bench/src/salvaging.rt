@@ -55,10 +55,8 @@ fn are_told(extents: &[Extent], wanted: &[(u64, u64)]) -> bool {
     if extents.len() != wanted.len() {
         return false;
     }
-    extents
-        .iter()
-        .zip(wanted)
-        .all(|(extent, (kept, len))| extent.kept == *kept && extent.len == *len)
+    extents.iter().zip(wanted).all(|(extent, (kept, len))| extent.kept == *kept
+        && extent.len == *len)
 }
 
 /// All bytes of a stream.

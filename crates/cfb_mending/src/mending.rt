@@ -1,11 +1,11 @@
 //! Which words of a file that was cut short lead past its end.
-ghost use Rattle.std.specs.Prelude.{◌≡◌};
+ghost use Rattle.std.specs.Prelude.{◌≡◌, IsTrue, IfOk};
 
 use crate::patches::{Mended, Patch};
 use cfb_format::bytes::u32_at;
 use cfb_format::consts::{
-    DIFAT_SECTOR, DIR_ENTRY_LEN, END_OF_CHAIN, FAT_SECTOR, FREE_SECTOR, HEADER_LEN,
-    MAX_REGULAR_SECTOR, MINI_SECTOR_LEN, NO_STREAM, NUM_DIFAT_ENTRIES_IN_HEADER,
+    DIFAT_SECTOR, END_OF_CHAIN, FAT_SECTOR, FREE_SECTOR, HEADER_LEN, MAX_REGULAR_SECTOR, NO_STREAM,
+    NUM_DIFAT_ENTRIES_IN_HEADER,
 };
 use cfb_format::error::{Detail, Error};
 use cfb_format::header::Header;
@@ -17,18 +17,27 @@ use std::alloc::Allocator as Heap;
 /// The length of the longest sector.
 const MAX_SECTOR_LEN: usize = 4096;
 
-/// Where the header has the first directory sector, MiniFAT sector and DIFAT sector, and its entries of the DIFAT.
+/// How many words a slot of the directory has.
+const SLOT_WORDS: usize = 32;
+
+// Where the header has the first sectors of the directory, the MiniFAT and the DIFAT, and its entries of the DIFAT (MS-CFB 2.2).
 const FIRST_DIR_AT: u64 = 48;
+
 const FIRST_MINIFAT_AT: u64 = 60;
+
 const FIRST_DIFAT_AT: u64 = 68;
+
 const DIFAT_AT: u64 = 76;
 
-/// Where a slot of the directory has its type, its three links, and its length.
-const TYPE_AT: usize = 66;
-const LINKS_AT: [usize; 3] = [68, 72, 76];
-const LEN_AT: usize = 120;
+// Which words of a slot have its type, its three links, and its length (MS-CFB 2.6.1).
+const TYPE_WORD: usize = 16;
+
+const LINK_WORDS: [usize; 3] = [17, 18, 19];
+
+const LEN_WORDS: [usize; 2] = [30, 31];
 
 /// A file that is looked through.
+#[derive(Drop)]
 struct Scan<F: ReadMedium, A: Heap + Clone> {
     medium: F,
     version: Version,
@@ -41,7 +50,8 @@ struct Scan<F: ReadMedium, A: Heap + Clone> {
     heap: A,
 }
 
-/// What one sector holds.
+/// What one sector holds; zeros where it does not reach.
+#[derive(Drop)]
 struct Loaded {
     bytes: [u8; MAX_SECTOR_LEN],
 }
@@ -52,25 +62,60 @@ impl Loaded {
         let at = (index % 1024) * 4;
         u32_at(&self.bytes, at)
     }
+
+    /// A word of a slot.
+    fn slot_word(&self, slot: usize, word: usize) -> u32 {
+        self.word(slot.saturating_mul(SLOT_WORDS).saturating_add(word))
+    }
+
+    /// The type of the object in a slot.
+    fn kind(&self, slot: usize) -> u8 {
+        let [_, _, kind, _] = self.slot_word(slot, TYPE_WORD).to_le_bytes();
+        kind
+    }
+
+    /// The length that a slot has.
+    fn len(&self, slot: usize) -> u64 {
+        let [low, high] = LEN_WORDS;
+        let high = u64::from(self.slot_word(slot, high)) << 32;
+        high | u64::from(self.slot_word(slot, low))
+    }
 }
 
-/// Fills `into` with the bytes from `at` on, and zeros past the end.
-fn read_all<F: ReadMedium>(medium: &mut F, at: u64, into: &mut [u8]) -> Result<(), MediumFault> {
-    let mut done = 0;
-    while done < into.len() {
+/// Fills `into` with the bytes from `at` on, as far as there are any.
+fn read_all<F: ReadMedium>(medium: &mut F, at: u64, into: &mut [u8]) -> Result<(), MediumFault>
+    ensures { IsTrue F.tells → F.bytes medium.new ≡ F.bytes medium.old }
+{
+    let mut done = 0usize;
+    for _turn in 0..into.len() {
+        if done >= into.len() {
+            break;
+        }
         let place = at.saturating_add(done as u64);
         let count = medium.read_at(place, &mut into[done..])?;
         if count == 0 {
-            into[done..].fill(0);
-            return Ok(());
+            break;
         }
-        done += count;
+        done = done.saturating_add(count);
     }
     Ok(())
 }
 
+/// How many sectors a file of this length has, a last one that is cut short among them, and how many are whole.
+fn sector_counts(version: Version, len: u64) -> (u64, u64) {
+    let (all, whole) = match version {
+        Version::V3 => (len.div_ceil(512), len / 512),
+        Version::V4 => (len.div_ceil(4096), len / 4096),
+    };
+    (all.saturating_sub(1), whole.saturating_sub(1))
+}
+
 impl<F: ReadMedium, A: Heap + Clone> Scan<F, A> {
-    fn start(heap: A, medium: F) -> Result<(Scan<F, A>, Header), Error> {
+    /// Reads the header. `InvalidData` where there is none.
+    fn start(heap: A, medium: F) -> Result<(Scan<F, A>, Header), Error>
+        ensures { IsTrue F.tells
+            → IfOk result (λ started. F.bytes started.0.medium ≡ F.bytes medium) }
+    {
         let mut medium = medium;
         let len = medium.length()?;
         if len < HEADER_LEN as u64 {
@@ -79,12 +124,12 @@ impl<F: ReadMedium, A: Heap + Clone> Scan<F, A> {
         let mut first = [0; HEADER_LEN];
         read_all(&mut medium, 0, &mut first)?;
         let header = Header::read_from(&first, Validation::Permissive)?;
-        let sector_len = header.version.sector_len() as u64;
+        let (sectors, whole) = sector_counts(header.version, len);
         let scan = Scan {
             medium,
             version: header.version,
-            sectors: len.div_ceil(sector_len).saturating_sub(1),
-            whole: (len / sector_len).saturating_sub(1),
+            sectors,
+            whole,
             fat: Vec::new(heap.clone()?),
             patches: Vec::new(heap.clone()?),
             heap,
@@ -92,22 +137,17 @@ impl<F: ReadMedium, A: Heap + Clone> Scan<F, A> {
         Ok((scan, header))
     }
 
-    fn sector_len(&self) -> u64 {
-        self.version.sector_len() as u64
-    }
-
-    fn words(&self) -> u64 {
-        self.version.words_per_sector() as u64
-    }
-
-    /// Where a sector begins.
-    fn start_of(&self, sector: u32) -> u64 {
-        (u64::from(sector) + 1) * self.sector_len()
+    /// Where a word of a sector stands.
+    fn place_of(&self, sector: u32, index: usize) -> u64 {
+        let len = self.version.sector_len() as u64;
+        let start = u64::from(sector).saturating_add(1).saturating_mul(len);
+        start.saturating_add((index as u64).saturating_mul(4))
     }
 
     /// For how many sectors the FAT has words.
     fn known(&self) -> u64 {
-        let covered = (self.fat.len() as u64).saturating_mul(self.words());
+        let words = self.version.words_per_sector() as u64;
+        let covered = (self.fat.len() as u64).saturating_mul(words);
         self.sectors.min(covered)
     }
 
@@ -117,65 +157,87 @@ impl<F: ReadMedium, A: Heap + Clone> Scan<F, A> {
         word <= MAX_REGULAR_SECTOR && (self.whole <= number || self.known() <= number)
     }
 
-    fn load(&mut self, sector: u32) -> Result<Loaded, Error> {
+    fn load(&mut self, sector: u32) -> Result<Loaded, Error>
+        ensures { IsTrue F.tells → F.bytes self.new.medium ≡ F.bytes self.old.medium }
+    {
         let mut bytes = [0; MAX_SECTOR_LEN];
-        let at = self.start_of(sector);
-        let len = self.version.sector_len();
-        read_all(&mut self.medium, at, &mut bytes[..len])?;
+        let at = self.place_of(sector, 0);
+        match self.version {
+            Version::V3 => read_all(&mut self.medium, at, &mut bytes[..512])?,
+            Version::V4 => read_all(&mut self.medium, at, &mut bytes)?,
+        }
         Ok(Loaded { bytes })
     }
 
-    fn word_at(&mut self, at: u64) -> Result<u32, Error> {
+    fn word_at(&mut self, at: u64) -> Result<u32, Error>
+        ensures { IsTrue F.tells → F.bytes self.new.medium ≡ F.bytes self.old.medium }
+    {
         let mut bytes = [0; 4];
         read_all(&mut self.medium, at, &mut bytes)?;
         Ok(u32::from_le_bytes(bytes))
     }
 
-    /// From now on the words of this range are read so.
-    fn set(&mut self, at: u64, end: u64, word: u32) -> Result<(), Error> {
-        if let Some(last) = self.patches.last_mut() {
-            if last.end == at && last.word == word {
-                last.end = end;
-                return Ok(());
+    /// From now on the words of this range are read so. `Memory`.
+    fn set(&mut self, at: u64, end: u64, word: u32) -> Result<(), Error>
+        ensures { IsTrue F.tells → F.bytes self.new.medium ≡ F.bytes self.old.medium }
+    {
+        let patch = Patch { at, end, word };
+        match self.patches.pop() {
+            Some(last) if last.end == at && last.word == word => {
+                self.patches.push(Patch { end, ..last })?;
             }
+            Some(last) => {
+                self.patches.push(last)?;
+                self.patches.push(patch)?;
+            }
+            None => self.patches.push(patch)?,
         }
-        self.patches.push(Patch { at, end, word })?;
         Ok(())
     }
 
-    fn set_word(&mut self, at: u64, word: u32) -> Result<(), Error> {
+    fn set_word(&mut self, at: u64, word: u32) -> Result<(), Error>
+        ensures { IsTrue F.tells → F.bytes self.new.medium ≡ F.bytes self.old.medium }
+    {
         self.set(at, at.saturating_add(4), word)
     }
 
-    /// Where the FAT has the word of a sector that it covers.
+    /// Where the FAT has the word of a sector, if it has one.
     fn fat_place(&self, sector: u32) -> Option<u64> {
-        let words = self.version.words_per_sector();
-        let index = sector as usize;
-        let holder = self.fat.get(index / words)?;
-        Some(self.start_of(*holder) + 4 * (index % words) as u64)
+        let number = sector as usize;
+        let (holder, index) = match self.version {
+            Version::V3 => (number / 128, number % 128),
+            Version::V4 => (number / 1024, number % 1024),
+        };
+        let holder = self.fat.get(holder)?;
+        Some(self.place_of(*holder, index))
     }
 }
 
 impl<F: ReadMedium, A: Heap + Clone> Scan<F, A> {
-    /// Adds the FAT sectors that these words list. Where one is missing the list ends with it: whether that is so.
-    fn list_in(&mut self, at: u64, words: &[u32]) -> Result<bool, Error> {
-        for (index, word) in words.iter().enumerate() {
-            if *word > MAX_REGULAR_SECTOR {
-                continue;
+    /// Adds the FAT sectors that these words list, the first of which stands at `at`. Where one is missing the list ends with it: whether
+    /// that is so.
+    fn list_in(&mut self, at: u64, words: &[u32]) -> Result<bool, Error>
+        ensures { IsTrue F.tells → F.bytes self.new.medium ≡ F.bytes self.old.medium }
+    {
+        let end = at.saturating_add((words.len() as u64).saturating_mul(4));
+        let mut place = at;
+        for word in words {
+            if *word <= MAX_REGULAR_SECTOR {
+                if self.whole <= u64::from(*word) {
+                    self.set(place, end, FREE_SECTOR)?;
+                    return Ok(true);
+                }
+                self.fat.push(*word)?;
             }
-            if self.whole <= u64::from(*word) {
-                let first = at.saturating_add(4 * index as u64);
-                let end = at.saturating_add(4 * words.len() as u64);
-                self.set(first, end, FREE_SECTOR)?;
-                return Ok(true);
-            }
-            self.fat.push(*word)?;
+            place = place.saturating_add(4);
         }
         Ok(false)
     }
 
     /// Lists the FAT sectors, up to the first that is missing, and ends the DIFAT there.
-    fn list_fat(&mut self, header: &Header) -> Result<(), Error> {
+    fn list_fat(&mut self, header: &Header) -> Result<(), Error>
+        ensures { IsTrue F.tells → F.bytes self.new.medium ≡ F.bytes self.old.medium }
+    {
         let mut link = FIRST_DIFAT_AT;
         let mut next = header.first_difat_sector;
         let mut is_cut = self.list_in(DIFAT_AT, &header.initial_difat_entries)?;
@@ -187,60 +249,65 @@ impl<F: ReadMedium, A: Heap + Clone> Scan<F, A> {
                 self.set_word(link, END_OF_CHAIN)?;
                 break;
             }
-            let start = self.start_of(next);
-            let (entries, last) = self.load_entries(next)?;
+            let entries = self.entries_in(next)?;
+            let start = self.place_of(next, 0);
             is_cut = self.list_in(start, &entries)?;
-            link = start.saturating_add(4 * entries.len() as u64);
-            next = last;
+            link = self.place_of(next, entries.len());
+            next = self.word_at(link)?;
         }
         self.drop_padding(header);
         Ok(())
     }
 
-    /// The entries of a DIFAT sector, and the word behind them.
-    fn load_entries(&mut self, sector: u32) -> Result<(Vec<u32, A>, u32), Error> {
+    /// The entries of a DIFAT sector.
+    fn entries_in(&mut self, sector: u32) -> Result<Vec<u32, A>, Error>
+        ensures { IsTrue F.tells → F.bytes self.new.medium ≡ F.bytes self.old.medium }
+    {
         let loaded = self.load(sector)?;
-        let last = self.version.words_per_sector() - 1;
-        let mut entries = Vec::with_capacity(self.heap.clone()?, last)?;
-        for index in 0..last {
-            entries.push(loaded.word(index))?;
+        let mut entries = Vec::new(self.heap.clone()?);
+        for index in 1..self.version.words_per_sector() {
+            entries.push(loaded.word(index - 1))?;
         }
-        Ok((entries, loaded.word(last)))
+        Ok(entries)
     }
 
-    /// Zeros at the end of the list pad it.
-    fn drop_padding(&mut self, header: &Header) {
+    /// Zeros at the end of the list pad it (MS-CFB 2.5).
+    fn drop_padding(&mut self, header: &Header)
+        ensures { IsTrue F.tells → F.bytes self.new.medium ≡ F.bytes self.old.medium }
+    {
         let least = NUM_DIFAT_ENTRIES_IN_HEADER.max(header.num_fat_sectors as usize);
-        while self.fat.len() > least && self.fat.last() == Some(&0) {
-            self.fat.pop();
-        }
+        let last = self.fat.iter().rposition(|sector| *sector != 0);
+        let used = last.map_or(0, |last| last.saturating_add(1));
+        self.fat.truncate(least.max(used));
     }
 
-    /// Frees what the FAT says of sectors past the end, and ends chains that go on where nothing is known.
-    fn mend_fat(&mut self) -> Result<(), Error> {
+    /// Frees what the FAT says of sectors past the end, and ends chains that go on where it says nothing.
+    fn mend_fat(&mut self) -> Result<(), Error>
+        ensures { IsTrue F.tells → F.bytes self.new.medium ≡ F.bytes self.old.medium }
+    {
         let mut first = 0u64;
         for index in 0..self.fat.len() {
             let Some(sector) = self.fat.get(index).copied() else {
                 break;
             };
             self.mend_fat_sector(sector, first)?;
-            first = first.saturating_add(self.words());
+            first = first.saturating_add(self.version.words_per_sector() as u64);
         }
         Ok(())
     }
 
-    fn mend_fat_sector(&mut self, sector: u32, first: u64) -> Result<(), Error> {
+    fn mend_fat_sector(&mut self, sector: u32, first: u64) -> Result<(), Error>
+        ensures { IsTrue F.tells → F.bytes self.new.medium ≡ F.bytes self.old.medium }
+    {
         let loaded = self.load(sector)?;
-        let start = self.start_of(sector);
         for index in 0..self.version.words_per_sector() {
             let word = loaded.word(index);
-            let at = start + 4 * index as u64;
-            let number = first.saturating_add(index as u64);
-            if self.sectors <= number {
-                if !is_padding(word) {
-                    self.set_word(at, FREE_SECTOR)?;
-                }
-            } else if word <= MAX_REGULAR_SECTOR && self.known() <= u64::from(word) {
+            let at = self.place_of(sector, index);
+            let is_past_end = self.sectors <= first.saturating_add(index as u64);
+            let goes_past_end = word <= MAX_REGULAR_SECTOR && self.known() <= u64::from(word);
+            if is_past_end && !is_padding(word) {
+                self.set_word(at, FREE_SECTOR)?;
+            } else if !is_past_end && goes_past_end {
                 self.set_word(at, END_OF_CHAIN)?;
             }
         }
@@ -248,10 +315,12 @@ impl<F: ReadMedium, A: Heap + Clone> Scan<F, A> {
     }
 
     /// The sectors of the chain whose start stands at this place: it ends before the first that is missing.
-    fn mend_chain(&mut self, start_at: u64) -> Result<Vec<u32, A>, Error> {
+    fn mend_chain(&mut self, start_at: u64) -> Result<Vec<u32, A>, Error>
+        ensures { IsTrue F.tells → F.bytes self.new.medium ≡ F.bytes self.old.medium }
+    {
         let mut chain = Vec::new(self.heap.clone()?);
         let mut at = start_at;
-        for _turn in 0..=self.known() {
+        for _turn in 0..self.sectors {
             let word = self.word_at(at)?;
             if word > MAX_REGULAR_SECTOR {
                 break;
@@ -269,76 +338,91 @@ impl<F: ReadMedium, A: Heap + Clone> Scan<F, A> {
         Ok(chain)
     }
 
-    /// The types in the slots of the directory's sectors, and how many mini sectors the root has.
-    fn kinds(&mut self, directory: &[u32]) -> Result<(Vec<u8, A>, u64), Error> {
+    /// The types in the slots of the directory's sectors, and the length in the first slot.
+    fn kinds(&mut self, directory: &[u32]) -> Result<(Vec<u8, A>, u64), Error>
+        ensures { IsTrue F.tells → F.bytes self.new.medium ≡ F.bytes self.old.medium }
+    {
         let mut kinds = Vec::new(self.heap.clone()?);
         let mut root_len = 0;
         for sector in directory {
             let loaded = self.load(*sector)?;
+            if kinds.is_empty() {
+                root_len = loaded.len(0);
+            }
             for slot in 0..self.version.dir_entries_per_sector() {
-                let bytes = &loaded.bytes[DIR_ENTRY_LEN * slot..DIR_ENTRY_LEN * (slot + 1)];
-                if kinds.is_empty() {
-                    root_len = u64::from(u32_at(bytes, LEN_AT))
-                        + (u64::from(u32_at(bytes, LEN_AT + 4)) << 32);
-                }
-                kinds.push(bytes[TYPE_AT])?;
+                kinds.push(loaded.kind(slot))?;
             }
         }
-        let root_len = root_len & self.version.stream_len_mask();
-        Ok((kinds, root_len / MINI_SECTOR_LEN as u64))
+        Ok((kinds, root_len & self.version.stream_len_mask()))
     }
 
-    /// Takes away the links of slots that lead to no object.
-    fn mend_slots(&mut self, directory: &[u32], kinds: &[u8]) -> Result<(), Error> {
-        let mut number = 0usize;
+    /// Takes away the links of objects that lead to none.
+    fn mend_slots(&mut self, directory: &[u32], kinds: &[u8]) -> Result<(), Error>
+        ensures { IsTrue F.tells → F.bytes self.new.medium ≡ F.bytes self.old.medium }
+    {
         for sector in directory {
             let loaded = self.load(*sector)?;
-            let start = self.start_of(*sector);
             for slot in 0..self.version.dir_entries_per_sector() {
-                let kind = kinds.get(number).copied();
-                number = number.saturating_add(1);
-                if kind == Some(0) {
-                    continue;
-                }
-                for link_at in &LINKS_AT {
-                    let at = DIR_ENTRY_LEN * slot + *link_at;
-                    let link = u32_at(&loaded.bytes, at);
-                    if link != NO_STREAM && !matches!(kinds.get(link as usize), Some(1 | 2)) {
-                        self.set_word(start + at as u64, NO_STREAM)?;
-                    }
+                if loaded.kind(slot) != 0 {
+                    self.mend_links(*sector, slot, &loaded, kinds)?;
                 }
             }
         }
         Ok(())
     }
 
-    /// Ends the chains of mini sectors that go on past the MiniFAT.
-    fn mend_minifat(&mut self, minifat: &[u32], most: u64) -> Result<(), Error> {
-        let words = self.words();
+    fn mend_links(
+        &mut self,
+        sector: u32,
+        slot: usize,
+        loaded: &Loaded,
+        kinds: &[u8],
+    ) -> Result<(), Error>
+        ensures { IsTrue F.tells → F.bytes self.new.medium ≡ F.bytes self.old.medium }
+    {
+        for word in &LINK_WORDS {
+            let link = loaded.slot_word(slot, *word);
+            let is_object = matches!(kinds.get(link as usize), Some(1 | 2));
+            if link != NO_STREAM && !is_object {
+                let index = slot.saturating_mul(SLOT_WORDS).saturating_add(*word);
+                let at = self.place_of(sector, index);
+                self.set_word(at, NO_STREAM)?;
+            }
+        }
+        Ok(())
+    }
+
+    /// How many words the MiniFAT has, without the free ones at its end.
+    fn minifat_len(&mut self, minifat: &[u32]) -> Result<u64, Error>
+        ensures { IsTrue F.tells → F.bytes self.new.medium ≡ F.bytes self.old.medium }
+    {
+        let mut len = 0u64;
         let mut used = 0u64;
-        let mut first = 0u64;
         for sector in minifat {
             let loaded = self.load(*sector)?;
             for index in 0..self.version.words_per_sector() {
+                len = len.saturating_add(1);
                 if loaded.word(index) != FREE_SECTOR {
-                    used = first.saturating_add(index as u64 + 1);
+                    used = len;
                 }
             }
-            first = first.saturating_add(words);
         }
-        let len = used.min(most);
-        first = 0;
+        Ok(used)
+    }
+
+    /// Ends the chains of mini sectors that go on past the end of the MiniFAT, which has so many words.
+    fn mend_minifat(&mut self, minifat: &[u32], len: u64) -> Result<(), Error>
+        ensures { IsTrue F.tells → F.bytes self.new.medium ≡ F.bytes self.old.medium }
+    {
         for sector in minifat {
             let loaded = self.load(*sector)?;
-            let start = self.start_of(*sector);
             for index in 0..self.version.words_per_sector() {
                 let word = loaded.word(index);
-                let number = first.saturating_add(index as u64);
-                if number < len && word <= MAX_REGULAR_SECTOR && len <= u64::from(word) {
-                    self.set_word(start + 4 * index as u64, END_OF_CHAIN)?;
+                if word <= MAX_REGULAR_SECTOR && len <= u64::from(word) {
+                    let at = self.place_of(*sector, index);
+                    self.set_word(at, END_OF_CHAIN)?;
                 }
             }
-            first = first.saturating_add(words);
         }
         Ok(())
     }
@@ -355,15 +439,18 @@ fn is_padding(word: u32) -> bool {
 /// # Errors
 ///
 /// `InvalidData` where it has no header, `Memory`, and `Medium` where the medium fails.
-pub fn mended<F: ReadMedium, A: Heap + Clone>(heap: A, medium: F) -> Result<Mended<F, A>, Error> {
+pub fn mended<F: ReadMedium, A: Heap + Clone>(heap: A, medium: F) -> Result<Mended<F, A>, Error>
+    ensures { IsTrue F.tells → IfOk result (λ new. F.bytes new.medium ≡ F.bytes medium) }
+{
     let (mut scan, header) = Scan::start(heap, medium)?;
     scan.list_fat(&header)?;
     scan.mend_fat()?;
     let directory = scan.mend_chain(FIRST_DIR_AT)?;
-    let (kinds, mini_sectors) = scan.kinds(&directory)?;
+    let (kinds, root_len) = scan.kinds(&directory)?;
     scan.mend_slots(&directory, &kinds)?;
     let minifat = scan.mend_chain(FIRST_MINIFAT_AT)?;
-    scan.mend_minifat(&minifat, mini_sectors)?;
+    let len = scan.minifat_len(&minifat)?;
+    scan.mend_minifat(&minifat, len.min(root_len / 64))?;
     let Scan {
         medium,
         patches,
@@ -373,5 +460,5 @@ pub fn mended<F: ReadMedium, A: Heap + Clone>(heap: A, medium: F) -> Result<Mend
         fat: _,
         heap: _,
     } = scan;
-    Ok(Mended::new(medium, patches))
+    Ok(Mended { medium, patches })
 }

@@ -1,6 +1,6 @@
 //! Words of a file that are read as others.
 ghost use Rattle.std.specs.Prelude.{◌≡◌, length};
-ghost use Rattle.cfb_mending.specs.Mended.{bytes_with, mended_from};
+ghost use Rattle.cfb_mending.specs.Mended.{byte_with, bytes_with, mended_from};
 
 use cfb_format::medium::{MediumFault, ReadMedium};
 use std::alloc::{Allocator as Heap, Global};
@@ -17,6 +17,17 @@ pub struct Patch {
 }
 
 impl Patch {
+    /// The byte at that place, which is this one without the patch.
+    fn byte_at(self, place: u64, byte: u8) -> u8
+        ensures { result ≡ byte_with self place byte }
+    {
+        if self.at <= place && place < self.end {
+            let word = self.word.to_le_bytes();
+            return word[((place - self.at) % 4) as usize];
+        }
+        byte
+    }
+
     /// Sets those of these bytes that it covers. The first of them stands at `place` in the file.
     fn set_in(self, place: u64, bytes: &mut [u8])
         ensures { bytes.new ≡ bytes_with self place bytes.old }
@@ -25,13 +36,10 @@ impl Patch {
         if self.end <= place || last <= self.at {
             return;
         }
-        let word = self.word.to_le_bytes();
-        for (index, byte) in bytes.iter_mut().enumerate() {
-            // No place that is past the greatest number is covered.
+        for index in 0..bytes.len() {
+            // No place past the greatest number is covered.
             let here = place.saturating_add(index as u64);
-            if self.at <= here && here < self.end {
-                *byte = word[((here - self.at) % 4) as usize];
-            }
+            bytes[index] = self.byte_at(here, bytes[index]);
         }
     }
 }
@@ -48,28 +56,10 @@ fn set_all(patches: &[Patch], place: u64, bytes: &mut [u8])
 /// A medium some of whose words are read as others. It has as many bytes as the one below.
 #[derive(Drop)]
 pub struct Mended<F: ReadMedium, A: Heap = Global> {
-    medium: F,
-    patches: Vec<Patch, A>,
-}
-
-impl<F: ReadMedium, A: Heap> Mended<F, A> {
-    ghost use Rattle.cfb_mending.specs.Mended.{mended};
-
-    /// The medium with these patches.
-    pub fn new(medium: F, patches: Vec<Patch, A>) -> Mended<F, A> {
-        Mended { medium, patches }
-    }
-
-    /// What is read otherwise.
-    pub fn patches(&self) -> &[Patch] {
-        &self.patches
-    }
-
     /// The medium below.
-    pub fn into_inner(self) -> F {
-        let Mended { medium, patches: _ } = self;
-        medium
-    }
+    pub medium: F,
+    /// What is read otherwise.
+    pub patches: Vec<Patch, A>,
 }
 
 impl<F: ReadMedium, A: Heap> ReadMedium for Mended<F, A> {

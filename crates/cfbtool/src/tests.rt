@@ -21,6 +21,7 @@ mod lists;
 mod opening;
 mod puts;
 mod runs;
+mod salvages;
 mod shows;
 
 /// A step of a test. A word or a name that begins with `@` is a file of the test's folder.

@@ -5,9 +5,10 @@ use crate::refusal::{About, Refusal, tell, tell_wrong};
 use cfb_tool::asking::{Asked, asked_by};
 use cfb_tool::word::{Word, word_by};
 use changes::{change_one, put_from, put_input, run_explained, run_input};
-use copies::{compact, salvage};
+use copies::compact;
 use files::{create, is_there};
 use looks::look;
+use salvaging::salvage;
 use std::fs::File;
 use std::io::{Read, Write};
 use std::process::ExitCode;
@@ -23,6 +24,7 @@ mod info;
 mod lines;
 mod looks;
 mod map;
+mod salvaging;
 mod tree;
 
 /// Does what the words say, with `input` as standard input, `out` as standard output and `faults`

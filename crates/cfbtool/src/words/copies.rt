@@ -4,7 +4,6 @@ use crate::lent::Lent;
 use crate::refusal::Refusal;
 use cfb::{CompoundFile, Error, Medium, ReadMedium};
 use std::fs::File;
-use std::io::Write;
 use std::rt::Files;
 
 /// `compact`. Something at the target is found before the file is opened.
@@ -41,15 +40,4 @@ fn copy_into<F: ReadMedium, T: Medium>(
 ) -> Result<(), Refusal> {
     let _copy = file.copy_to(medium)?;
     Ok(())
-}
-
-/// `salvage`.
-pub(super) fn salvage<H: Files<File = File> + AllocGlobal, W: Write>(
-    rt: &H,
-    path: &str,
-    target: &str,
-    out: &mut W,
-) -> Result<(), Refusal> {
-    let _ = (rt, path, target, out);
-    Err(Refusal::WrongWords)
 }
