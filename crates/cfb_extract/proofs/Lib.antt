@@ -1,0 +1,7 @@
+mod Levels
+mod Walking
+mod Longer
+mod Flat
+mod Named
+mod Streams
+mod Told

@@ -1,0 +1,9 @@
+pub mod Items
+pub mod Walks
+pub mod Memory
+pub mod Pieces
+pub mod Breaks
+pub mod Sources
+pub mod Extracted
+pub mod Steps
+pub mod Cuts

@@ -1,0 +1,7 @@
+pub mod Appending
+pub mod Apart
+pub mod Bytes
+pub mod Codes
+pub mod Files
+pub mod Meaning
+pub mod Reading
