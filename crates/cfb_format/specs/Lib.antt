@@ -1,6 +1,7 @@
 pub mod Medium
 pub mod Memory
 pub mod Refused
+pub mod StdKinds
 pub mod Bytes
 pub mod Runs
 pub mod Header
