@@ -198,7 +198,7 @@ fn is_printed(alloc: Global, entry: &DirEntry, text: &str) -> Result<bool, Error
 fn is_read(alloc: Global, row: &Row) -> Result<bool, Error> {
     let (kind, parts, version, mode, text, others) = *row;
     let slot = with(foobar(kind), parts);
-    let entry = DirEntry::read_from(alloc, &slot, version, mode)?;
+    let entry = DirEntry::read_from(alloc, 0, &slot, version, mode)?;
     let mut written = [0xaa; DIR_ENTRY_LEN];
     entry.write_to(&mut written);
     Ok(is_printed(alloc, &entry, text)? && written == with(slot, others))
@@ -240,7 +240,7 @@ const MODES: [Mode; 37] = [
 
 /// The number of the error, or 0.
 fn refusal(alloc: Global, slot: &Slot, version: Version, mode: Validation) -> u8 {
-    match DirEntry::read_from(alloc, slot, version, mode) {
+    match DirEntry::read_from(alloc, 0, slot, version, mode) {
         Ok(_) => 0,
         Err(e) => e.number(),
     }

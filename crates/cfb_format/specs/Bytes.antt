@@ -43,11 +43,6 @@ abbrev pub version_number : Version → ℕ
 version_number V3 = 3
 version_number V4 = 4
 
--- the major version as text: the digit 3 or 4
-abbrev pub version_text : Version → List ℕ
-version_text V3 = 51 ∷ []
-version_text V4 = 52 ∷ []
-
 -- the sector shift: a sector has 2 to this many bytes (MS-CFB 2.2)
 abbrev pub sector_shift : Version → ℕ
 sector_shift V3 = 9

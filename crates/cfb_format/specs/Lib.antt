@@ -1,7 +1,6 @@
 pub mod Medium
 pub mod Memory
 pub mod Refused
-pub mod StdKinds
 pub mod Bytes
 pub mod Runs
 pub mod Header
@@ -20,3 +19,5 @@ pub mod Soundness
 pub mod Full
 pub mod Created
 pub mod Laws
+pub mod StdKinds
+pub mod VersionText

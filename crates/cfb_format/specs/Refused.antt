@@ -2,7 +2,7 @@
 use Rattle.std.specs.Prelude.{◌≡◌, ℕ, List, [], ◌∷◌, Bool, true, false, Result, MatchResult, ⊤}
 use Rattle.cfb_format.specs.Medium.{FailsBy}
 use Rattle.cfb_format.specs.declared.error.Detail.{Detail}
-use Rattle.cfb_format.specs.declared.error.Numbers.TheVariants.{Empty, One, Two, Three}
+use Rattle.cfb_format.specs.declared.error.Numbers.TheVariants.{Empty, One, Two}
 use Rattle.cfb_format.specs.declared.error.Numbers.{Numbers}
 use Rattle.cfb_format.specs.declared.error.Error.{Error}
 use Rattle.cfb_format.specs.declared.error.Error.TheVariants.{NotFound, AlreadyExists, InvalidInput, InvalidData, Medium, Memory, Full, Unsound, Failed}
@@ -28,11 +28,10 @@ abbrev pub all_of : Numbers → List ℕ
 all_of Empty = []
 all_of (One first) = first ∷ []
 all_of (Two first second) = first ∷ second ∷ []
-all_of (Three first second third) = first ∷ second ∷ third ∷ []
 
--- the numbers that it tells, in order
-abbrev pub numbers_told : Detail → List ℕ
-numbers_told detail = all_of detail.numbers
+-- the numbers that are printed behind it
+abbrev pub numbers_behind : Detail → List ℕ
+numbers_behind detail = all_of detail.numbers
 
 -- what holds at an error of each kind. It is the one table of all kinds: a clause on refusals says it of the kinds that the call can
 -- answer, and leaves all others out

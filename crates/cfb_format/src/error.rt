@@ -1,8 +1,8 @@
 //! What a call may be refused with.
-ghost use Rattle.std.specs.Prelude.{◌≡◌, ◌∷◌, []};
+ghost use Rattle.std.specs.Prelude.{◌≡◌, ◌∷◌, [], ◌+◌, ◌*◌, ◌^◌};
 ghost use Rattle.std.specs.IoError.{error_kind};
 ghost use Rattle.cfb_format.specs.declared.error.Error.TheVariants.{Memory, Medium};
-ghost use Rattle.cfb_format.specs.Refused.{number_of, text_of, numbers_told};
+ghost use Rattle.cfb_format.specs.Refused.{number_of, text_of, numbers_behind};
 ghost use Rattle.cfb_format.specs.StdKinds.{std_kind};
 
 use crate::medium::MediumFault;
@@ -13,12 +13,13 @@ use std::io;
 use std::io::ErrorKind;
 use thiserror::Error;
 
-/// What a refusal was about: a text, and up to three numbers that it tells, as of a sector or a
+/// What a refusal was about: a text, and up to two numbers that it tells, as of a sector or a
 /// length. It takes no memory.
 ///
 /// A text may have places for its numbers: `{}` prints one in decimal, `{x}` in hexadecimal as
-/// `0x1f`, and `{bytes}` as the 8 bytes that hold it, lowest first. The numbers of a text without
-/// places stand behind it, as `text (1, 2)`.
+/// `0x1f`, `{bytes}` as the 8 bytes that hold it, lowest first, and `{two}` as the two numbers of
+/// 32 bits that it is made of, as `7 and 9`. The numbers of a text without places stand behind it,
+/// as `text (1, 2)`.
 #[derive(Clone, Copy, Debug, PartialEq, Eq)]
 pub struct Detail {
     text: &'static str,
@@ -31,14 +32,13 @@ enum Numbers {
     Empty,
     One(u64),
     Two(u64, u64),
-    Three(u64, u64, u64),
 }
 
 impl Detail {
     /// A text alone.
     pub fn text(text: &'static str) -> Detail
         ensures text { text_of result ≡ text.now }
-        ensures numbers { numbers_told result ≡ [] }
+        ensures numbers { numbers_behind result ≡ [] }
     {
         Detail {
             text,
@@ -49,7 +49,7 @@ impl Detail {
     /// A text that tells one number.
     pub fn number(text: &'static str, first: u64) -> Detail
         ensures text { text_of result ≡ text.now }
-        ensures numbers { numbers_told result ≡ first ∷ [] }
+        ensures numbers { numbers_behind result ≡ first ∷ [] }
     {
         Detail {
             text,
@@ -61,7 +61,7 @@ impl Detail {
     /// `entry 44: type 7`.
     pub fn numbers(text: &'static str, first: u64, second: u64) -> Detail
         ensures text { text_of result ≡ text.now }
-        ensures numbers { numbers_told result ≡ first ∷ second ∷ [] }
+        ensures numbers { numbers_behind result ≡ first ∷ second ∷ [] }
     {
         Detail {
             text,
@@ -69,15 +69,14 @@ impl Detail {
         }
     }
 
-    /// A text that tells three numbers.
-    pub fn three_numbers(text: &'static str, first: u64, second: u64, third: u64) -> Detail
+    /// A text that tells three sectors: its place `{two}` prints the first two of them, as
+    /// `7 and 9`, and the place behind that the third.
+    pub fn sectors(text: &'static str, first: u32, second: u32, third: u32) -> Detail
         ensures text { text_of result ≡ text.now }
-        ensures numbers { numbers_told result ≡ first ∷ second ∷ third ∷ [] }
+        ensures numbers { numbers_behind result ≡ (first * 2 ^ 32 + second) ∷ third ∷ [] }
     {
-        Detail {
-            text,
-            numbers: Numbers::Three(first, second, third),
-        }
+        let two = u64::from(first) * (1 << 32) + u64::from(second);
+        Detail::numbers(text, two, u64::from(third))
     }
 }
 
@@ -101,11 +100,8 @@ impl fmt::Display for Detail {
 
 fn number_at(numbers: Numbers, index: usize) -> Option<u64> {
     match (index, numbers) {
-        (0, Numbers::One(first) | Numbers::Two(first, _) | Numbers::Three(first, _, _)) => {
-            Some(first)
-        }
-        (1, Numbers::Two(_, second) | Numbers::Three(_, second, _)) => Some(second),
-        (2, Numbers::Three(_, _, third)) => Some(third),
+        (0, Numbers::One(first) | Numbers::Two(first, _)) => Some(first),
+        (1, Numbers::Two(_, second)) => Some(second),
         _ => None,
     }
 }
@@ -122,6 +118,10 @@ fn write_number<W: fmt::Write>(
             let [a, b, c, d, e, g, h, i] = number.to_le_bytes();
             write!(f, "{a:02x} {b:02x} {c:02x} {d:02x} {e:02x} {g:02x} {h:02x} {i:02x}")
         }
+        "two" => {
+            let (first, second) = (number >> 32, number & 0xffff_ffff);
+            write!(f, "{first} and {second}")
+        }
         _ => write!(f, "{number}"),
     }
 }
@@ -132,7 +132,6 @@ fn write_behind<W: fmt::Write>(f: &mut fmt::Formatter<W>, numbers: Numbers) -> f
         Numbers::Empty => Ok(()),
         Numbers::One(first) => write!(f, " ({first})"),
         Numbers::Two(first, second) => write!(f, " ({first}, {second})"),
-        Numbers::Three(first, second, third) => write!(f, " ({first}, {second}, {third})"),
     }
 }
 

@@ -2,7 +2,7 @@
 ghost use Rattle.std.specs.Prelude.{◌≡◌, ◌-◌, IfSome, IfNone, MatchResult, Some};
 ghost use Rattle.cfb_format.specs.declared.version.Version.{Version as VersionOf};
 ghost use Rattle.cfb_format.specs.Bytes.{version_number, sector_shift, sector_len, words_per_sector, entries_per_sector, max_stream_len};
-ghost use Rattle.cfb_format.specs.Bytes.{version_text};
+ghost use Rattle.cfb_format.specs.VersionText.{version_text};
 ghost use Rattle.cfb_format.specs.Refused.{IsInvalidInput};
 
 use crate::error::{Detail, Error};
