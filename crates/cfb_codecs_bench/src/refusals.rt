@@ -104,7 +104,13 @@ fn is_entry<A: Allocator>(alloc: A) -> Result<bool, Error> {
 
 /// The name that stands there is read first, and then the root has its own.
 fn is_root_of_other_name<A: Allocator>(alloc: A) -> Result<bool, Error> {
-    let root = DirEntry::read_from(alloc, 0, &green_slot(5), Version::V3, Validation::Permissive)?;
+    let root = DirEntry::read_from(
+        alloc,
+        0,
+        &green_slot(5),
+        Version::V3,
+        Validation::Permissive,
+    )?;
     Ok(root.name.as_str() == "Root Entry")
 }
 

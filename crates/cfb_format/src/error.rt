@@ -7,10 +7,9 @@ ghost use Rattle.cfb_format.specs.StdKinds.{std_kind};
 
 use crate::medium::MediumFault;
 use std::alloc::{AllocError, AllocFailed};
-use std::fmt;
 use std::fmt::InlineText;
-use std::io;
 use std::io::ErrorKind;
+use std::{fmt, io};
 use thiserror::Error;
 
 /// What a refusal was about: a text, and up to two numbers that it tells, as of a sector or a
@@ -107,16 +106,15 @@ fn number_at(numbers: Numbers, index: usize) -> Option<u64> {
 }
 
 /// Writes a number in the form of its place.
-fn write_number<W: fmt::Write>(
-    f: &mut fmt::Formatter<W>,
-    form: &str,
-    number: u64,
-) -> fmt::Result {
+fn write_number<W: fmt::Write>(f: &mut fmt::Formatter<W>, form: &str, number: u64) -> fmt::Result {
     match form {
         "x" => write!(f, "{number:#x}"),
         "bytes" => {
             let [a, b, c, d, e, g, h, i] = number.to_le_bytes();
-            write!(f, "{a:02x} {b:02x} {c:02x} {d:02x} {e:02x} {g:02x} {h:02x} {i:02x}")
+            write!(
+                f,
+                "{a:02x} {b:02x} {c:02x} {d:02x} {e:02x} {g:02x} {h:02x} {i:02x}"
+            )
         }
         "two" => {
             let (first, second) = (number >> 32, number & 0xffff_ffff);

@@ -161,9 +161,16 @@ fn wrong_field(bytes: &[u8; consts::HEADER_LEN]) -> Error
         return invalid(Detail::number("version {} is neither 3 nor 4", number));
     };
     invalid(if byte_order != consts::BYTE_ORDER_MARK {
-        Detail::number("byte order mark {x} in place of 0xfffe", u64::from(byte_order))
+        Detail::number(
+            "byte order mark {x} in place of 0xfffe",
+            u64::from(byte_order),
+        )
     } else if shift != version.sector_shift() {
-        Detail::numbers("sectors of 2^{} bytes in version {}", u64::from(shift), number)
+        Detail::numbers(
+            "sectors of 2^{} bytes in version {}",
+            u64::from(shift),
+            number,
+        )
     } else if mini_shift != consts::MINI_SECTOR_SHIFT {
         Detail::number("mini sectors of 2^{} bytes", u64::from(mini_shift))
     } else {

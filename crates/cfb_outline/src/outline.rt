@@ -102,11 +102,7 @@ fn walk_siblings<A: Allocator>(
         }
         if !precedes(cases, entries, number, last) {
             let later = last.unwrap_or(number);
-            return Err(malformed_pair(
-                "entries {} and {}: names out of order",
-                number,
-                later,
-            ));
+            return Err(malformed_pair("entries {} and {}: names out of order", number, later));
         }
         pending.push(number)?;
         last = Some(number);
@@ -162,7 +158,9 @@ fn are_red_apart<A: Allocator>(entries: &[DirEntry<A>], order: &[u32]) -> bool
 fn red_below_red<A: Allocator>(entries: &[DirEntry<A>], order: &[u32]) -> Error
     ensures { (detail : _) × (result ≡ Error.InvalidData detail) }
 {
-    let upper = order.iter().find(|number| !keeps_red_apart(entries, **number));
+    let upper = order
+        .iter()
+        .find(|number| !keeps_red_apart(entries, **number));
     let upper = upper.copied().unwrap_or(0);
     malformed_pair(
         "strict: entry {}: red below red entry {}",

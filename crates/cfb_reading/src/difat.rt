@@ -106,9 +106,7 @@ fn are_entries(words: &[u32]) -> bool
 fn lists_no_sector(sector: u32, entries: &[u32]) -> Error
     ensures { IsInvalidData result }
 {
-    let wrong = entries
-        .iter()
-        .find(|word| **word > MAX_REGULAR_SECTOR && **word != FREE_SECTOR);
+    let wrong = entries.iter().find(|word| **word > MAX_REGULAR_SECTOR && **word != FREE_SECTOR);
     invalid(
         "DIFAT: sector {} lists {x}, which is no sector",
         u64::from(sector),
@@ -117,12 +115,7 @@ fn lists_no_sector(sector: u32, entries: &[u32]) -> Error
 }
 
 /// Whether a DIFAT sector may list these entries and name this one next. `InvalidData`.
-fn check_words(
-    sector: u32,
-    entries: &[u32],
-    next: u32,
-    validation: Validation,
-) -> Result<(), Error>
+fn check_words(sector: u32, entries: &[u32], next: u32, validation: Validation) -> Result<(), Error>
     ensures ok { OnOk result (AreDifatWords validation entries.now next) }
     ensures err { IfErr result (λ e. IsInvalidData e
         × (AreDifatWords validation entries.now next → ⊥)) }

@@ -72,12 +72,7 @@ fn sector_at(index: usize) -> u32 {
 
 /// A refusal of words past the last of so many sectors, the first of which is that of the sector
 /// `first`: it tells the sector of the first that is no padding.
-pub fn used_past_end(
-    words: &[u32],
-    first: usize,
-    num_sectors: u32,
-    validation: Validation,
-) -> Error
+pub fn used_past_end(words: &[u32], first: usize, num_sectors: u32, validation: Validation) -> Error
     ensures { IsInvalidData result }
 {
     let used = words.iter().position(|word| !is_padding(*word, validation));
@@ -95,7 +90,10 @@ pub fn shared(text: &'static str, table: &[u32], second: usize) -> Error
     ensures { IsInvalidData result }
 {
     let next = table.get(second).copied().unwrap_or(END_OF_CHAIN);
-    let first = table.iter().position(|word| *word == next).unwrap_or(second);
+    let first = table
+        .iter()
+        .position(|word| *word == next)
+        .unwrap_or(second);
     Error::InvalidData(Detail::sectors(text, sector_at(first), sector_at(second), next))
 }
 
@@ -150,7 +148,9 @@ fn are_marked(words: &[u32], listed: &[u32], mark: u32) -> bool
 fn unmarked(text: &'static str, words: &[u32], listed: &[u32], mark: u32) -> Error
     ensures { IsInvalidData result }
 {
-    let other = listed.iter().find(|sector| word_in(words, **sector) != mark);
+    let other = listed
+        .iter()
+        .find(|sector| word_in(words, **sector) != mark);
     invalid(text, other.copied().unwrap_or(0))
 }
 
