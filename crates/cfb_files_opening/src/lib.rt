@@ -11,16 +11,18 @@ ghost use Rattle.cfb_compound_file.specs.Opening.{IsOfCreating, permissive_optio
 ghost use Rattle.cfb_compound_file.specs.Taken.{TakesOptions};
 
 use cfb_compound_file::compound_file::CompoundFile;
+use cfb_compound_file::options::OpenOptions;
 use cfb_files::file::{FileMedium, FileReadMedium};
 use cfb_format::error::Error;
 use std::alloc::Allocator as Heap;
 use std::fs::File;
+use std::random::RandomSource;
 use std::rt::Files;
 
 /// Opens the compound file at this path of the system, to be read.
 ///
 /// `Medium(Open)` where the file is not opened; else it is refused as `CompoundFile::open` is.
-pub fn open<R: Files<File = File>, A: Heap + Clone>(
+pub fn open<R: Files<File = File> + RandomSource, A: Heap + Clone>(
     rt: &R,
     alloc: A,
     path: &str,
@@ -30,13 +32,15 @@ pub fn open<R: Files<File = File>, A: Heap + Clone>(
     ensures kinds { IfErr result IsOfOpening }
 {
     let medium = FileReadMedium::open(rt, path)?;
-    CompoundFile::open(alloc, medium)
+    OpenOptions::new()
+        .seed(seed_of(rt))
+        .open_with(alloc, medium)
 }
 
 /// Opens the compound file at this path of the system, to be read and changed in place.
 ///
 /// `Medium(Open)` where the file is not opened; else it is refused as `CompoundFile::open` is.
-pub fn open_rw<R: Files<File = File>, A: Heap + Clone>(
+pub fn open_rw<R: Files<File = File> + RandomSource, A: Heap + Clone>(
     rt: &R,
     alloc: A,
     path: &str,
@@ -46,14 +50,16 @@ pub fn open_rw<R: Files<File = File>, A: Heap + Clone>(
     ensures kinds { IfErr result IsOfOpening }
 {
     let medium = FileMedium::open(rt, path)?;
-    CompoundFile::open(alloc, medium)
+    OpenOptions::new()
+        .seed(seed_of(rt))
+        .open_with(alloc, medium)
 }
 
 /// Makes a compound file of version 4 with nothing in it at this path of the system. An older file
 /// there is emptied first.
 ///
 /// `Medium(Open)` where the file is not opened; else it is refused as `CompoundFile::create` is.
-pub fn create<R: Files<File = File>, A: Heap + Clone>(
+pub fn create<R: Files<File = File> + RandomSource, A: Heap + Clone>(
     rt: &R,
     alloc: A,
     path: &str,
@@ -64,5 +70,16 @@ pub fn create<R: Files<File = File>, A: Heap + Clone>(
     ensures kinds { IfErr result IsOfCreating }
 {
     let medium = FileMedium::create(rt, path)?;
-    CompoundFile::create(alloc, medium)
+    OpenOptions::new()
+        .seed(seed_of(rt))
+        .create_with(alloc, medium)
+}
+
+/// A number that nobody knows, for the indexes of names; 0 where the system gives none.
+fn seed_of<R: RandomSource>(rt: &R) -> u64 {
+    let mut bytes = [0; 8];
+    match rt.fill_bytes(&mut bytes) {
+        Ok(()) => u64::from_le_bytes(bytes),
+        Err(_) => 0,
+    }
 }
