@@ -196,3 +196,16 @@ fn is_header_printed(alloc: Global) -> Result<bool, Error> {
 fn headers_are_printed(rt: HostRuntime) {
     check(&rt, &is_header_printed(rt.alloc()), 0);
 }
+
+/// Whether a count of the directory's sectors in a header of version 3 is refused strictly, and read as none else.
+fn is_count_read(header: &[u8; HEADER_LEN]) -> Result<bool, Error> {
+    let strict = Header::read_from(header, Validation::Strict);
+    let permissive = Header::read_from(header, Validation::Permissive)?;
+    Ok(matches!(strict, Err(Error::InvalidData(_))) && permissive.num_dir_sectors == 0)
+}
+
+#[test]
+fn directory_sectors_of_version_3_are_not_counted(rt: HostRuntime) {
+    let header = with([0xff; HEADER_LEN], &[(0, HEADER), (40, &[37, 0, 0, 0])]);
+    check(&rt, &is_count_read(&header), 0);
+}
