@@ -25,24 +25,19 @@ fn malformed(text: &'static str, number: u32) -> Error
     Error::InvalidData(Detail::number(text, u64::from(number)))
 }
 
-/// The refusal of what stands at the entries of these two numbers.
-fn malformed_pair(text: &'static str, first: u32, second: u32) -> Error
-    ensures { (detail : _) × (result ≡ Error.InvalidData detail) }
-{
-    let (first, second) = (u64::from(first), u64::from(second));
-    Error::InvalidData(Detail::numbers(text, first, second))
+/// What is told of the entries of these two numbers.
+fn of_pair(text: &'static str, first: u32, second: u32) -> Detail {
+    Detail::numbers(text, u64::from(first), u64::from(second))
 }
 
-/// The refusal of a first entry that is no root, or a root whose length is no whole mini sectors.
-fn no_root<A: Allocator>(entries: &[DirEntry<A>]) -> Error
-    ensures { (detail : _) × (result ≡ Error.InvalidData detail) }
-{
+/// What is told of a first entry that is no root, or a root whose length is no whole mini sectors.
+fn no_root<A: Allocator>(entries: &[DirEntry<A>]) -> Detail {
     match entries.first() {
-        Some(root) if root.obj_type == ObjType::Root => Error::InvalidData(Detail::number(
+        Some(root) if root.obj_type == ObjType::Root => Detail::number(
             "entry 0: the length of the mini stream, {}, is no multiple of 64",
             root.stream_len,
-        )),
-        _ => Error::InvalidData(Detail::text("entry 0: not the root")),
+        ),
+        _ => Detail::text("entry 0: not the root"),
     }
 }
 
@@ -102,7 +97,8 @@ fn walk_siblings<A: Allocator>(
         }
         if !precedes(cases, entries, number, last) {
             let later = last.unwrap_or(number);
-            return Err(malformed_pair("entries {} and {}: names out of order", number, later));
+            let detail = of_pair("entries {} and {}: names out of order", number, later);
+            return Err(Error::InvalidData(detail));
         }
         pending.push(number)?;
         last = Some(number);
@@ -127,7 +123,7 @@ fn reach<A: Allocator + Clone>(
         return Err(Error::InvalidData(Detail::text("the directory has no entry")));
     }
     if !has_root(entries) {
-        return Err(no_root(entries));
+        return Err(Error::InvalidData(no_root(entries)));
     }
     let mut seen = no_marks(alloc.clone()?, entries.len())?;
     seen[0] = true;
@@ -154,19 +150,14 @@ fn are_red_apart<A: Allocator>(entries: &[DirEntry<A>], order: &[u32]) -> bool
     order.iter().all(|number| keeps_red_apart(entries, *number))
 }
 
-/// The refusal of the first of these entries under which a red one hangs and which is red itself.
-fn red_below_red<A: Allocator>(entries: &[DirEntry<A>], order: &[u32]) -> Error
-    ensures { (detail : _) × (result ≡ Error.InvalidData detail) }
-{
+/// What is told of the first of these entries that is red, and under which a red one hangs.
+fn red_below_red<A: Allocator>(entries: &[DirEntry<A>], order: &[u32]) -> Detail {
     let upper = order
         .iter()
         .find(|number| !keeps_red_apart(entries, **number));
     let upper = upper.copied().unwrap_or(0);
-    malformed_pair(
-        "strict: entry {}: red below red entry {}",
-        red_child(entries, upper),
-        upper,
-    )
+    let lower = red_child(entries, upper);
+    of_pair("strict: entry {}: red below red entry {}", lower, upper)
 }
 
 /// The numbers of all entries that are reached from the root, a storage before what is in it and
@@ -196,7 +187,8 @@ pub fn reached_entries<A: Allocator + Clone>(
             if are_red_apart(entries, order.as_slice()) {
                 Ok(order)
             } else {
-                Err(red_below_red(entries, order.as_slice()))
+                let detail = red_below_red(entries, order.as_slice());
+                Err(Error::InvalidData(detail))
             }
         }
     }
