@@ -4,10 +4,8 @@
 mod error;
 mod fields;
 mod hex;
-pub mod laws;
 pub mod lines;
 mod numbers;
-pub mod word;
-pub mod writing;
+mod word;
 
-pub use error::{LineError, LinesError, WrongLine};
+pub use error::LinesError;
