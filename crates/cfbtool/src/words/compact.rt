@@ -1,4 +1,6 @@
 //! `compact`.
+ghost use Rattle.std.specs.Prelude.{◌≡◌, [], IsTrue};
+
 use super::files::{is_there, opened, to_make, to_read};
 use crate::lent::Lent;
 use crate::refusal::Refusal;
@@ -35,10 +37,9 @@ fn copy_to<H: Files<File = File> + AllocGlobal, F: ReadMedium>(
     }
 }
 
-fn copy_into<F: ReadMedium, T: Medium>(
-    file: &mut CompoundFile<F>,
-    medium: T,
-) -> Result<(), Refusal> {
+fn copy_into<F: ReadMedium, T: Medium>(file: &mut CompoundFile<F>, medium: T) -> Result<(), Refusal>
+    requires empty_medium { IsTrue T.tells → T.bytes medium ≡ [] }
+{
     let _copy = file.copy_to(medium)?;
     Ok(())
 }

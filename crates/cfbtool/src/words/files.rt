@@ -1,4 +1,6 @@
 //! Files of the system, opened for the words.
+ghost use Rattle.std.specs.Prelude.{◌≡◌, [], IsTrue};
+
 use crate::lent::Lent;
 use crate::refusal::Refusal;
 use cfb::{CompoundFile, FileMedium, FileReadMedium, Medium, ReadMedium, Version};
@@ -80,7 +82,9 @@ pub(super) fn create<H: Files<File = File> + AllocGlobal>(
     made.map_err(|refusal| refusal.because(medium.last_error()))
 }
 
-fn create_in<F: Medium>(alloc: Global, version: Version, medium: F) -> Result<(), Refusal> {
+fn create_in<F: Medium>(alloc: Global, version: Version, medium: F) -> Result<(), Refusal>
+    requires empty_medium { IsTrue F.tells → F.bytes medium ≡ [] }
+{
     CompoundFile::create_with_version(alloc, version, medium)?;
     Ok(())
 }

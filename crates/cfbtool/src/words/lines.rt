@@ -79,13 +79,18 @@ pub(super) fn explain<E: Output>(
     faults: &mut E,
 ) -> io::Result<()> {
     let comments = comment_count(text);
-    let mut lines = text.split(|byte| *byte == b'\n').skip(comments).enumerate();
-    for (at, e) in refusals {
-        let number = at.saturating_add(comments).saturating_add(1);
-        let line = lines.find(|(place, _)| place == at);
-        let (word, path) = line_head(line.map_or(b"", |(_, line)| line));
-        let (word, path) = (Shown(word), Shown(path));
-        writeln!(faults, "cfbtool: line {number}: {word} {path}: {e}")?;
+    let mut rest = refusals;
+    for (place, line) in text.split(|byte| *byte == b'\n').skip(comments).enumerate() {
+        let Some(((at, e), others)) = rest.split_first() else {
+            break;
+        };
+        if *at == place {
+            let number = at.saturating_add(comments).saturating_add(1);
+            let (word, path) = line_head(line);
+            let (word, path) = (Shown(word), Shown(path));
+            writeln!(faults, "cfbtool: line {number}: {word} {path}: {e}")?;
+            rest = others;
+        }
     }
     Ok(())
 }
