@@ -3,7 +3,7 @@ use Rattle.std.specs.Prelude.{ℕ, ◌+◌, ◌*◌, ◌/◌, ◌%◌, ◌≡◌
 use Rattle.std.specs.List.{AllByRecursion}
 use Rattle.cfb_text.specs.Shown.{hex_digit, is_hidden}
 
--- a hidden character, or one of " * / : < > ? \ | , which some system gives a meaning
+-- a hidden character, or a quotation mark, star, slash, colon, angle bracket, question mark, backslash or bar, which some system gives a meaning
 abbrev pub is_barred : ℕ → Bool
 is_barred c = is_hidden c || c == 34 || c == 42 || c == 47 || c == 58 || c == 60 || c == 62 || c == 63 || c == 92 || c == 124
 
