@@ -10,4 +10,4 @@ pub use cfb_table_words::run::{run_from, run_of};
 pub use cfb_table_words::stretch::stretch_at;
 pub use cfb_tables::consecutive::count_consecutive;
 pub use cfb_tables::ends::{first_number, last_number};
-pub use cfb_tables::fat::are_padding;
+pub use cfb_tables::fat::{are_padding, used_past_end};

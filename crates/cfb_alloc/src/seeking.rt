@@ -154,7 +154,7 @@ fn unknown(sector: u32, count: usize) -> Error
     ensures { IsInvalidData result }
 {
     Error::InvalidData(Detail::numbers(
-        "sector beyond the sectors of the file",
+        "sector {} is not in the file, which has {} sectors",
         sector as u64,
         count as u64,
     ))

@@ -98,13 +98,19 @@ fn green_slot(kind: u8) -> [u8; DIR_ENTRY_LEN] {
 }
 
 fn is_entry<A: Allocator>(alloc: A) -> Result<bool, Error> {
-    let entry = DirEntry::read_from(alloc, &green_slot(1), Version::V4, Validation::Strict)?;
+    let entry = DirEntry::read_from(alloc, 0, &green_slot(1), Version::V4, Validation::Strict)?;
     Ok(entry.name.as_str() == "Gr\u{fc}n")
 }
 
 /// The name that stands there is read first, and then the root has its own.
 fn is_root_of_other_name<A: Allocator>(alloc: A) -> Result<bool, Error> {
-    let root = DirEntry::read_from(alloc, &green_slot(5), Version::V3, Validation::Permissive)?;
+    let root = DirEntry::read_from(
+        alloc,
+        0,
+        &green_slot(5),
+        Version::V3,
+        Validation::Permissive,
+    )?;
     Ok(root.name.as_str() == "Root Entry")
 }
 

@@ -1,15 +1,17 @@
 //! Copies of which each call of a medium and each request for memory goes wrong in turn.
 ghost use Rattle.std.specs.Prelude.{◌≡◌, [], IsTrue};
 
-use crate::objects::{SHORT_STREAMS, are_alike, filled};
+use crate::objects::{SHORT_STREAMS, are_alike, filled, put};
 use cfb_compound_file::compound_file::CompoundFile;
 use cfb_format::error::Error;
 use cfb_format::medium::{Medium, MediumFault, ReadMedium};
 use cfb_format::memory::MemoryMedium;
 use cfb_format::version::Version;
+use cfb_media::bytes::numbered;
 use cfb_media::media::{Failing, Kind};
 use cfb_media::refusing::Refusing;
 use std::alloc::{Allocator, Global};
+use std::io::{Seek, SeekFrom, Write};
 use std::test::Fail;
 
 /// What goes wrong: a read of the file, a write of the copy, a request of the call, or one of the copy's medium.
@@ -132,12 +134,69 @@ fn refusals(alloc: Global, bytes: &[u8], fault: Fault, error: Error) -> Result<(
     Ok((refusals, false))
 }
 
+/// Puts a byte behind the end of a stream.
+fn add_byte<F: Medium, A: Allocator + Clone>(
+    file: &mut CompoundFile<F, A>,
+    path: &str,
+    byte: u8,
+) -> Result<(), Fail> {
+    let mut stream = file.open_stream(path)?;
+    let sought = Seek::seek(&mut stream, SeekFrom::End(0));
+    let written = stream.write_all(&[byte]);
+    stream.close()?;
+    sought?;
+    written?;
+    Ok(())
+}
+
+/// Gives a stream another length.
+fn set_len<F: Medium, A: Allocator + Clone>(
+    file: &mut CompoundFile<F, A>,
+    path: &str,
+    len: u64,
+) -> Result<(), Fail> {
+    let mut stream = file.open_stream(path)?;
+    let set = stream.set_len(len);
+    stream.close()?;
+    set?;
+    Ok(())
+}
+
+/// The bytes of a file of version 3 whose stream left its mini sectors for one byte more, and where it is `cut` came back.
+fn turned(alloc: Global, cut: bool) -> Result<Vec<u8>, Fail> {
+    let medium = MemoryMedium::new(alloc);
+    let mut file = CompoundFile::create_with_version(alloc, Version::V3, medium)?;
+    put(&mut file, "/a", &numbered(alloc, 4095)?)?;
+    add_byte(&mut file, "/a", 79)?;
+    if cut {
+        set_len(&mut file, "/a", 4095)?;
+    }
+    Ok(file.into_inner().into_bytes())
+}
+
+/// Whether each fault is told and leaves a file with these bytes as it was.
+fn are_told(alloc: Global, bytes: &[u8]) -> Result<bool, Error> {
+    for (fault, error, at_least) in &FAULTS {
+        let (count, is_right) = refusals(alloc, bytes, *fault, *error)?;
+        if !is_right || count < *at_least {
+            return Ok(false);
+        }
+    }
+    Ok(true)
+}
+
 #[test]
 fn faults_are_told_and_leave_the_file(rt: HostRuntime) -> Result<(), Fail> {
     let bytes = filled(rt.alloc(), Version::V3, &SHORT_STREAMS)?;
-    for (fault, error, at_least) in &FAULTS {
-        let (count, is_right) = refusals(rt.alloc(), &bytes, *fault, *error)?;
-        assert!(rt; is_right && *at_least <= count, "{error:?} {count}");
+    assert!(rt; are_told(rt.alloc(), &bytes)?);
+    Ok(())
+}
+
+#[test]
+fn faults_leave_a_file_whose_stream_has_moved(rt: HostRuntime) -> Result<(), Fail> {
+    for cut in [false, true] {
+        let bytes = turned(rt.alloc(), cut)?;
+        assert!(rt; are_told(rt.alloc(), &bytes)?, "{cut}");
     }
     Ok(())
 }

@@ -19,3 +19,5 @@ pub mod Soundness
 pub mod Full
 pub mod Created
 pub mod Laws
+pub mod StdKinds
+pub mod VersionText

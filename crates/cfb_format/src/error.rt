@@ -1,22 +1,31 @@
 //! What a call may be refused with.
-ghost use Rattle.std.specs.Prelude.{◌≡◌, ◌∷◌, []};
+ghost use Rattle.std.specs.Prelude.{◌≡◌, ◌∷◌, [], ◌+◌, ◌*◌, ◌^◌};
+ghost use Rattle.std.specs.IoError.{error_kind};
 ghost use Rattle.cfb_format.specs.declared.error.Error.TheVariants.{Memory, Medium};
 ghost use Rattle.cfb_format.specs.Refused.{number_of, text_of, numbers_behind};
+ghost use Rattle.cfb_format.specs.StdKinds.{std_kind};
 
 use crate::medium::MediumFault;
 use std::alloc::{AllocError, AllocFailed};
-use std::fmt;
+use std::fmt::InlineText;
+use std::io::ErrorKind;
+use std::{fmt, io};
 use thiserror::Error;
 
-/// What a refusal was about: a text, and up to two numbers that say more, as of a sector or a
+/// What a refusal was about: a text, and up to two numbers that it tells, as of a sector or a
 /// length. It takes no memory.
+///
+/// A text may have places for its numbers: `{}` prints one in decimal, `{x}` in hexadecimal as
+/// `0x1f`, `{bytes}` as the 8 bytes that hold it, lowest first, and `{two}` as the two numbers of
+/// 32 bits that it is made of, as `7 and 9`. The numbers of a text without places stand behind it,
+/// as `text (1, 2)`.
 #[derive(Clone, Copy, Debug, PartialEq, Eq)]
 pub struct Detail {
     text: &'static str,
     numbers: Numbers,
 }
 
-/// The numbers behind a text. None is told from the number 0.
+/// The numbers that a text tells. None is told from the number 0.
 #[derive(Clone, Copy, Debug, PartialEq, Eq)]
 enum Numbers {
     Empty,
@@ -36,7 +45,7 @@ impl Detail {
         }
     }
 
-    /// A text with one number behind it, printed as `text (1)`.
+    /// A text that tells one number.
     pub fn number(text: &'static str, first: u64) -> Detail
         ensures text { text_of result ≡ text.now }
         ensures numbers { numbers_behind result ≡ first ∷ [] }
@@ -47,7 +56,8 @@ impl Detail {
         }
     }
 
-    /// A text with two numbers behind it, printed as `text (1, 2)`.
+    /// A text that tells two numbers: `Detail::numbers("entry {}: type {}", 44, 7)` is printed as
+    /// `entry 44: type 7`.
     pub fn numbers(text: &'static str, first: u64, second: u64) -> Detail
         ensures text { text_of result ≡ text.now }
         ensures numbers { numbers_behind result ≡ first ∷ second ∷ [] }
@@ -57,16 +67,69 @@ impl Detail {
             numbers: Numbers::Two(first, second),
         }
     }
+
+    /// A text that tells three sectors: its place `{two}` prints the first two of them, as
+    /// `7 and 9`, and the place behind that the third.
+    pub fn sectors(text: &'static str, first: u32, second: u32, third: u32) -> Detail
+        ensures text { text_of result ≡ text.now }
+        ensures numbers { numbers_behind result ≡ (first * 2 ^ 32 + second) ∷ third ∷ [] }
+    {
+        let two = u64::from(first) * (1 << 32) + u64::from(second);
+        Detail::numbers(text, two, u64::from(third))
+    }
 }
 
 impl fmt::Display for Detail {
     fn fmt<W: fmt::Write>(&self, f: &mut fmt::Formatter<W>) -> fmt::Result {
-        f.write_str(self.text)?;
-        match self.numbers {
-            Numbers::Empty => Ok(()),
-            Numbers::One(first) => write!(f, " ({first})"),
-            Numbers::Two(first, second) => write!(f, " ({first}, {second})"),
+        let Some((before, places)) = self.text.split_once('{') else {
+            f.write_str(self.text)?;
+            return write_behind(f, self.numbers);
+        };
+        f.write_str(before)?;
+        for (index, place) in places.split('{').enumerate() {
+            let (form, behind) = place.split_once('}').unwrap_or((place, ""));
+            if let Some(number) = number_at(self.numbers, index) {
+                write_number(f, form, number)?;
+            }
+            f.write_str(behind)?;
         }
+        Ok(())
+    }
+}
+
+fn number_at(numbers: Numbers, index: usize) -> Option<u64> {
+    match (index, numbers) {
+        (0, Numbers::One(first) | Numbers::Two(first, _)) => Some(first),
+        (1, Numbers::Two(_, second)) => Some(second),
+        _ => None,
+    }
+}
+
+/// Writes a number in the form of its place.
+fn write_number<W: fmt::Write>(f: &mut fmt::Formatter<W>, form: &str, number: u64) -> fmt::Result {
+    match form {
+        "x" => write!(f, "{number:#x}"),
+        "bytes" => {
+            let [a, b, c, d, e, g, h, i] = number.to_le_bytes();
+            write!(
+                f,
+                "{a:02x} {b:02x} {c:02x} {d:02x} {e:02x} {g:02x} {h:02x} {i:02x}"
+            )
+        }
+        "two" => {
+            let (first, second) = (number >> 32, number & 0xffff_ffff);
+            write!(f, "{first} and {second}")
+        }
+        _ => write!(f, "{number}"),
+    }
+}
+
+/// Writes the numbers that have no places, in parentheses.
+fn write_behind<W: fmt::Write>(f: &mut fmt::Formatter<W>, numbers: Numbers) -> fmt::Result {
+    match numbers {
+        Numbers::Empty => Ok(()),
+        Numbers::One(first) => write!(f, " ({first})"),
+        Numbers::Two(first, second) => write!(f, " ({first}, {second})"),
     }
 }
 
@@ -126,7 +189,37 @@ impl From<MediumFault> for Error {
     }
 }
 
+/// The most bytes of text that an `io::Error` holds.
+const IO_TEXT_LEN: usize = 80;
+
+/// An error of std, of the kind that `std_kind` gives, with the text of the refusal.
+impl From<Error> for io::Error {
+    ghost from_gives = { λ error told. error_kind told ≡ std_kind error };
+
+    fn from(error: Error) -> io::Error {
+        let text = InlineText::<{ IO_TEXT_LEN }>::of(error);
+        io::Error::new(error.std_kind(), text.as_str())
+    }
+}
+
 impl Error {
+    /// The kind that an error has in std. None is `Interrupted`, after which std would try again.
+    pub fn std_kind(&self) -> ErrorKind
+        ensures { result ≡ std_kind self.now }
+    {
+        match self {
+            Error::NotFound(_) => ErrorKind::NotFound,
+            Error::AlreadyExists(_) => ErrorKind::AlreadyExists,
+            Error::InvalidInput(_) => ErrorKind::InvalidInput,
+            Error::InvalidData(_) => ErrorKind::InvalidData,
+            Error::Medium(_) => ErrorKind::Other,
+            Error::Memory => ErrorKind::OutOfMemory,
+            Error::Full => ErrorKind::StorageFull,
+            Error::Unsound => ErrorKind::InvalidData,
+            Error::Failed => ErrorKind::Other,
+        }
+    }
+
     /// The number of the kind, from 1 to 9.
     pub fn number(&self) -> u8
         ensures { result ≡ number_of self.now }

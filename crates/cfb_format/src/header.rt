@@ -81,14 +81,17 @@ impl Header {
             × ((header : HeaderOf) → AcceptsHeader validation bytes.now header → ⊥)) }
     {
         let Some(version) = fixed_version(bytes) else {
-            return Err(invalid("not a compound file"));
+            return Err(wrong_field(bytes));
         };
         let counted = u32_at(bytes, 40);
         if !may_count(version, counted, validation) {
-            return Err(invalid("version 3 counts directory sectors"));
+            return Err(invalid(Detail::number(
+                "strict: version 3 counts {} directory sectors",
+                u64::from(counted),
+            )));
         }
         let Some(initial_difat_entries) = difat_entries(bytes) else {
-            return Err(invalid("DIFAT of the header lists what is no sector"));
+            return Err(invalid(Detail::text("DIFAT: the header lists what is no sector")));
         };
         Ok(Header {
             version,
@@ -133,10 +136,47 @@ impl Header {
     }
 }
 
-fn invalid(text: &'static str) -> Error
+fn invalid(detail: Detail) -> Error
     ensures { IsInvalidData result }
 {
-    Error::InvalidData(Detail::text(text))
+    Error::InvalidData(detail)
+}
+
+/// What is told of bytes that have the fixed fields of no version: the first field that is not as
+/// it has to be.
+fn wrong_field(bytes: &[u8; consts::HEADER_LEN]) -> Error
+    ensures { IsInvalidData result }
+{
+    if !has_magic(bytes) {
+        return invalid(Detail::number(
+            "not a compound file: it begins with {bytes}",
+            u64::from(u32_at(bytes, 0)) | u64::from(u32_at(bytes, 4)) << 32,
+        ));
+    }
+    let number = u64::from(u16_at(bytes, 26));
+    let byte_order = u16_at(bytes, 28);
+    let shift = u16_at(bytes, 30);
+    let mini_shift = u16_at(bytes, 32);
+    let Some(version) = Version::from_number(u16_at(bytes, 26)) else {
+        return invalid(Detail::number("version {} is neither 3 nor 4", number));
+    };
+    invalid(if byte_order != consts::BYTE_ORDER_MARK {
+        Detail::number(
+            "byte order mark {x} in place of 0xfffe",
+            u64::from(byte_order),
+        )
+    } else if shift != version.sector_shift() {
+        Detail::numbers(
+            "sectors of 2^{} bytes in version {}",
+            u64::from(shift),
+            number,
+        )
+    } else if mini_shift != consts::MINI_SECTOR_SHIFT {
+        Detail::number("mini sectors of 2^{} bytes", u64::from(mini_shift))
+    } else {
+        let cutoff = u32_at(bytes, 56);
+        Detail::number("mini stream cutoff {} in place of 4096", u64::from(cutoff))
+    })
 }
 
 /// Minor version, version, byte order and the two shifts.

@@ -5,6 +5,7 @@ ghost use Rattle.cfb_format.specs.Memory.{is_refused_growth};
 
 use crate::medium::{Medium, MediumFault, ReadMedium};
 use std::alloc::{AllocError, Allocator, Global};
+use std::fmt;
 use std::marker::Model;
 
 /// Bytes in memory. It fails only where a growth of memory is refused, and then changes nothing.
@@ -53,6 +54,16 @@ impl<A: Allocator> MemoryMedium<A> {
     {
         let MemoryMedium { bytes, failures: _ } = self;
         bytes
+    }
+}
+
+/// Prints how many bytes there are, and not the bytes.
+impl<A: Allocator> fmt::Debug for MemoryMedium<A> {
+    fn fmt<W: fmt::Write>(&self, f: &mut fmt::Formatter<W>) -> fmt::Result {
+        f.debug_struct("MemoryMedium")
+            .field("length", &self.bytes.len())
+            .field("failures", &self.failures)
+            .finish()
     }
 }
 

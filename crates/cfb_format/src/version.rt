@@ -1,7 +1,13 @@
 //! The two versions of the format (MS-CFB 2.2).
-ghost use Rattle.std.specs.Prelude.{◌≡◌, ◌-◌, IfSome, IfNone, Some};
+ghost use Rattle.std.specs.Prelude.{◌≡◌, ◌-◌, IfSome, IfNone, MatchResult, Some};
 ghost use Rattle.cfb_format.specs.declared.version.Version.{Version as VersionOf};
 ghost use Rattle.cfb_format.specs.Bytes.{version_number, sector_shift, sector_len, words_per_sector, entries_per_sector, max_stream_len};
+ghost use Rattle.cfb_format.specs.VersionText.{version_text};
+ghost use Rattle.cfb_format.specs.Refused.{IsInvalidInput};
+
+use crate::error::{Detail, Error};
+use std::fmt;
+use std::str::FromStr;
 
 /// A version of the format, which fixes the length of its sectors.
 #[derive(Clone, Copy, Debug, PartialEq, Eq, PartialOrd, Ord, Hash)]
@@ -81,5 +87,62 @@ impl Version {
         ensures { result ≡ words_per_sector self }
     {
         self.sector_len() / 4
+    }
+}
+
+/// The major version number.
+impl From<Version> for u16 {
+    ghost from_gives = { λ version number. number ≡ version_number version };
+
+    fn from(version: Version) -> u16 {
+        version.number()
+    }
+}
+
+/// The version of a major version number; `InvalidInput` where there is none.
+impl TryFrom<u16> for Version {
+    type Error = Error;
+
+    ghost try_from_gives = { λ number result. MatchResult result
+        (λ version. number ≡ version_number version)
+        (λ e. IsInvalidInput e × ((version : VersionOf) → number ≡ version_number version → ⊥)) };
+
+    fn try_from(number: u16) -> Result<Version, Error> {
+        match Version::from_number(number) {
+            Some(version) => Ok(version),
+            None => Err(Error::InvalidInput(Detail::number(
+                "version {} is neither 3 nor 4",
+                u64::from(number),
+            ))),
+        }
+    }
+}
+
+/// Prints the major version number: `3` or `4`.
+impl fmt::Display for Version {
+    ghost output = { λ version. Some (version_text version) };
+
+    fn fmt<W: fmt::Write>(&self, f: &mut fmt::Formatter<W>) -> fmt::Result {
+        match self {
+            Version::V3 => f.write_str("3"),
+            Version::V4 => f.write_str("4"),
+        }
+    }
+}
+
+/// The version that prints so; `InvalidInput` where there is none.
+impl FromStr for Version {
+    type Err = Error;
+
+    ghost from_str_gives = { λ text result. MatchResult result
+        (λ version. text ≡ version_text version)
+        (λ e. IsInvalidInput e × ((version : VersionOf) → text ≡ version_text version → ⊥)) };
+
+    fn from_str(text: &str) -> Result<Version, Error> {
+        match text {
+            "3" => Ok(Version::V3),
+            "4" => Ok(Version::V4),
+            _ => Err(Error::InvalidInput(Detail::text("a version is 3 or 4"))),
+        }
     }
 }

@@ -111,12 +111,14 @@ fn minifat_sectors_from<F: ReadMedium, A: Heap + Clone>(
 {
     let sectors = directory.allocator().chain(start)?;
     if words != sectors.len() * directory.version().words_per_sector() {
-        return Err(miscounted(sectors.len(), words));
+        let text = "MiniFAT: {} sectors, and {} words";
+        return Err(miscounted(text, sectors.len(), words));
     }
     match validation {
         Validation::Strict => {
             if counted as usize != sectors.len() {
-                return Err(miscounted(sectors.len(), counted as usize));
+                let text = "strict: the header counts {} MiniFAT sectors, and there are {}";
+                return Err(miscounted(text, counted as usize, sectors.len()));
             }
         }
         Validation::Permissive => {}
@@ -125,14 +127,10 @@ fn minifat_sectors_from<F: ReadMedium, A: Heap + Clone>(
 }
 
 /// A refusal of MiniFAT sectors that are another number than is said.
-fn miscounted(sectors: usize, said: usize) -> Error
+fn miscounted(text: &'static str, first: usize, second: usize) -> Error
     ensures { TableRefused Unit ⊥ ⊥ result }
 {
-    Error::InvalidData(Detail::numbers(
-        "MiniFAT sectors of another number",
-        sectors as u64,
-        said as u64,
-    ))
+    Error::InvalidData(Detail::numbers(text, first as u64, second as u64))
 }
 
 /// The sectors of the mini stream, or `None` where its chain is none; an empty mini stream without a start has no sector (MS-CFB 2.6.2).

@@ -14,13 +14,27 @@ ghost use Rattle.cfb_mini_table.specs.MiniTable.{trimmed, read_entries, AcceptsM
 use cfb_format::consts::{END_OF_CHAIN, FREE_SECTOR, MAX_REGULAR_SECTOR};
 use cfb_format::error::{Detail, Error};
 use cfb_format::validate::Validation;
-use cfb_tables::fat::names_once;
+use cfb_tables::fat::{names_twice, shared};
 use std::alloc::Allocator;
 
-fn invalid(text: &'static str) -> Error
+fn invalid(text: &'static str, found: usize, most: usize) -> Error
     ensures { IsInvalidData result }
 {
-    Error::InvalidData(Detail::text(text))
+    Error::InvalidData(Detail::numbers(text, found as u64, most as u64))
+}
+
+/// A refusal of the first entry that points past the end of the table.
+fn points_outside(minifat: &[u32]) -> Error
+    ensures { IsInvalidData result }
+{
+    let len = minifat.len();
+    let number = minifat
+        .iter()
+        .position(|word| *word <= MAX_REGULAR_SECTOR && *word as usize >= len)
+        .unwrap_or(0);
+    let next = minifat.get(number).copied().unwrap_or(END_OF_CHAIN);
+    let text = "MiniFAT: mini sector {} goes on in mini sector {}, which is not there";
+    invalid(text, number, next as usize)
 }
 
 /// Where the words end that are not free.
@@ -71,7 +85,10 @@ fn cut<A: Allocator>(
 {
     if minifat.len() > most {
         match validation {
-            Validation::Strict => return Err(invalid("MiniFAT is longer than the mini stream")),
+            Validation::Strict => {
+                let text = "strict: MiniFAT: {} mini sectors, and the mini stream has {}";
+                return Err(invalid(text, minifat.len(), most));
+            }
             Validation::Permissive => {}
         }
     }
@@ -106,15 +123,19 @@ fn check<A: Allocator>(alloc: A, minifat: &[u32], limit: usize) -> Result<(), Er
     ensures err { IfErr result (TableRefused (IsMiniTable limit minifat.now → ⊥) Unit ⊥) }
 {
     if minifat.len() > limit {
-        return Err(invalid("MiniFAT is too long"));
+        let text = "MiniFAT: {} mini sectors, and the mini stream may have {}";
+        return Err(invalid(text, minifat.len(), limit));
     }
     if !point_inside(minifat) {
-        return Err(invalid("MiniFAT points past its end"));
+        return Err(points_outside(minifat));
     }
-    if !names_once(alloc, minifat)? {
-        return Err(invalid("MiniFAT points to a mini sector twice"));
+    match names_twice(alloc, minifat)? {
+        Some(second) => {
+            let text = "MiniFAT: mini sectors {two} both go on in mini sector {}";
+            Err(shared(text, minifat, second))
+        }
+        None => Ok(()),
     }
-    Ok(())
 }
 
 /// Takes a mini sector, as the only one of a chain: the one that was freed last, or the one past the end where none is

@@ -64,13 +64,16 @@ fn read_head<F: ReadMedium>(medium: &mut F, validation: Validation) -> Result<He
     laws::header_is_at_the_start();
     let len = medium.length()?;
     if len < HEADER_LEN as u64 {
-        return Err(invalid("shorter than a header", len));
+        return Err(invalid(
+            "too short for a compound file: {} bytes, a header has 512",
+            len,
+        ));
     }
     let mut first = [0; HEADER_LEN];
     read_exact_at(medium, 0, &mut first)?;
     let header = Header::read_from(&first, validation)?;
     if !has_length(header.version, len) {
-        return Err(invalid("no compound file has this length", len));
+        return Err(invalid("no compound file has a length of {} bytes", len));
     }
     Ok(Head { header, len })
 }

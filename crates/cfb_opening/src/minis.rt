@@ -53,7 +53,7 @@ fn miscounted(counted: u32, found: usize) -> Error
     ensures { IsInvalidData result }
 {
     Error::InvalidData(Detail::numbers(
-        "header counts too few directory sectors",
+        "strict: the header counts {} directory sectors, and there are {}",
         counted as u64,
         found as u64,
     ))

@@ -118,3 +118,16 @@ pub(crate) fn keeps_red_apart<A: Allocator>(entries: &[DirEntry<A>], number: u32
     !(red && is_red_link(entries, left_link(entries, number)))
         && !(red && is_red_link(entries, right_link(entries, number)))
 }
+
+/// The red entry that hangs directly under this one: the left one, if that is red.
+pub(crate) fn red_child<A: Allocator>(entries: &[DirEntry<A>], number: u32) -> u32 {
+    if number as usize >= entries.len() {
+        return number;
+    }
+    let left = left_link(entries, number);
+    if is_red_link(entries, left) {
+        left
+    } else {
+        right_link(entries, number)
+    }
+}

@@ -8,12 +8,13 @@ ghost use Rattle.cfb_format.specs.Refused.{IsInvalidOrMemory, IsMemory};
 ghost use Rattle.cfb_outline.specs.Families.{Family, is_marked};
 ghost use Rattle.cfb_outline.specs.Outlines.{AcceptsOutline};
 
-use crate::links::{has_root, is_object, is_storage, keeps_red_apart, precedes};
+use crate::links::{has_root, is_object, is_storage, keeps_red_apart, precedes, red_child};
 use cfb_codecs::direntry::DirEntry;
 use cfb_codecs::links::{child_link, left_link, right_link};
 use cfb_codecs::path::CaseMapper;
 use cfb_format::consts::NO_STREAM;
 use cfb_format::error::{Detail, Error};
+use cfb_format::objtype::ObjType;
 use cfb_format::validate::Validation;
 use std::alloc::Allocator;
 
@@ -22,6 +23,22 @@ fn malformed(text: &'static str, number: u32) -> Error
     ensures { (detail : _) × (result ≡ Error.InvalidData detail) }
 {
     Error::InvalidData(Detail::number(text, u64::from(number)))
+}
+
+/// What is told of the entries of these two numbers.
+fn of_pair(text: &'static str, first: u32, second: u32) -> Detail {
+    Detail::numbers(text, u64::from(first), u64::from(second))
+}
+
+/// What is told of a first entry that is no root, or a root whose length is no whole mini sectors.
+fn no_root<A: Allocator>(entries: &[DirEntry<A>]) -> Detail {
+    match entries.first() {
+        Some(root) if root.obj_type == ObjType::Root => Detail::number(
+            "entry 0: the length of the mini stream, {}, is no multiple of 64",
+            root.stream_len,
+        ),
+        _ => Detail::text("entry 0: not the root"),
+    }
 }
 
 /// As many marks, none of them set.
@@ -62,10 +79,10 @@ fn walk_siblings<A: Allocator>(
     loop {
         if current != NO_STREAM {
             if current as usize >= entries.len() {
-                return Err(malformed("link to no entry", current));
+                return Err(malformed("entry {}: a link leads to it, but it is not there", current));
             }
             if seen[current as usize] {
-                return Err(malformed("entry reached twice", current));
+                return Err(malformed("entry {}: reached twice", current));
             }
             stack.push(current)?;
             seen[current as usize] = true;
@@ -76,10 +93,12 @@ fn walk_siblings<A: Allocator>(
             return Ok(());
         };
         if !is_object(entries, number) {
-            return Err(malformed("entry in a storage is no object", number));
+            return Err(malformed("entry {}: neither a storage nor a stream", number));
         }
         if !precedes(cases, entries, number, last) {
-            return Err(malformed("names do not rise", number));
+            let later = last.unwrap_or(number);
+            let detail = of_pair("entries {} and {}: names out of order", number, later);
+            return Err(Error::InvalidData(detail));
         }
         pending.push(number)?;
         last = Some(number);
@@ -101,10 +120,10 @@ fn reach<A: Allocator + Clone>(
         → IsOutline cases.now (entries_of entries.now) o → ⊥)) }
 {
     if entries.len() == 0 {
-        return Err(Error::InvalidData(Detail::text("directory without a root")));
+        return Err(Error::InvalidData(Detail::text("the directory has no entry")));
     }
     if !has_root(entries) {
-        return Err(Error::InvalidData(Detail::text("first entry is no root")));
+        return Err(Error::InvalidData(no_root(entries)));
     }
     let mut seen = no_marks(alloc.clone()?, entries.len())?;
     seen[0] = true;
@@ -129,6 +148,16 @@ fn are_red_apart<A: Allocator>(entries: &[DirEntry<A>], order: &[u32]) -> bool
     ensures { result ≡ list_all (is_red_apart (entries_of entries.now)) order.now }
 {
     order.iter().all(|number| keeps_red_apart(entries, *number))
+}
+
+/// What is told of the first of these entries that is red, and under which a red one hangs.
+fn red_below_red<A: Allocator>(entries: &[DirEntry<A>], order: &[u32]) -> Detail {
+    let upper = order
+        .iter()
+        .find(|number| !keeps_red_apart(entries, **number));
+    let upper = upper.copied().unwrap_or(0);
+    let lower = red_child(entries, upper);
+    of_pair("strict: entry {}: red below red entry {}", lower, upper)
 }
 
 /// The numbers of all entries that are reached from the root, a storage before what is in it and
@@ -158,7 +187,8 @@ pub fn reached_entries<A: Allocator + Clone>(
             if are_red_apart(entries, order.as_slice()) {
                 Ok(order)
             } else {
-                Err(Error::InvalidData(Detail::text("red entry under a red one")))
+                let detail = red_below_red(entries, order.as_slice());
+                Err(Error::InvalidData(detail))
             }
         }
     }

@@ -74,10 +74,16 @@ pub fn read_difat<F: ReadMedium, A: Heap + Clone>(
     list_sectors(trail, sectors, header, validation)
 }
 
-fn invalid(text: &'static str) -> Error
+fn invalid(text: &'static str, found: u64, other: u64) -> Error
     ensures { IsInvalidData result }
 {
-    Error::InvalidData(Detail::text(text))
+    Error::InvalidData(Detail::numbers(text, found, other))
+}
+
+fn invalid_at(text: &'static str, sector: u32) -> Error
+    ensures { IsInvalidData result }
+{
+    Error::InvalidData(Detail::number(text, u64::from(sector)))
 }
 
 /// Whether no DIFAT sector comes after this word.
@@ -96,17 +102,29 @@ fn are_entries(words: &[u32]) -> bool
         .all(|word| *word <= MAX_REGULAR_SECTOR || *word == FREE_SECTOR)
 }
 
+/// A refusal of the first of a DIFAT sector's entries that is neither a sector's number nor FREE.
+fn lists_no_sector(sector: u32, entries: &[u32]) -> Error
+    ensures { IsInvalidData result }
+{
+    let wrong = entries.iter().find(|word| **word > MAX_REGULAR_SECTOR && **word != FREE_SECTOR);
+    invalid(
+        "DIFAT: sector {} lists {x}, which is no sector",
+        u64::from(sector),
+        u64::from(wrong.copied().unwrap_or(0)),
+    )
+}
+
 /// Whether a DIFAT sector may list these entries and name this one next. `InvalidData`.
-fn check_words(entries: &[u32], next: u32, validation: Validation) -> Result<(), Error>
+fn check_words(sector: u32, entries: &[u32], next: u32, validation: Validation) -> Result<(), Error>
     ensures ok { OnOk result (AreDifatWords validation entries.now next) }
     ensures err { IfErr result (λ e. IsInvalidData e
         × (AreDifatWords validation entries.now next → ⊥)) }
 {
     if !are_entries(entries) {
-        return Err(invalid("DIFAT lists what is no sector"));
+        return Err(lists_no_sector(sector, entries));
     }
     if validation.is_strict() && next == FREE_SECTOR {
-        return Err(invalid("DIFAT is ended by a free sector"));
+        return Err(invalid_at("strict: DIFAT: sector {} goes on in a free mark", sector));
     }
     Ok(())
 }
@@ -169,13 +187,13 @@ fn advance<F: ReadMedium, A: Heap>(
 {
     let sector = trail.next;
     if is_marked(&trail.met, sector) {
-        return Err(invalid("DIFAT comes back to a sector of its own"));
+        return Err(invalid_at("DIFAT: sector {}: reached twice", sector));
     }
     sectors.read_words(sector, buffer)?;
     let last = buffer.len() - 1;
     let next = buffer[last];
     let entries = &buffer[..last];
-    check_words(entries, next, validation)?;
+    check_words(sector, entries, next, validation)?;
     trail.entries.extend_from_slice(entries)?;
     trail.difat_sectors.push(sector)?;
     mark(&mut trail.met, sector);
@@ -256,6 +274,28 @@ fn are_there<F: ReadMedium>(sectors: &Sectors<F>, listed: &[u32]) -> bool
     listed.iter().all(|sector| (*sector as u64 + 1) * sector_len + sector_len <= len)
 }
 
+/// A refusal of the first of these FAT sectors that the file has not all of.
+fn not_there<F: ReadMedium>(sectors: &Sectors<F>, listed: &[u32]) -> Error
+    ensures { IsInvalidData result }
+{
+    let sector_len = sectors.sector_len() as u64;
+    let len = sectors.len();
+    let sector = listed
+        .iter()
+        .find(|sector| (**sector as u64 + 1) * sector_len + sector_len > len)
+        .copied()
+        .unwrap_or(0);
+    let count = sectors.num_sectors();
+    if sector < count {
+        return invalid_at("FAT sector {} is cut short by the end of the file", sector);
+    }
+    invalid(
+        "FAT sector {} is not in the file, which has {} sectors",
+        u64::from(sector),
+        u64::from(count),
+    )
+}
+
 /// Strict opening wants no padding by zeros, and the header to count the sectors of both tables. `InvalidData`.
 fn check_counts(
     header: &Header,
@@ -274,13 +314,18 @@ fn check_counts(
         return Ok(());
     }
     if padding > 0 {
-        return Err(invalid("DIFAT is padded by zeros"));
+        let text = "strict: DIFAT: {} zeros behind {} FAT sectors";
+        return Err(invalid(text, padding as u64, fat_sectors as u64));
     }
     if header.num_fat_sectors as usize != fat_sectors {
-        return Err(invalid("header counts other FAT sectors"));
+        let text = "strict: the header counts {} FAT sectors, and there are {}";
+        let counted = u64::from(header.num_fat_sectors);
+        return Err(invalid(text, counted, fat_sectors as u64));
     }
     if header.num_difat_sectors as usize != difat_sectors {
-        return Err(invalid("header counts other DIFAT sectors"));
+        let text = "strict: the header counts {} DIFAT sectors, and there are {}";
+        let counted = u64::from(header.num_difat_sectors);
+        return Err(invalid(text, counted, difat_sectors as u64));
     }
     Ok(())
 }
@@ -324,7 +369,7 @@ fn list_sectors<F: ReadMedium, A: Heap>(
         validation,
     )?;
     if !are_there(sectors, &fat_sectors) {
-        return Err(invalid("FAT sector goes past the end of the file"));
+        return Err(not_there(sectors, &fat_sectors));
     }
     Ok(TableSectors {
         fat_sectors,

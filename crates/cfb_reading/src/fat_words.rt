@@ -10,9 +10,9 @@ ghost use Rattle.cfb_reading.specs.Difat.{has_sector};
 ghost use Rattle.cfb_reading.specs.FatWords.{AcceptsFatWords, AcceptsNoFatWords, ArePadding, AreThere, PointsInto};
 
 use crate::marks::{is_marked, mark, mark_all};
-use cfb_alloc::are_padding;
+use cfb_alloc::{are_padding, used_past_end};
 use cfb_format::consts::MAX_REGULAR_SECTOR;
-use cfb_format::error::{Detail, Error};
+use cfb_format::error::Error;
 use cfb_format::medium::ReadMedium;
 use cfb_format::validate::Validation;
 use cfb_sectors::sector::Sectors;
@@ -75,17 +75,12 @@ pub fn read_fat_words<F: ReadMedium, A: Heap + Clone>(
     })
 }
 
-fn invalid(text: &'static str) -> Error
-    ensures { IsInvalidData result }
-{
-    Error::InvalidData(Detail::text(text))
-}
-
-/// Takes the words of one more FAT sector. One that was met as padding is not read again. `InvalidData` where it is not all there, and where a word past the last sector is no padding; `Medium` and `Memory`.
+/// Takes the words of one more FAT sector, from the word of sector `first` on. One that was met as padding is not read again. `InvalidData` where it is not all there, and where a word past the last sector is no padding; `Medium` and `Memory`.
 fn take_sector<F: ReadMedium, A: Heap>(
     taking: &mut Taking<A>,
     sectors: &mut Sectors<F>,
     sector: u32,
+    first: usize,
     buffer: &mut [u32],
     validation: Validation,
 ) -> Result<(), Error>
@@ -128,7 +123,7 @@ fn take_sector<F: ReadMedium, A: Heap>(
     if is_marked(&taking.checked, sector) {
         return Ok(());
     }
-    check_padding(sectors, sector, buffer, validation)?;
+    check_padding(sectors, sector, first, buffer, validation)?;
     mark(&mut taking.checked, sector);
     Ok(())
 }
@@ -162,16 +157,18 @@ fn keep_words<F: ReadMedium, A: Heap>(
     sectors.read_words(sector, buffer)?;
     let (first, padding) = buffer.split_at(room.min(buffer.len()));
     if !are_padding(padding, validation) {
-        return Err(invalid("FAT goes on past the end of the file"));
+        let count = sectors.num_sectors();
+        return Err(used_past_end(padding, count as usize, count, validation));
     }
     words.extend_from_slice(first)?;
     Ok(())
 }
 
-/// Reads a sector that holds padding alone. `InvalidData` where it does not, and where it is not all there; `Medium`.
+/// Reads a sector that holds padding alone, from the word of sector `first` on. `InvalidData` where it does not, and where it is not all there; `Medium`.
 fn check_padding<F: ReadMedium>(
     sectors: &mut Sectors<F>,
     sector: u32,
+    first: usize,
     buffer: &mut [u32],
     validation: Validation,
 ) -> Result<(), Error>
@@ -191,7 +188,8 @@ fn check_padding<F: ReadMedium>(
 {
     sectors.read_words(sector, buffer)?;
     if !are_padding(buffer, validation) {
-        return Err(invalid("FAT goes on past the end of the file"));
+        let count = sectors.num_sectors();
+        return Err(used_past_end(buffer, first, count, validation));
     }
     Ok(())
 }
@@ -232,8 +230,10 @@ fn read_words<F: ReadMedium, A: Heap + Clone>(
     let buffer = &mut buffer[..sectors.version().words_per_sector()];
     let num_sectors = sectors.num_sectors() as usize;
     let mut taking = start(heap, num_sectors)?;
+    let mut first: usize = 0;
     for sector in fat_sectors {
-        take_sector(&mut taking, sectors, *sector, buffer, validation)?;
+        take_sector(&mut taking, sectors, *sector, first, buffer, validation)?;
+        first = first.saturating_add(buffer.len());
     }
     let Taking { words, checked: _ } = taking;
     Ok(words)

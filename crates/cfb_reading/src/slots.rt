@@ -96,7 +96,7 @@ fn directory_sectors<F: ReadMedium, A: Heap + Clone>(
 fn miscounted(sectors: usize) -> Error
     ensures { ChangeRefused Unit ⊥ ⊥ ⊥ result }
 {
-    Error::InvalidData(Detail::number("directory with no sector or too many", sectors as u64))
+    Error::InvalidData(Detail::number("the directory has {} sectors", sectors as u64))
 }
 
 /// Reads a sector, and appends the entries in its slots. `InvalidData` exactly where the file has not all of it or a slot holds no entry,
@@ -154,7 +154,7 @@ fn append_entries<A: Heap + Clone>(
         → AllZip (AcceptsEntry validation version) slots.now more → ⊥)) }
 {
     for slot in slots {
-        let entry = DirEntry::read_from(heap.clone()?, slot, version, validation)?;
+        let entry = DirEntry::read_from(heap.clone()?, entries.len(), slot, version, validation)?;
         entry_fits(&entry);
         entries.push(entry)?;
     }

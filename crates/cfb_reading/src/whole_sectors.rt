@@ -51,7 +51,7 @@ fn cut_short(sector: u32, file_len: u64) -> Error
     ensures { IsInvalidData result }
 {
     Error::InvalidData(Detail::numbers(
-        "sector that the file has not all of",
+        "sector {} is not all in the file, which has {} bytes",
         sector as u64,
         file_len,
     ))

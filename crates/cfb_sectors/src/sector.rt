@@ -562,7 +562,7 @@ fn beyond(sector: u32, num_sectors: u32) -> Error
     ensures { IsInvalidData result }
 {
     Error::InvalidData(Detail::numbers(
-        "sector beyond the sectors of the file",
+        "sector {} is not in the file, which has {} sectors",
         sector as u64,
         num_sectors as u64,
     ))

@@ -11,29 +11,12 @@ use std::io::ErrorKind;
 pub fn std_kind(error: &Error) -> ErrorKind
     ensures { result ≡ std_kind error.now }
 {
-    match error {
-        Error::NotFound(_) => ErrorKind::NotFound,
-        Error::AlreadyExists(_) => ErrorKind::AlreadyExists,
-        Error::InvalidInput(_) => ErrorKind::InvalidInput,
-        Error::InvalidData(_) => ErrorKind::InvalidData,
-        Error::Medium(_) => ErrorKind::Other,
-        Error::Memory => ErrorKind::OutOfMemory,
-        Error::Full => ErrorKind::StorageFull,
-        Error::Unsound => ErrorKind::InvalidData,
-        Error::Failed => ErrorKind::Other,
-    }
+    error.std_kind()
 }
 
-/// The error of std's kind, with the text of those errors that have one text.
+/// The error of std's kind, with the text of the refusal.
 pub fn std_error(error: Error) -> io::Error
     ensures { error_kind result ≡ std_kind error }
 {
-    let kind = std_kind(&error);
-    match error {
-        Error::Medium(_) => io::Error::new(kind, "medium failed"),
-        Error::Full => io::Error::new(kind, "file is full"),
-        Error::Unsound => io::Error::new(kind, "file is not sound"),
-        Error::Failed => io::Error::new(kind, "file failed earlier"),
-        _ => io::Error::from(kind),
-    }
+    error.into()
 }

@@ -1,5 +1,5 @@
 //! The FAT in memory, out of the words of the FAT sectors (MS-CFB 2.3).
-ghost use Rattle.std.specs.Prelude.{◌≡◌, ℕ, List, true, not, ◌==◌, ◌<◌, length, map, take, drop, if◌then◌else◌, slice_index, IfOk, IfErr, OnOk};
+ghost use Rattle.std.specs.Prelude.{◌≡◌, ℕ, List, true, not, ◌==◌, ◌<◌, length, map, take, drop, if◌then◌else◌, slice_index, IfOk, IfErr, IfSome, IfNone, OnOk};
 ghost use Rattle.std.specs.List.{list_all, range_with_len};
 ghost use Rattle.cfb_format.specs.Bytes.{free_sector, invalid_sector, points_below};
 ghost use Rattle.cfb_format.specs.Chain.{value};
@@ -39,7 +39,7 @@ pub fn read_fat<A: Allocator>(
 {
     let len = num_sectors as usize;
     if !are_padding(past(&words, len), validation) {
-        return Err(invalid("FAT goes on past the end of the file"));
+        return Err(used_past_end(past(&words, len), len, num_sectors, validation));
     }
     check_in_mode(
         covered(&words, len),
@@ -59,10 +59,42 @@ pub fn read_fat_is_the_files_fat()
     ensures complete { FilesFatIsRead }
 {}
 
-fn invalid(text: &'static str) -> Error
+fn invalid(text: &'static str, sector: u32) -> Error
     ensures { IsInvalidData result }
 {
-    Error::InvalidData(Detail::text(text))
+    Error::InvalidData(Detail::number(text, u64::from(sector)))
+}
+
+/// The number of the sector whose word stands at an index.
+fn sector_at(index: usize) -> u32 {
+    u32::try_from(index).unwrap_or(u32::MAX)
+}
+
+/// A refusal of words past the last of so many sectors, the first of which is that of the sector
+/// `first`: it tells the sector of the first that is no padding.
+pub fn used_past_end(words: &[u32], first: usize, num_sectors: u32, validation: Validation) -> Error
+    ensures { IsInvalidData result }
+{
+    let used = words.iter().position(|word| !is_padding(*word, validation));
+    let sector = first.saturating_add(used.unwrap_or(0));
+    Error::InvalidData(Detail::numbers(
+        "FAT: sector {} is in use, and the file has {} sectors (cut short?)",
+        sector as u64,
+        u64::from(num_sectors),
+    ))
+}
+
+/// A refusal of a table in which the number at `second` goes on in the same one as a number before
+/// it. The text has the places `{two}` and `{}`.
+pub fn shared(text: &'static str, table: &[u32], second: usize) -> Error
+    ensures { IsInvalidData result }
+{
+    let next = table.get(second).copied().unwrap_or(END_OF_CHAIN);
+    let first = table
+        .iter()
+        .position(|word| *word == next)
+        .unwrap_or(second);
+    Error::InvalidData(Detail::sectors(text, sector_at(first), sector_at(second), next))
 }
 
 /// The words of so many sectors, as far as there are any.
@@ -112,11 +144,37 @@ fn are_marked(words: &[u32], listed: &[u32], mark: u32) -> bool
     listed.iter().all(|sector| word_in(words, *sector) == mark)
 }
 
+/// A refusal of the first of these sectors whose word isn't this mark.
+fn unmarked(text: &'static str, words: &[u32], listed: &[u32], mark: u32) -> Error
+    ensures { IsInvalidData result }
+{
+    let other = listed
+        .iter()
+        .find(|sector| word_in(words, **sector) != mark);
+    invalid(text, other.copied().unwrap_or(0))
+}
+
 /// Whether no word points past the last of so many sectors.
 fn point_below(words: &[u32], num_sectors: usize) -> bool
     ensures { result ≡ list_all (points_below num_sectors) words.now }
 {
     words.iter().all(|word| *word > MAX_REGULAR_SECTOR || (*word as usize) < num_sectors)
+}
+
+/// A refusal of the first word that points past the last of so many sectors.
+fn points_past(words: &[u32], num_sectors: usize) -> Error
+    ensures { IsInvalidData result }
+{
+    let sector = words
+        .iter()
+        .position(|word| *word <= MAX_REGULAR_SECTOR && *word as usize >= num_sectors)
+        .unwrap_or(0);
+    let next = words.get(sector).copied().unwrap_or(END_OF_CHAIN);
+    Error::InvalidData(Detail::numbers(
+        "strict: FAT: sector {} goes on in sector {}, which is not in the file",
+        sector as u64,
+        u64::from(next),
+    ))
 }
 
 /// Strict opening wants the sectors of both tables marked in the FAT, and no pointer past the last sector.
@@ -132,13 +190,15 @@ fn check_strictly(
         (HasStrictWords num_sectors words.now fat_sectors.now difat_sectors.now → ⊥) ⊥ ⊥) }
 {
     if !are_marked(words, fat_sectors, FAT_SECTOR) {
-        return Err(invalid("FAT sector is not marked as one"));
+        let text = "strict: FAT: sector {} is not marked as one of the FAT";
+        return Err(unmarked(text, words, fat_sectors, FAT_SECTOR));
     }
     if !are_marked(words, difat_sectors, DIFAT_SECTOR) {
-        return Err(invalid("DIFAT sector is not marked as one"));
+        let text = "strict: FAT: sector {} is not marked as one of the DIFAT";
+        return Err(unmarked(text, words, difat_sectors, DIFAT_SECTOR));
     }
     if !point_below(words, num_sectors) {
-        return Err(invalid("FAT points past the end of the file"));
+        return Err(points_past(words, num_sectors));
     }
     Ok(())
 }
@@ -227,23 +287,24 @@ fn has_no_invalid_mark(fat: &[u32]) -> bool
     fat.iter().all(|value| *value != INVALID_SECTOR)
 }
 
-/// Whether no number is pointed to twice. `Memory`.
-pub fn names_once<A: Allocator>(alloc: A, fat: &[u32]) -> Result<bool, Error>
+/// The first sector that points to a number to which another one points before it, if there is
+/// one. `Memory`.
+pub fn names_twice<A: Allocator>(alloc: A, fat: &[u32]) -> Result<Option<usize>, Error>
     requires within { PointsWithin fat.now }
-    ensures once { IfOk result (λ once. once ≡ true → HasDistinctPointers fat.now) }
-    ensures twice { IfOk result (λ once. HasDistinctPointers fat.now → once ≡ true) }
+    ensures once { IfOk result (λ second. IfNone second (HasDistinctPointers fat.now)) }
+    ensures twice { IfOk result (λ second. IfSome second (λ _. HasDistinctPointers fat.now → ⊥)) }
     ensures err { IfErr result (TableRefused ⊥ Unit ⊥) }
 {
     let mut named = Vec::from_elem(alloc, false, fat.len())?;
-    for sector in fat {
+    for (second, sector) in fat.iter().enumerate() {
         if *sector <= MAX_REGULAR_SECTOR {
             if named[*sector as usize] {
-                return Ok(false);
+                return Ok(Some(second));
             }
             named[*sector as usize] = true;
         }
     }
-    Ok(true)
+    Ok(None)
 }
 
 /// No value may be the mark that is refused, and no sector pointed to twice. `InvalidData` and `Memory`.
@@ -253,10 +314,15 @@ fn check_values<A: Allocator>(alloc: A, fat: &[u32]) -> Result<(), Error>
     ensures err { IfErr result (TableRefused (HasValidValues fat.now → ⊥) Unit ⊥) }
 {
     if !has_no_invalid_mark(fat) {
-        return Err(invalid("FAT holds the invalid mark"));
+        let sector = fat.iter().position(|value| *value == INVALID_SECTOR);
+        let text = "FAT: sector {} has the invalid mark";
+        return Err(invalid(text, sector_at(sector.unwrap_or(0))));
     }
-    if !names_once(alloc, fat)? {
-        return Err(invalid("FAT points to a sector twice"));
+    match names_twice(alloc, fat)? {
+        Some(second) => {
+            let text = "FAT: sectors {two} both go on in sector {}";
+            Err(shared(text, fat, second))
+        }
+        None => Ok(()),
     }
-    Ok(())
 }

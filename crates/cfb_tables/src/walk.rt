@@ -13,7 +13,7 @@ use std::alloc::Allocator;
 fn no_chain(sector: u32) -> Error
     ensures { IsInvalidData result }
 {
-    Error::InvalidData(Detail::number("chain has no end", sector as u64))
+    Error::InvalidData(Detail::number("the chain that begins at {} has no end", sector as u64))
 }
 
 /// The sectors of the chain that begins at `start`, in order (MS-CFB 2.3 and 2.4), in the list that is given, whatever it held:

@@ -10,3 +10,5 @@ mod fats;
 mod listed;
 #[cfg(test)]
 mod mini_table;
+#[cfg(test)]
+mod sectors;

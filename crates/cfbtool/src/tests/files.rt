@@ -20,7 +20,7 @@ const NO_FILES: &[&[&str]] = &[
     &["run", "/proc/self/exe"],
 ];
 
-const TOO_SHORT: &[u8] = b"cfbtool: shorter than a header (0)\n";
+const TOO_SHORT: &[u8] = b"cfbtool: too short for a compound file: 0 bytes, a header has 512\n";
 
 /// A device with no bytes; and targets that are there, of which `link` leads nowhere.
 #[rattlefmt::skip]

@@ -85,10 +85,10 @@ precedes-requires-clause-last_in g c =
     c.loop-current.invariant.done c.loop-current.seen.items c.loop-current.invariant.walk c.loop-current.invariant.last)
 
 pub returns-then-not-precedes-clause-refused : goal.returns-then-not-precedes-clause-refused
-returns-then-not-precedes-clause-refused g c = rw c.malformed-then-not-precedes.ensures.1 (λ list f.
+returns-then-not-precedes-clause-refused g c = λ list f.
     walk-unpreceded c.args.cases.now (entries_of c.args.entries.now) c.args.top c.args.seen.now.items c.loop-current.current c.in-Some.number c.loop-current.last (reverse c.pop.new.self.items)
     c.loop-current.invariant.done c.loop-current.seen.items list (popped-walk g (goal.at.returns-then-not-precedes-clause-refused g c).In-Some)
-    c.if-current.false c.loop-current.invariant.last (sym c.precedes.ensures ∙ c.if-not-precedes.true) f)
+    c.if-current.false c.loop-current.invariant.last (sym c.precedes.ensures ∙ c.if-not-precedes.true) f
 
 pub loop-current-smaller : goal.loop-current-smaller
 loop-current-smaller g c =
