@@ -260,39 +260,3 @@ fn each_mode_takes_its_slots(rt: HostRuntime) {
         check(&rt, &Ok(are_modes_right(rt.alloc(), row)), number);
     }
 }
-
-/// Type and bytes that are put into `foobar`'s slot, the mode, and what is told of entry 44 that
-/// has them.
-type Told = (u8, usize, &'static [u8], Validation, &'static str);
-
-#[rattlefmt::skip]
-const TOLD: [Told; 12] = [
-    (7, 0, b"", Permissive, "entry 44: type 7"),
-    (1, 67, b"\x02", Permissive, "entry 44: colour 2"),
-    (1, 64, b"\x46", Permissive, "entry 44: its name has a length of 70 bytes"),
-    (1, 0, b"\x00\xd8", Permissive, "entry 44: its name is not UTF-16"),
-    (1, 2, b"/", Permissive, "entry 44: its name has one of / \\ : !"),
-    (1, 68, b"\xfd\xff\xff\xff", Permissive, "entry 44: a link to 0xfffffffd"),
-    (2, 76, b"\x38\0\0\0", Permissive, "entry 44: a stream with a child"),
-    (2, 95, b"\x02", Strict, "strict: entry 44: a class id on a stream"),
-    (2, 100, b"\x25", Strict, "strict: entry 44: a moment on a stream"),
-    (1, 116, b"\xfe\xff\xff\xff", Strict, "strict: entry 44: a first sector on a storage"),
-    (1, 120, b"\x01", Strict, "strict: entry 44: a length on a storage"),
-    (1, 64, b"\x0c", Strict, "strict: entry 44: its name does not end"),
-];
-
-fn is_told(alloc: Global, row: &Told) -> Result<bool, Error> {
-    let (kind, at, bytes, mode, text) = *row;
-    let slot = with(foobar(kind), &[(at, bytes)]);
-    match DirEntry::read_from(alloc, 44, &slot, V4, mode) {
-        Ok(_) => Ok(false),
-        Err(error) => Ok(format!(in alloc; "{error}")?.as_str() == text),
-    }
-}
-
-#[test]
-fn refusals_tell_the_entry(rt: HostRuntime) {
-    for (number, row) in TOLD.iter().enumerate() {
-        check(&rt, &is_told(rt.alloc(), row), number);
-    }
-}

@@ -150,7 +150,7 @@ const REFUSED: [Refused; 8] = [
 
 /// Whether a header is refused with this text.
 fn is_refused(alloc: Global, (at, changed, text): &Refused) -> Result<bool, Error> {
-    let bytes = with([0xff; HEADER_LEN], &[(0, &HEADER[..]), (*at, *changed)]);
+    let bytes = with([0xff; HEADER_LEN], &[(0, HEADER), (*at, changed)]);
     match Header::read_from(&bytes, Validation::Strict) {
         Ok(_) => Ok(false),
         Err(error) => Ok(format!(in alloc; "{error}")?.as_str() == *text),

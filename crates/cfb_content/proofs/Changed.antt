@@ -34,6 +34,7 @@ changed-same s i stream = record {
   owned = λ v change all. all;
   sized = λ v change. same-is-sized v s s i change stream refl refl refl refl;
   snug_mini = λ v change snug. snug;
+  gives_back = λ v change frees. absurd (frees.was frees.now);
   tidy = λ v change. tidy-same s;
 }
 

@@ -25,6 +25,7 @@ pub mod Changing
 pub mod Sound
 pub mod Snug
 pub mod SnugMini
+pub mod FreedMinis
 pub mod FreeCounts
 pub mod Freed
 pub mod RoomGiven

@@ -1,5 +1,7 @@
 -- What a change of one stream's content promises of all else, and of the file once it is made (MS-CFB 2.3, 2.4 and 2.6.3).
-use Rattle.std.specs.Prelude.{ℕ, ◌≡◌, false}
+use Rattle.std.specs.Prelude.{ℕ, ◌≡◌, ◌≢◌, false}
+use Rattle.cfb_format.specs.Bytes.{free_sector}
+use Rattle.cfb_format.specs.Chain.{value}
 use Rattle.cfb_format.specs.declared.validate.Validation.{Validation}
 use Rattle.cfb_content.specs.cfb_mini_sectors.State.{IsChangeable, MiniState, bytes_of, table_of}
 use Rattle.cfb_content.specs.cfb_mini_sectors.Steps.{IsSnugMini, KeepsLimits}
@@ -28,11 +30,19 @@ pub record StaysTidy (old new : MiniState) : Type 0 where
   pub counted : dir_count_of new ≡ dir_count_of old
   pub whole : IsOfWholeSectors (table_of old) → IsOfWholeSectors (table_of new)
 
+-- a mini sector that was in use is free
+pub record FreesMini (old new : MiniState) : Type 0 where
+  pub number : ℕ
+  pub was : value old.minifat number ≢ free_sector
+  pub now : value new.minifat number ≡ free_sector
+
 -- where the change is made: a file that could be changed can be changed again, and each sector and mini sector is free or in use if it was so;
--- the stream's chain is as long as it is to be, MiniFAT and mini stream have exactly what they need if they had, and the file stays tidy
+-- the stream's chain is as long as it is to be, MiniFAT and mini stream have exactly what they need if they had, or where a mini sector came
+-- free, and the file stays tidy
 pub record WasChanged (old new : MiniState) (i : ℕ) : Type 0 where
   pub holds : (v : Validation) → IsChangeable v old → IsChangeable v new
   pub owned : (v : Validation) → IsChangeable v old → AreAllUsed old → AreAllUsed new
   pub sized : (v : Validation) → IsChangeable v old → SizesChain old new i
   pub snug_mini : (v : Validation) → IsChangeable v old → IsSnugMini old → IsSnugMini new
+  pub gives_back : (v : Validation) → IsChangeable v old → FreesMini old new → IsSnugMini new
   pub tidy : (v : Validation) → IsChangeable v old → StaysTidy old new

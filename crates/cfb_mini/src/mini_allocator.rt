@@ -40,6 +40,7 @@ ghost use Rattle.cfb_mini.specs.cfb_mini_table.MiniTable.{AcceptsMini, IsTooFewM
 ghost use Rattle.cfb_mini.specs.cfb_mini_sectors.State.{MiniState, HoldsMini, bytes_of, cases_of, entries_of, mini_place, mini_stream_of, parts_of, root_len_of, table_of, tables_in, version_of};
 ghost use Rattle.cfb_mini.specs.cfb_mini_sectors.Steps.{AreStartsUnnamed, BeginsSystem, CanGiveRoomBack, EndsNoChain, GivesRoomBack, GrowsFor, IsInMiniStream, IsMeasuredMini, IsNotHeld, IsSnugMini, IsTooFewAfterFor, IsTooFewFor, IsZeroMini, KeepsHeader, KeepsLimits, KeepsMini, KeepsSizes, MovesRoot, SparesMini, StopsShort, StopsShortOrFull, mini_stream_lacks, minifat_lacks, system_sectors};
 ghost use Rattle.cfb_mini.specs.cfb_mini_sectors.Held.{with_table};
+ghost use Rattle.cfb_mini.specs.cfb_mini_sectors.Pieces.{AreZeros};
 ghost use Rattle.cfb_mini_changes.specs.Changing.{AreMinifatSectors, root_len_in};
 ghost use Rattle.cfb_mini_changes.specs.MiniSectors.{ChangesFileOnly, HasMiniByte, HasMiniSector, IsStill, IsOfWholeSectors, KeepsMiniBytesBut};
 
@@ -591,7 +592,7 @@ impl<F: Medium, A: Heap> MiniAllocator<F, A> {
     }
 
     /// Leaves so many mini sectors of the mini chain that has just the listed ones, frees the ones behind them, and takes them off the
-    /// list. What is freed reads as zeros where the mini stream still has it. The sectors of the MiniFAT and of the mini stream that the
+    /// list. Where they stood the file has zeros, also where the mini stream ends before. The sectors of the MiniFAT and of the mini stream that the
     /// root's length does not need then are given back, and the header's count follows. It asks for no memory. Where there are no more
     /// than so many mini sectors nothing changes.
     ///
@@ -628,6 +629,9 @@ impl<F: Medium, A: Heap> MiniAllocator<F, A> {
         ensures wiped { IsTrue F.tells → (validation : Validation) → HoldsMini validation self.old
             → OnOk result ((m : ℕ) → Contains (drop left ids.old.items) m
             → IsInMiniStream self.new m → IsZeroMini self.new m) }
+        ensures erased { IsTrue F.tells → (validation : Validation) → HoldsMini validation self.old
+            → OnOk result ((m : ℕ) → Contains (drop left ids.old.items) m
+            → AreZeros (bytes_of self.new) (mini_place self.old m)) }
         ensures spares { IsTrue F.tells
             → Spares (system_sectors self.old) (table_of self.old) (table_of self.new) }
         ensures mini_spares { IsTrue F.tells → (validation : Validation)
@@ -739,6 +743,10 @@ impl<F: Medium, A: Heap + Clone> MiniAllocator<F, A> {
             → HoldsMini validation self.old → (list : List ℕ) → IsChain self.old.minifat start list
             → OnOk result ((m : ℕ) → Contains list m
             → IsInMiniStream self.new m → IsZeroMini self.new m) }
+        ensures erased { IsTrue F.tells → (validation : Validation)
+            → HoldsMini validation self.old → (list : List ℕ) → IsChain self.old.minifat start list
+            → OnOk result ((m : ℕ) → Contains list m
+            → AreZeros (bytes_of self.new) (mini_place self.old m)) }
         ensures spares { IsTrue F.tells
             → Spares (system_sectors self.old) (table_of self.old) (table_of self.new) }
         ensures mini_spares { IsTrue F.tells
@@ -792,6 +800,10 @@ impl<F: Medium, A: Heap + Clone> MiniAllocator<F, A> {
             → (list : List ℕ) → IsChain self.old.minifat mini (mini ∷ list)
             → OnOk result ((m : ℕ) → Contains list m
             → IsInMiniStream self.new m → IsZeroMini self.new m) }
+        ensures erased { IsTrue F.tells → (validation : Validation) → HoldsMini validation self.old
+            → (list : List ℕ) → IsChain self.old.minifat mini (mini ∷ list)
+            → OnOk result ((m : ℕ) → Contains list m
+            → AreZeros (bytes_of self.new) (mini_place self.old m)) }
         ensures spares { IsTrue F.tells
             → Spares (system_sectors self.old) (table_of self.old) (table_of self.new) }
         ensures mini_spares { IsTrue F.tells → (validation : Validation)

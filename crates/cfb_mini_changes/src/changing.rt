@@ -27,7 +27,7 @@ ghost use Rattle.cfb_mini_sectors.specs.Steps.{AreStartsUnnamed, BeginsSystem, C
 ghost use Rattle.cfb_mini_changes.specs.cfb_soundness.Places.{mini_start};
 ghost use Rattle.cfb_mini_sectors.specs.Giving.{CanGiveBack};
 ghost use Rattle.cfb_mini_sectors.specs.Held.{HoldsMiniBut, with_minifat};
-ghost use Rattle.cfb_mini_sectors.specs.Pieces.{HaveMinis, HaveWords};
+ghost use Rattle.cfb_mini_sectors.specs.Pieces.{AreZeros, HaveMinis, HaveWords};
 ghost use Rattle.cfb_mini_changes.specs.MiniSectors.{HasMiniSector, IsOfWholeSectors, KeepsMiniBytesBut};
 ghost use Rattle.cfb_mini_changes.specs.Changing.{HaveSectors, IsNamedMini, IsStreamApart, KeepsAllButRoom, mini_of};
 
@@ -766,6 +766,11 @@ fn settle_freed<F: Medium, A: Heap>(
         (mini_of directory.new table.now minifat_sectors.new.items (Some stream.new.items)) m
         → IsZeroMini
         (mini_of directory.new table.now minifat_sectors.new.items (Some stream.new.items)) m) }
+    ensures erased { IsTrue F.tells → (validation : Validation) (late minifat : List ℕ)
+        → HoldsMiniBut late validation (with_minifat
+        (mini_of directory.old table.now minifat_sectors.old.items (Some stream.old.items)) minifat)
+        → OnOk result ((m : ℕ) → Contains minis.now m → AreZeros directory.new.table.file.bytes
+        (mini_start directory.old.table.tables.version stream.old.items m)) }
     ensures other_minis { IsTrue F.tells → (validation : Validation) (late minifat : List ℕ)
         → HoldsMiniBut late validation (with_minifat
         (mini_of directory.old table.now minifat_sectors.old.items (Some stream.old.items)) minifat)
@@ -847,6 +852,11 @@ pub fn cut_listed<F: Medium, A: Heap>(
         (mini_of directory.new table.new minifat_sectors.new.items (Some stream.new.items)) m
         → IsZeroMini
         (mini_of directory.new table.new minifat_sectors.new.items (Some stream.new.items)) m) }
+    ensures erased { IsTrue F.tells → (validation : Validation) → HoldsMini validation
+        (mini_of directory.old table.old minifat_sectors.old.items (Some stream.old.items))
+        → OnOk result ((m : ℕ) → Contains (drop left ids.old.items) m
+        → AreZeros directory.new.table.file.bytes
+        (mini_start directory.old.table.tables.version stream.old.items m)) }
     ensures spares { IsTrue F.tells → Spares (system_sectors
         (mini_of directory.old table.old minifat_sectors.old.items (Some stream.old.items)))
         directory.old.table directory.new.table }

@@ -23,7 +23,7 @@ use Rattle.cfb_resizing.proofs.cfb_alloc.Frames.{other-chains-spared, spares-the
 use Rattle.cfb_resizing.specs.cfb_chains.ChainPlaces.{place_along}
 use Rattle.cfb_resizing.specs.cfb_mini_sectors.State.{HoldsMini, MiniState, bytes_of, mini_place, mini_stream_of, table_of, tables_in, version_of}
 use Rattle.cfb_resizing.specs.cfb_mini_table.MiniTable.{MiniGivesBack}
-use Rattle.cfb_resizing.specs.cfb_mini_sectors.Steps.{AreStartsUnnamed, CanGiveRoomBack, GivesRoomBack, IsInMiniStream, IsZeroMini, KeepsLimits, KeepsSizes, MovesRoot, SparesMini, system_sectors}
+use Rattle.cfb_resizing.specs.cfb_mini_sectors.Steps.{AreStartsUnnamed, CanGiveRoomBack, GivesRoomBack, IsInMiniStream, IsSnugMini, IsZeroMini, KeepsLimits, KeepsSizes, MovesRoot, SparesMini, system_sectors}
 use Rattle.cfb_resizing.specs.cfb_mini_sectors.Held.{with_table}
 use Rattle.cfb_resizing.proofs.cfb_mini_sectors.HeldMini.{no-tables}
 use Rattle.cfb_resizing.proofs.cfb_mini_sectors.MinifatGrown.{same_listed}
@@ -142,12 +142,14 @@ module _ (s mid : MiniState) (list : List ℕ) where
 
     -- the mini chain went, and then the chain began
     pub carried-makes : (v : Validation) (count : ℕ) (ids : List ℕ) → HoldsMini v s → (0 < length list → CanGiveRoomBack s → GivesRoomBack s mid) → (length list ≤ 0 → mid ≡ s)
-        → MiniGivesBack [] list s.minifat mid.minifat → Lengthens count [] ids lent.tables a.tables → CarriesToSectors count list ids s (with_table mid a)
-    carried-makes v count ids held room none freed made = record {
+        → MiniGivesBack [] list s.minifat mid.minifat → (0 < length list → IsSnugMini (with_table mid a)) → Lengthens count [] ids lent.tables a.tables
+        → CarriesToSectors count list ids s (with_table mid a)
+    carried-makes v count ids held room none freed snug made = record {
       mid = mid;
       room = cut-settles v s mid 0 list held room none;
       none = λ empty. none (omega (arith, ap (λ (l : List ℕ). length l) empty));
       freed = freed;
+      snug = snug;
       mini = record { minifat = refl; minifat_sectors = refl; mini_stream = refl };
       longer = subst (λ (b : AllocatorState). Lengthens count [] ids b.tables a.tables) is-lent made;
     }

@@ -20,7 +20,7 @@ use Rattle.cfb_resizing.proofs.cfb_chains.LentContent.{wanted_is}
 use Rattle.cfb_resizing.proofs.cfb_chains.OwnWrites.{enough_by}
 use Rattle.cfb_resizing.specs.cfb_mini_table.MiniTable.{MiniGivesBack}
 use Rattle.cfb_resizing.specs.cfb_mini_sectors.State.{HoldsMini, IsChangeable, MiniState, bytes_of, content_of, entries_of, table_of, tables_in, version_of}
-use Rattle.cfb_resizing.specs.cfb_mini_sectors.Steps.{CanGiveRoomBack, IsInMiniStream, IsZeroMini, SparesMini, system_sectors}
+use Rattle.cfb_resizing.specs.cfb_mini_sectors.Steps.{CanGiveRoomBack, IsInMiniStream, IsSnugMini, IsZeroMini, SparesMini, system_sectors}
 use Rattle.cfb_resizing.proofs.cfb_mini_sectors.HeldMini.{no-tables}
 use Rattle.cfb_resizing.proofs.cfb_mini_sectors.MiniFrames.{nothing-touched as no-mini-touched}
 use Rattle.cfb_resizing.specs.cfb_mini.MiniSectors.{IsStill}
@@ -183,6 +183,7 @@ module _ (v : Validation) (s new : MiniState) (i size count : ℕ) (list ids byt
     room = carried.room;
     none = λ empty. carried.none (sym owned ∙ empty);
     freed = subst (λ (l : List ℕ). MiniGivesBack [] l s.minifat carried.mid.minifat) (sym owned) carried.freed;
+    snug = subst (λ (l : List ℕ). 0 < length l → IsSnugMini new) (sym owned) carried.snug;
     wiped = subst (λ (l : List ℕ). (m : ℕ) → Contains l m → IsInMiniStream new m → IsZeroMini new m) (sym owned) wiped;
     mini = carried.mini;
     longer = carried.longer;
@@ -203,6 +204,7 @@ moved-turns v s new i size start from none held t = inr (inr (inr (inr (inr (rec
   room = t.room;
   none = t.none;
   freed = t.freed;
+  snug = t.snug;
   wiped = t.wiped;
   mini = t.mini;
   longer = t.longer;

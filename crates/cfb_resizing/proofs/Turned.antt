@@ -28,7 +28,7 @@ use Rattle.cfb_resizing.specs.cfb_mini_sectors.Steps.{IsInMiniStream, IsZeroMini
 use Rattle.cfb_content.specs.Contents.{SizesChain, WipesMinis, len_of, mini_place_along, mini_sectors_owned, sectors_owned, AreAllUsed}
 use Rattle.cfb_content.specs.Laws.{StandsResized}
 use Rattle.cfb_content.specs.Uses.{ChangesContent, ChangesUse, Owns}
-use Rattle.cfb_content.specs.Changed.{StaysTidy, WasChanged}
+use Rattle.cfb_content.specs.Changed.{FreesMini, StaysTidy, WasChanged}
 use Rattle.cfb_content.proofs.Changing.{growth-stays, large-becomes-small, large-goes-on, large-is-cut, same-is-used, small-becomes-large, small-goes-on, small-is-cut}
 use Rattle.cfb_content.proofs.Owned.{empty-owns-nothing, large-no-mini, large-owns-its-chain, small-no-sector, small-owns-its-chain}
 use Rattle.cfb_content.proofs.Readable.{stream-owns-its-own}
@@ -72,10 +72,11 @@ always-on-ok (Err e) p = tt
 -- what a step answers of each mode, it answers of all
 pub all-changed : {T E : Type 0} (r : Result T E) (old new : MiniState) (i : ℕ) → ((v : Validation) → IsChangeable v old → OnOk r (IsChangeable v new))
     → ((v : Validation) → IsChangeable v old → AreAllUsed old → OnOk r (AreAllUsed new)) → ((v : Validation) → IsChangeable v old → OnOk r (SizesChain old new i))
-    → ((v : Validation) → IsChangeable v old → IsSnugMini old → IsSnugMini new) → ((v : Validation) → IsChangeable v old → OnOk r (StaysTidy old new))
-    → OnOk r (WasChanged old new i)
-all-changed (Ok x) old new i holds owned sized snug tidy = record { holds = holds; owned = owned; sized = sized; snug_mini = snug; tidy = tidy }
-all-changed (Err e) old new i holds owned sized snug tidy = tt
+    → ((v : Validation) → IsChangeable v old → IsSnugMini old → IsSnugMini new) → ((v : Validation) → IsChangeable v old → FreesMini old new → IsSnugMini new)
+    → ((v : Validation) → IsChangeable v old → OnOk r (StaysTidy old new)) → OnOk r (WasChanged old new i)
+all-changed (Ok x) old new i holds owned sized snug freed tidy =
+    record { holds = holds; owned = owned; sized = sized; snug_mini = snug; gives_back = freed; tidy = tidy }
+all-changed (Err e) old new i holds owned sized snug freed tidy = tt
 
 pub all-resized : {T E : Type 0} (r : Result T E) (old new : MiniState) (i size : ℕ)
     → ((v : Validation) → IsChangeable v old → OnOk r (content_of new (entry_at (entries_of new) i) ≡ resized (content_of old (entry_at (entries_of old) i)) size))

@@ -21,7 +21,7 @@ use Rattle.cfb_tables.proofs.RoomLemmas.{nothing-given-back}
 use Rattle.cfb_resizing.proofs.cfb_chains.ChainContent.{taken_index}
 use Rattle.cfb_resizing.specs.cfb_mini_table.MiniTable.{MiniGivesBack, TakesMini}
 use Rattle.cfb_resizing.specs.cfb_mini_sectors.State.{HoldsMini, IsChangeable, MiniState, bytes_of, content_of, entries_of, mini_place, mini_stream_of, table_of, tables_in, version_of}
-use Rattle.cfb_resizing.specs.cfb_mini_sectors.Steps.{BeginsSystem, CanGiveRoomBack, GivesRoomBack, GrowsFor, IsInMiniStream, IsNotHeld, IsTooFewAfterFor, IsTooFewFor, IsZeroMini, KeepsMini, KeepsSystem, SettlesRoom, SparesMini, minifat_lacks, minifat_len_with, mini_stream_lacks, system_sectors}
+use Rattle.cfb_resizing.specs.cfb_mini_sectors.Steps.{BeginsSystem, CanGiveRoomBack, GivesRoomBack, GrowsFor, IsInMiniStream, IsNotHeld, IsSnugMini, IsTooFewAfterFor, IsTooFewFor, IsZeroMini, KeepsMini, KeepsSystem, SettlesRoom, SparesMini, minifat_lacks, minifat_len_with, mini_stream_lacks, system_sectors}
 use Rattle.cfb_resizing.proofs.cfb_mini_sectors.HeldShortened.{taken-among}
 use Rattle.cfb_resizing.proofs.cfb_mini_sectors.MiniFrames.{held-places, shorter-place, version-place}
 use Rattle.cfb_resizing.proofs.cfb_mini_sectors.MiniStreams.{begins}
@@ -91,7 +91,7 @@ module _ (v : Validation) (old new : MiniState) (i size wanted : ℕ) (list list
     (given : MiniGivesBack (ends_of (take wanted list)) (drop wanted list) old.minifat new.minifat) (room : SettlesRoom old new)
     (version : version_of new ≡ version_of old) (stays : BeginsSystem old new)
     (left : IsChain new.minifat (first_or_end list') list') (keeps : KeepsMiniBytesBut (drop wanted list) old new)
-    (wiped : (m : ℕ) → Contains (drop wanted list) m → IsInMiniStream new m → IsZeroMini new m) where
+    (wiped : (m : ℕ) → Contains (drop wanted list) m → IsInMiniStream new m → IsZeroMini new m) (snug : wanted < length list → IsSnugMini new) where
   cut-owned : mini_sectors_owned old i ≡ list
   cut-owned = owned-minis old i small list whole
 
@@ -161,6 +161,7 @@ module _ (v : Validation) (old new : MiniState) (i size wanted : ℕ) (list list
     listed = listed ∙ ap (λ (l : List ℕ). take wanted l) (sym cut-owned);
     given_back = subst (λ (l : List ℕ). MiniGivesBack (ends_of (take wanted l)) (drop wanted l) old.minifat new.minifat) (sym cut-owned) given;
     wiped = subst (λ (l : List ℕ). (m : ℕ) → Contains (drop wanted l) m → IsInMiniStream new m → IsZeroMini new m) (sym cut-owned) wiped;
+    snug = subst (λ (l : List ℕ). wanted < length l → IsSnugMini new) (sym cut-owned) snug;
     lies = mini-cut-lies;
   }))))
 

@@ -112,6 +112,7 @@ pub record TurnsByMiniCut (old new : MiniState) (i size start : ℕ) : Type 0 wh
   pub listed : ns ≡ take left (mini_sectors_owned old i)
   pub given_back : MiniGivesBack (ends_of (take left (mini_sectors_owned old i))) (drop left (mini_sectors_owned old i)) old.minifat new.minifat
   pub wiped : (m : ℕ) → Contains (drop left (mini_sectors_owned old i)) m → IsInMiniStream new m → IsZeroMini new m
+  pub snug : left < length (mini_sectors_owned old i) → IsSnugMini new
   pub lies : LiesTurnedInMinis old new i size start ns
 
 -- a large stream's chain was freed, and then a mini chain began, or none where nothing is left
@@ -137,6 +138,7 @@ pub record TurnsLarge (old new : MiniState) (i size start : ℕ) : Type 0 where
   pub none : mini_sectors_owned old i ≡ [] → mid ≡ old
   pub freed : MiniGivesBack [] (mini_sectors_owned old i) old.minifat mid.minifat
   pub wiped : (m : ℕ) → Contains (mini_sectors_owned old i) m → IsInMiniStream new m → IsZeroMini new m
+  pub snug : 0 < length (mini_sectors_owned old i) → IsSnugMini new
   pub mini : KeepsMini mid new
   pub longer : Lengthens count [] ys (tables_in mid) (tables_in new)
   pub lies : LiesTurnedInSectors old new i size start ys
@@ -156,6 +158,7 @@ pub record CarriesToSectors (count : ℕ) (list ids : List ℕ) (old new : MiniS
   pub room : SettlesRoom old mid
   pub none : list ≡ [] → mid ≡ old
   pub freed : MiniGivesBack [] list old.minifat mid.minifat
+  pub snug : 0 < length list → IsSnugMini new
   pub mini : KeepsMini mid new
   pub longer : Lengthens count [] ids (tables_in mid) (tables_in new)
 
@@ -227,6 +230,7 @@ pub record MovesWith (old new : MiniState) (i size : ℕ) (from : List ℕ) (sta
   pub none : mini_sectors_owned old i ≡ [] → mid ≡ old
   pub freed : MiniGivesBack [] (mini_sectors_owned old i) old.minifat mid.minifat
   pub wiped : (m : ℕ) → Contains (mini_sectors_owned old i) m → IsInMiniStream new m → IsZeroMini new m
+  pub snug : 0 < length (mini_sectors_owned old i) → IsSnugMini new
   pub mini : KeepsMini mid new
   pub longer : Lengthens count [] ys (tables_in mid) (tables_in new)
   pub lies : LiesAlongSectors old new i size start ys

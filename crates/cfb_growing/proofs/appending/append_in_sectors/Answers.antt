@@ -15,7 +15,9 @@ use Rattle.cfb_growing.proofs.cfb_content.FixedHeader.{header-then, spared-keeps
 use Rattle.cfb_growing.proofs.cfb_content.Outlines.{moved-root-moved, stream-is-no-root, stream-stays}
 use Rattle.cfb_growing.specs.cfb_content.Contents.{IsNotChangeable, len_of}
 use Rattle.cfb_growing.proofs.cfb_content.Changed.{moves-same, spares-same}
+use Rattle.cfb_growing.proofs.cfb_content.FreedMinis.{frees-before}
 use Rattle.cfb_growing.proofs.cfb_content.SnugMini.{kept-is-snug-mini}
+use Rattle.cfb_resizing.proofs.SnugMinis.{puts-frees}
 use Rattle.cfb_growing.proofs.cfb_content.Sound.{all-used-kept, changed-is-changeable}
 use Rattle.cfb_growing.proofs.cfb_content.StreamEntry.{stream-inside}
 use Rattle.cfb_resizing.proofs.LengthenedMinis.{not-both}
@@ -148,6 +150,10 @@ returns-clause-changed g c told =
     (λ v change snug. kept-is-snug-mini c.put_at_end.new.mini new c.name_content.ensures.limits.version c.name_content.ensures.mini
     (ap (λ (e : Entry). e.start_sector) c.name_content.ensures.root) (ap (λ (e : Entry). e.stream_len) c.name_content.ensures.root)
     (c.in_ok-start.ensures.snug_mini told v change snug))
+    (λ v change frees. kept-is-snug-mini c.put_at_end.new.mini new c.name_content.ensures.limits.version c.name_content.ensures.mini
+    (ap (λ (e : Entry). e.start_sector) c.name_content.ensures.root) (ap (λ (e : Entry). e.stream_len) c.name_content.ensures.root)
+    (puts-frees s c.put_at_end.new.mini i c.in_ok-start.start c.args.bytes.now (c.in_ok-start.ensures.put told v change)
+    (frees-before s c.put_at_end.new.mini new c.name_content.ensures.mini.minifat frees)))
     (λ v change. on_ok_weaker c.name_content.result
     (λ held. named-tidy v s c.put_at_end.new.mini new (c.in_ok-start.ensures.holds told v change) held c.name_content.ensures.system (c.name_content.ensures.header told)
     (c.name_content.ensures.spares told) (c.in_ok-start.ensures.tidy told v change))

@@ -15,7 +15,7 @@ use Rattle.cfb_growing.proofs.cfb_content.StreamEntry.{stream-inside}
 use Rattle.cfb_growing.proofs.cfb_content.Changed.{moves-same, spares-same, changed-same, spares-behind}
 use Rattle.cfb_resizing.proofs.PutBehind.{appended, filed-entries, filed-sized, filed-tables, filed-tidy, filed-used, stops-behind, filed-alone, still-begun}
 use Rattle.cfb_resizing.proofs.Tightness.{leaves-less}
-use Rattle.cfb_resizing.proofs.SnugMinis.{filed-snug}
+use Rattle.cfb_resizing.proofs.SnugMinis.{filed-frees, filed-snug}
 use Rattle.cfb_growing.proofs.putting.append_all.Goals as goal
 use Rattle.cfb_growing.proofs.cfb_tables.Refusals.{refused-as}
 
@@ -125,6 +125,8 @@ returns-clause-changed g c told =
       owned = λ v change all. filed-used c.grow_to.new.mini c.write_listed.new.mini c.in_ok-write_listed.ensures.rest (made.owned v change all);
       sized = λ v change. filed-sized c.grow_to.new.mini c.write_listed.new.mini c.in_ok-write_listed.ensures.rest c.args.mini.now c.args.entry (made.sized v change);
       snug_mini = λ v change snug. filed-snug c.grow_to.new.mini c.write_listed.new.mini c.in_ok-write_listed.ensures.rest (made.snug_mini v change snug);
+      gives_back = λ v change frees. filed-snug c.grow_to.new.mini c.write_listed.new.mini c.in_ok-write_listed.ensures.rest
+          (made.gives_back v change (filed-frees c.args.mini.now c.grow_to.new.mini c.write_listed.new.mini c.in_ok-write_listed.ensures.rest frees));
       tidy = λ v change.
           filed-tidy c.grow_to.new.mini c.write_listed.new.mini c.in_ok-write_listed.ensures.rest v c.args.mini.now (c.in_ok-write_listed.ensures.holds told v (made.holds v change)).held
           (c.in_ok-write_listed.ensures.counted told v (made.holds v change)) (c.write_listed.ensures.header told).no_shorter (made.tidy v change);

@@ -18,7 +18,7 @@ use Rattle.cfb_growing.proofs.cfb_content.StreamEntry.{stream-inside}
 use Rattle.cfb_growing.proofs.cfb_content.Changed.{moves-same, spares-same, changed-same, tidy-same}
 use Rattle.cfb_resizing.proofs.PutBehind.{filed-entries, filed-sized, filed-tables, filed-tidy, filed-used, filed-alone}
 use Rattle.cfb_resizing.proofs.Tightness.{leaves-less}
-use Rattle.cfb_resizing.proofs.SnugMinis.{filed-snug}
+use Rattle.cfb_resizing.proofs.SnugMinis.{filed-frees, filed-snug}
 use Rattle.cfb_growing.proofs.putting.put_content.Goals as goal
 use Rattle.cfb_growing.proofs.cfb_tables.Refusals.{refused-as}
 
@@ -123,6 +123,7 @@ returns-clause-changed g c told =
       owned = λ v change all. filed-used c.args.mini.now c.write_content.new.mini c.in_ok-write_content.ensures.rest all;
       sized = λ v change. filed-sized c.args.mini.now c.write_content.new.mini c.in_ok-write_content.ensures.rest s c.args.entry (same-is-sized v s s c.args.entry change c.requires.stream refl refl refl refl);
       snug_mini = λ v change snug. filed-snug c.args.mini.now c.write_content.new.mini c.in_ok-write_content.ensures.rest snug;
+      gives_back = λ v change frees. (let same = filed-frees s s c.write_content.new.mini c.in_ok-write_content.ensures.rest frees in absurd (same.was same.now));
       tidy = λ v change.
           filed-tidy s c.write_content.new.mini c.in_ok-write_content.ensures.rest v s (c.in_ok-write_content.ensures.holds told v change).held
           (c.in_ok-write_content.ensures.counted told v change) (c.write_content.ensures.header told).no_shorter (tidy-same s);

@@ -8,7 +8,8 @@ use Rattle.cfb_mini_changes.proofs.cfb_alloc.Spared.{spares_refl}
 use Rattle.cfb_mini_changes.specs.cfb_mini_table.MiniTable.{MiniGivesBack, MiniTableState}
 use Rattle.cfb_mini_sectors.specs.Steps.{IsInMiniStream, IsNotHeld, IsZeroMini, system_sectors}
 use Rattle.cfb_mini_sectors.specs.Held.{HoldsMiniBut, with_minifat}
-use Rattle.cfb_mini_sectors.specs.Pieces.{HaveMinis, HaveWords}
+use Rattle.cfb_mini_sectors.specs.Pieces.{AreZeros, HaveMinis, HaveWords}
+use Rattle.cfb_mini_changes.specs.cfb_soundness.Places.{mini_start}
 use Rattle.cfb_mini_sectors.proofs.HeldGrown.{but-places}
 use Rattle.cfb_mini_sectors.proofs.HeldSteps.{held-but}
 use Rattle.cfb_mini_sectors.proofs.MiniFrames.{nothing-touched}
@@ -111,6 +112,24 @@ returns-clause-wiped g c told validation h =
     let held = subst (λ n. HoldsMiniBut [] validation (record a { max_mini_sectors = n })) limit (held-but validation a h) in
     let shown = shown-rest c.deref-6.result.now ids left c.deref-6.ensures.value in
     subst (λ (l : List ℕ). OnOk c.settle_freed-freed.result ((m : ℕ) → Contains l m → IsInMiniStream d m → IsZeroMini d m)) shown (of.zeros told validation [] table.minifat held)
+
+pub returns-clause-erased : goal.returns-clause-erased
+returns-clause-erased g c told validation h =
+    let directory = c.args.directory.now in
+    let table = c.args.table.now in
+    let sectors = c.args.minifat_sectors.now.items in
+    let stream = c.args.stream.now.items in
+    let ids = c.args.ids.now.items in
+    let left = c.args.left in
+    let a = mini_of directory table sectors (Some stream) in
+    let cut = c.cut_listed.new.self in
+    let now = c.settle_freed-freed.new.directory in
+    let of = c.settle_freed-freed.ensures in
+    let limit : table.limit ≡ cut.limit = sym (ap (λ (t : MiniTableState). t.limit) c.cut_listed.ensures.rest) in
+    let held = subst (λ n. HoldsMiniBut [] validation (record a { max_mini_sectors = n })) limit (held-but validation a h) in
+    let shown = shown-rest c.deref-6.result.now ids left c.deref-6.ensures.value in
+    subst (λ (l : List ℕ). OnOk c.settle_freed-freed.result ((m : ℕ) → Contains l m → AreZeros now.table.file.bytes (mini_start directory.table.tables.version stream m)))
+    shown (of.erased told validation [] table.minifat held)
 
 pub returns-clause-mini_spares : goal.returns-clause-mini_spares
 returns-clause-mini_spares g c told validation h =

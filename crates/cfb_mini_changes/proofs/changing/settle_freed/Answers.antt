@@ -10,6 +10,7 @@ use Rattle.cfb_mini_changes.proofs.cfb_alloc.Frames.{spares-less, spares-then}
 use Rattle.cfb_mini_changes.specs.cfb_directory.Growing.{ArePlaced}
 use Rattle.cfb_mini_changes.specs.cfb_directory.State.{DirectoryState}
 use Rattle.cfb_mini_changes.specs.cfb_soundness.Places.{mini_start}
+use Rattle.cfb_mini_sectors.specs.Pieces.{AreZeros}
 use Rattle.cfb_mini_sectors.specs.State.{mini_place}
 use Rattle.cfb_mini_sectors.specs.Steps.{IsZeroMini, system_sectors}
 use Rattle.cfb_mini_sectors.specs.Held.{HoldsMiniBut, with_minifat}
@@ -18,7 +19,7 @@ use Rattle.cfb_mini_changes.specs.MiniSectors.{HasMiniSector}
 use Rattle.cfb_mini_changes.proofs.MiniExtended.{header-then, header-whole}
 use Rattle.cfb_mini_changes.proofs.MiniGiven.{apart-with, can-then, gives-then, kept-named, kept-then, left-place, left-zero, starts-then}
 use Rattle.cfb_mini_changes.proofs.MiniKnown.{has-mini, mini-has}
-use Rattle.cfb_mini_changes.proofs.MiniSettled.{behind-directory, root-still, stream-apart}
+use Rattle.cfb_mini_changes.proofs.MiniSettled.{behind-directory, root-still, stream-apart, zeros-kept}
 use Rattle.cfb_mini_changes.proofs.changing.settle_freed.Goals as goal
 use Rattle.cfb_mini_changes.proofs.cfb_sectors.SectorLemmas.{Stays_trans}
 
@@ -145,6 +146,31 @@ returns-clause-zeros g c told validation late minifat h =
     let has = mini-has old.table.tables.version stream (length old.table.tables.fat) m b (ap (λ (t : TableState). t.version) (sym tables)) refl
     (ap (λ (t : TableState). length t.fat) (sym tables)) (record { listed = (c.requires.minis m here).listed; within = (c.requires.minis m here).within }) in
     left-zero b d mid.table.file.bytes m place.1 (c.give_room_back.ensures.minis told apart m has) (record { there = zero.there; zeros = zero.zeros }))
+
+pub returns-clause-erased : goal.returns-clause-erased
+returns-clause-erased g c told validation late minifat h =
+    let table = c.args.table.now in
+    let sectors = c.args.minifat_sectors.now.items in
+    let stream = c.args.stream.now.items in
+    let new = c.give_room_back.new in
+    let old = c.args.directory.now in
+    let mid = c.write_sectors.new.directory in
+    let s = with_minifat (mini_of old table sectors (Some stream)) minifat in
+    let b = mini_of mid table sectors (Some stream) in
+    let same = ap (λ (x : DirectoryState). x.sectors) c.write_sectors.ensures.rest in
+    let tables = c.write_sectors.ensures.tables in
+    let apart = apart-with s b tables same refl (stream-apart validation late s h) in
+    let Says = λ (m l : List ℕ). IsDistinct nat_eq (system_sectors (mini_of old table m (Some l))) → (k : ℕ) → Contains c.args.minis.now k
+    → IsZeroMini (mini_of mid table m (Some l)) k in
+    let written = subst (λ (l : List ℕ). Says sectors l) c.deref-2.ensures.value
+    (subst (λ (m : List ℕ). Says m c.deref-2.result.now) c.deref.ensures.value (c.in_ok-write_sectors.ensures.zeros told)) h.apart in
+    all_ok c.give_room_back.result (λ m here.
+    let zero = written m here in
+    let has = mini-has old.table.tables.version stream (length old.table.tables.fat) m b (ap (λ (t : TableState). t.version) (sym tables)) refl
+    (ap (λ (t : TableState). length t.fat) (sym tables)) (record { listed = (c.requires.minis m here).listed; within = (c.requires.minis m here).within }) in
+    subst (λ (t : TableState). AreZeros new.directory.table.file.bytes (mini_start t.version stream m)) tables
+    (zeros-kept mid.table.file.bytes new.directory.table.file.bytes (mini_place b m) (c.give_room_back.ensures.minis told apart m has)
+    (record { there = zero.there; zeros = zero.zeros })))
 
 pub returns-clause-other_minis : goal.returns-clause-other_minis
 returns-clause-other_minis g c told validation late minifat h m has out =

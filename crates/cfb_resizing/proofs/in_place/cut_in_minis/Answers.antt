@@ -69,7 +69,8 @@ returns-clause-turned g c told = record {
       (mini-cut-turns v s new i c.args.size c.div_ceil-wanted.result list list' change c.requires.stream c.requires.small c.requires.shorter whole
       (omega (arith, c.div_ceil-wanted.ensures)) c.in_ok-cut_mini_listed.ensures.listed c.in_ok-cut_mini_listed.ensures.given_back
       (cut-settles v s new c.div_ceil-wanted.result list change.held c.in_ok-cut_mini_listed.ensures.room (λ all. (c.cut_mini_listed.ensures.none all).1))
-      c.cut_mini_listed.ensures.limits.version c.cut_mini_listed.ensures.stays c.cut_mini_listed.ensures.chain (c.cut_mini_listed.ensures.bytes told v change.held) (c.in_ok-cut_mini_listed.ensures.wiped told v change.held));
+      c.cut_mini_listed.ensures.limits.version c.cut_mini_listed.ensures.stays c.cut_mini_listed.ensures.chain (c.cut_mini_listed.ensures.bytes told v change.held) (c.in_ok-cut_mini_listed.ensures.wiped told v change.held)
+      (λ fewer. c.in_ok-cut_mini_listed.ensures.snug fewer v change.held));
   holds = λ v change.
       let s = c.args.mini.now in
       let i = c.args.entry in

@@ -19,7 +19,10 @@ pub returns-clause-carried : goal.returns-clause-carried
 returns-clause-carried g c v held =
     on_ok _ _ c.begin_in_sectors.result (carried-makes c.args.mini.now c.cut_mini_listed.new.self c.args.list.now.items c.allocator_mut.result.now c.begin_in_sectors.new.allocator
     c.allocator_mut.ensures.value c.cut_mini_listed.ensures.limits v c.args.count c.begin_in_sectors.new.ids.items held c.in_ok-cut_mini_listed.ensures.room
-    (λ few. (c.cut_mini_listed.ensures.none few).1) c.in_ok-cut_mini_listed.ensures.given_back) c.begin_in_sectors.ensures.lengthened
+    (λ few. (c.cut_mini_listed.ensures.none few).1) c.in_ok-cut_mini_listed.ensures.given_back
+    (λ some. table-snug c.cut_mini_listed.new.self c.begin_in_sectors.new.allocator
+    (c.begin_in_sectors.ensures.version ∙ ap (λ (b : AllocatorState). b.tables.version) c.allocator_mut.ensures.value)
+    (c.in_ok-cut_mini_listed.ensures.snug some v held))) c.begin_in_sectors.ensures.lengthened
 
 pub returns-clause-apart : goal.returns-clause-apart
 returns-clause-apart g c told v held unnamed =

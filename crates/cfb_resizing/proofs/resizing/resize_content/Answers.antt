@@ -27,7 +27,9 @@ use Rattle.cfb_resizing.proofs.Named.{WasNamed, moves-then, named-changes, named
 use Rattle.cfb_resizing.proofs.Tightness.{turned-stays-full, same-tight}
 use Rattle.cfb_resizing.proofs.Turned.{WasTurned, always-on-ok, turned, turned-whole, all-changed, all-resized}
 use Rattle.cfb_format.specs.DirectoryEntry.{Entry}
+use Rattle.cfb_content.proofs.FreedMinis.{frees-before}
 use Rattle.cfb_content.proofs.SnugMini.{kept-is-snug-mini}
+use Rattle.cfb_resizing.proofs.SnugMinis.{turned-frees}
 use Rattle.cfb_content.proofs.Changed.{moves-same, spares-same, changed-same}
 use Rattle.cfb_resizing.proofs.PutBehind.{tight-then}
 use Rattle.cfb_resizing.proofs.LengthenedMinis.{not-both}
@@ -217,6 +219,10 @@ returns-clause-changed g c told =
     (λ v change snug. kept-is-snug-mini c.turn.new.mini new c.name_content.ensures.limits.version c.name_content.ensures.mini
     (ap (λ (e : Entry). e.start_sector) c.name_content.ensures.root) (ap (λ (e : Entry). e.stream_len) c.name_content.ensures.root)
     ((c.in_ok-start.ensures.turned told).snug_mini v change snug))
+    (λ v change frees. kept-is-snug-mini c.turn.new.mini new c.name_content.ensures.limits.version c.name_content.ensures.mini
+    (ap (λ (e : Entry). e.start_sector) c.name_content.ensures.root) (ap (λ (e : Entry). e.stream_len) c.name_content.ensures.root)
+    (turned-frees s c.turn.new.mini i c.args.size c.in_ok-start.start (frees-before s c.turn.new.mini new c.name_content.ensures.mini.minifat frees)
+    ((c.in_ok-start.ensures.turned told).turned v change)))
     (λ v change. on_ok_weaker c.name_content.result
     (λ held. named-tidy v s c.turn.new.mini new ((c.in_ok-start.ensures.turned told).holds v change) held c.name_content.ensures.system (c.name_content.ensures.header told)
     (c.name_content.ensures.spares told) ((c.in_ok-start.ensures.turned told).tidy v change))

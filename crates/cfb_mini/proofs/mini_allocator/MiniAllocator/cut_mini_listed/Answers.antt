@@ -1,10 +1,11 @@
-use Rattle.std.proofs.Common.{◌≡◌, Some, refl, sym, ◌∙◌, subst, drop, arith}
-use Rattle.std.specs.Prelude.{OnOk}
+use Rattle.std.proofs.Common.{◌≡◌, ℕ, Some, refl, sym, ◌∙◌, subst, drop, arith}
+use Rattle.std.specs.Prelude.{Contains, OnOk}
 use Rattle.cfb_mini.specs.cfb_alloc.Frame.{Spares}
 use Rattle.cfb_mini.proofs.cfb_alloc.Spared.{spares_refl}
 use Rattle.cfb_mini.specs.cfb_tables.Clean.{IsUnnamed}
 use Rattle.cfb_mini.specs.cfb_tables.Tables.{first_or_end}
-use Rattle.cfb_mini.specs.cfb_mini_sectors.State.{HoldsMini, MiniState, table_of}
+use Rattle.cfb_mini.specs.cfb_mini_sectors.Pieces.{AreZeros}
+use Rattle.cfb_mini.specs.cfb_mini_sectors.State.{HoldsMini, MiniState, mini_place, table_of}
 use Rattle.cfb_mini.specs.cfb_mini_sectors.Steps.{AreStartsUnnamed, BeginsSystem, CanGiveRoomBack, GivesRoomBack, SparesMini, system_sectors}
 use Rattle.cfb_mini.proofs.cfb_mini_sectors.MiniFrames.{nothing-touched}
 use Rattle.cfb_mini_changes.specs.Changing.{mini_of}
@@ -83,6 +84,16 @@ returns-clause-wiped g c told validation h =
     let kept = sym (some-items inside.mini_stream c.in-Some.stream c.in-Some.is (λ v. v.items)) in
     let old : s ≡ c.args.self.now = (λ j. mini_of inside.directory inside.table inside.minifat_sectors.items (kept j)) ∙ c.self.view_is in
     c.cut_listed.ensures.wiped told validation (subst (HoldsMini validation) (sym old) h)
+
+pub returns-clause-erased : goal.returns-clause-erased
+returns-clause-erased g c told validation h =
+    let inside = c.self.inside in
+    let s = mini_of inside.directory inside.table inside.minifat_sectors.items (Some c.in-Some.stream.items) in
+    let kept = sym (some-items inside.mini_stream c.in-Some.stream c.in-Some.is (λ v. v.items)) in
+    let old : s ≡ c.args.self.now = (λ j. mini_of inside.directory inside.table inside.minifat_sectors.items (kept j)) ∙ c.self.view_is in
+    let now = c.cut_listed.new.directory.table.file.bytes in
+    subst (λ (a : MiniState). OnOk c.cut_listed.result ((m : ℕ) → Contains (drop c.args.left c.args.ids.now.items) m → AreZeros now (mini_place a m))) old
+    (c.cut_listed.ensures.erased told validation (subst (HoldsMini validation) (sym old) h))
 
 pub returns-clause-mini_spares : goal.returns-clause-mini_spares
 returns-clause-mini_spares g c told validation h =

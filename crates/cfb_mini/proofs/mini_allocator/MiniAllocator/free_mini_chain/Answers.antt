@@ -4,6 +4,8 @@ use Rattle.cfb_format.proofs.Unique.{IsChain-unique}
 use Rattle.cfb_mini.specs.cfb_tables.Clean.{IsUnnamed}
 use Rattle.cfb_mini.proofs.cfb_alloc.Spared.{spares_refl}
 use Rattle.cfb_mini.proofs.cfb_mini_table.StateLemmas.{chain-start}
+use Rattle.cfb_mini.specs.cfb_mini_sectors.Pieces.{AreZeros}
+use Rattle.cfb_mini.specs.cfb_mini_sectors.State.{bytes_of, mini_place}
 use Rattle.cfb_mini.specs.cfb_mini_sectors.Steps.{IsInMiniStream, IsZeroMini, SparesMini}
 use Rattle.cfb_mini.proofs.cfb_mini_sectors.MiniStreams.{empty_chain}
 use Rattle.cfb_mini_changes.specs.MiniSectors.{KeepsMiniBytesBut}
@@ -25,6 +27,13 @@ returns-then-start-eq-END_OF_CHAIN-clause-stays g c = begins-refl c.args.self.no
 
 pub returns-then-start-eq-END_OF_CHAIN-clause-wiped : goal.returns-then-start-eq-END_OF_CHAIN-clause-wiped
 returns-then-start-eq-END_OF_CHAIN-clause-wiped g c told validation h list chain m among inside =
+    let minifat = c.args.self.now.minifat in
+    let start = c.args.start in
+    let none = IsChain-unique minifat start list [] chain (chain_of minifat start [] c.if-start-eq-END_OF_CHAIN.true) in
+    absurd (Contains-nil m (subst (λ (l : List ℕ). Contains l m) none among))
+
+pub returns-then-start-eq-END_OF_CHAIN-clause-erased : goal.returns-then-start-eq-END_OF_CHAIN-clause-erased
+returns-then-start-eq-END_OF_CHAIN-clause-erased g c told validation h list chain m among =
     let minifat = c.args.self.now.minifat in
     let start = c.args.start in
     let none = IsChain-unique minifat start list [] chain (chain_of minifat start [] c.if-start-eq-END_OF_CHAIN.true) in
@@ -68,6 +77,13 @@ returns-clause-wiped g c told validation h list chain =
     let cut = c.cut_mini_listed in
     let same = IsChain-unique c.args.self.now.minifat c.args.start c.in_ok-ids.ids.items list c.in_ok-ids.ensures.ok chain in
     subst (λ (l : List ℕ). OnOk cut.result ((m : ℕ) → Contains l m → IsInMiniStream cut.new.self m → IsZeroMini cut.new.self m)) same (cut.ensures.wiped told validation h)
+
+pub returns-clause-erased : goal.returns-clause-erased
+returns-clause-erased g c told validation h list chain =
+    let cut = c.cut_mini_listed in
+    let same = IsChain-unique c.args.self.now.minifat c.args.start c.in_ok-ids.ids.items list c.in_ok-ids.ensures.ok chain in
+    subst (λ (l : List ℕ). OnOk cut.result ((m : ℕ) → Contains l m → AreZeros (bytes_of cut.new.self) (mini_place c.args.self.now m))) same
+    (cut.ensures.erased told validation h)
 
 pub returns-clause-mini_spares : goal.returns-clause-mini_spares
 returns-clause-mini_spares g c told validation h list chain =

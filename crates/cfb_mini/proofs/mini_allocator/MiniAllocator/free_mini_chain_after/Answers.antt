@@ -4,6 +4,8 @@ use Rattle.std.proofs.lemmas.Result.{on_ok_weaker}
 use Rattle.cfb_format.specs.Chain.{IsChain}
 use Rattle.cfb_format.proofs.Unique.{IsChain-unique}
 use Rattle.cfb_mini.proofs.cfb_alloc.Spared.{spares_refl}
+use Rattle.cfb_mini.specs.cfb_mini_sectors.Pieces.{AreZeros}
+use Rattle.cfb_mini.specs.cfb_mini_sectors.State.{bytes_of, mini_place}
 use Rattle.cfb_mini.specs.cfb_mini_sectors.Steps.{IsInMiniStream, IsZeroMini, SparesMini}
 use Rattle.cfb_mini_changes.specs.MiniSectors.{KeepsMiniBytesBut}
 use Rattle.cfb_mini.proofs.MiniBehind.{begun-at, cut-behind, ends-at-start, goes-behind, on_ok_then, still-some}
@@ -77,6 +79,14 @@ returns-clause-wiped g c told validation h list chain =
     let mini = c.args.mini in
     let same = IsChain-unique c.args.self.now.minifat mini c.in_ok-ids.ids.items (mini ∷ list) c.in_ok-ids.ensures.ok chain in
     subst (λ (l : List ℕ). OnOk cut.result ((m : ℕ) → Contains (drop 1 l) m → IsInMiniStream cut.new.self m → IsZeroMini cut.new.self m)) same (cut.ensures.wiped told validation h)
+
+pub returns-clause-erased : goal.returns-clause-erased
+returns-clause-erased g c told validation h list chain =
+    let cut = c.cut_mini_listed in
+    let mini = c.args.mini in
+    let same = IsChain-unique c.args.self.now.minifat mini c.in_ok-ids.ids.items (mini ∷ list) c.in_ok-ids.ensures.ok chain in
+    subst (λ (l : List ℕ). OnOk cut.result ((m : ℕ) → Contains (drop 1 l) m → AreZeros (bytes_of cut.new.self) (mini_place c.args.self.now m))) same
+    (cut.ensures.erased told validation h)
 
 pub returns-clause-mini_spares : goal.returns-clause-mini_spares
 returns-clause-mini_spares g c told validation h list chain =
