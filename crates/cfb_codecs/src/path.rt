@@ -2,16 +2,22 @@
 ghost use Rattle.std.specs.Prelude.{◌≡◌, ◌≤◌, ◌+◌, ◌*◌, ◌<◌, ℕ, not, true, false, map, length, [], ◌∷◌, List, Some, None, IfOk, IfErr, OnOk, IfSome, IfNone, is_some, string_bytes};
 ghost use Rattle.std.specs.Cmp.Lexicographic.{slice_cmp};
 ghost use Rattle.std.specs.Ordering.{nat_cmp, ordering_then};
-ghost use Rattle.std.specs.Char.{to_ascii_uppercase};
+ghost use Rattle.std.specs.Char.{IsScalar, to_ascii_uppercase};
 ghost use Rattle.std.specs.Str.{chars};
 ghost use Rattle.std.specs.List.{list_any};
+ghost use Rattle.std.specs.Option.{unwrap_or};
+ghost use Rattle.std.specs.BTreeMap.{get};
 ghost use Rattle.cfb_format.specs.Names.{Cases, default_cases, paired, upper_case, has_ascii_letter, utf16_units, key_of_name, name_cmp, is_forbidden_character, is_valid_name};
 ghost use Rattle.cfb_format.specs.Path.{part_says_nothing, part_says_parent, names_with, names_of_path, names_along, names_left, path_of_names, Leaves, Gives};
 ghost use Rattle.cfb_format.specs.Refused.{IsMemory, RefusesInput};
+ghost use Rattle.cfb_codecs.specs.SimpleUpper.{simple_upper};
 
+use crate::unicode::unicode_pairs;
 use cfb_format::error::{Detail, Error};
 use std::alloc::{AllocError, Allocator, Global};
 use std::cmp::Ordering;
+use std::collections::BTreeMap;
+use std::fmt;
 use std::marker::Model;
 
 /// The greatest number of UTF-16 units in a name.
@@ -57,18 +63,36 @@ const DEFAULT_PAIRS: [(char, char); 32] = [
 /// `Z` always, the letters of a table become what it says, and any other character stands for
 /// itself.
 ///
-/// A letter past ASCII is looked up along the whole table, pair by pair: the time grows with it.
-#[derive(Debug, Drop)]
+/// A letter past ASCII is looked up in a tree of the table's letters. With the letters goes the
+/// number by which the indexes of names are mixed: it changes no answer.
+#[derive(Drop)]
 pub struct CaseMapper<A: Allocator = Global> {
     pairs: Vec<(char, char), A>,
+    /// The upper case that the last pair of each letter says.
+    uppers: BTreeMap<char, char, A>,
+    seed: u64,
 }
 
 impl<A: Allocator> Model for CaseMapper<A> {
-    ghost use Rattle.cfb_format.specs.Names.{Cases};
+    ghost use Rattle.std.specs.Prelude.{◌≡◌, ℕ};
+    ghost use Rattle.std.specs.Option.{unwrap_or};
+    ghost use Rattle.std.specs.BTreeMap.{get};
+    ghost use Rattle.std.specs.Ordering.{nat_cmp};
+    ghost use Rattle.cfb_format.specs.Names.{Cases, paired};
 
     ghost Value = { Cases };
 
     ghost view = { λ mapper. mapper.pairs.items };
+
+    ghost invariant = { λ mapper. (c : ℕ) → unwrap_or (get nat_cmp mapper.uppers c) c ≡ paired mapper.pairs.items c };
+}
+
+impl<A: Allocator> fmt::Debug for CaseMapper<A> {
+    fn fmt<W: fmt::Write>(&self, f: &mut fmt::Formatter<W>) -> fmt::Result {
+        f.debug_struct("CaseMapper")
+            .field("pairs", &self.pairs)
+            .finish()
+    }
 }
 
 impl<A: Allocator + Clone> Clone for CaseMapper<A> {
@@ -76,12 +100,68 @@ impl<A: Allocator + Clone> Clone for CaseMapper<A> {
 
     /// The same table. It answers `AllocError` where memory for it is refused.
     fn clone(&self) -> Result<CaseMapper<A>, AllocError> {
-        let pairs = self.pairs.clone()?;
-        Ok(CaseMapper { pairs })
+        let copy = indexed(self.pairs.allocator().clone()?, &self.pairs)?;
+        Ok(copy.with_seed(self.seed))
     }
 }
 
+/// A table of these letters, whatever they are.
+fn indexed<A: Allocator + Clone>(
+    alloc: A,
+    letters: &[(char, char)],
+) -> Result<CaseMapper<A>, AllocError>
+    ensures { IfOk result (λ cases. cases ≡ letters.now) }
+{
+    let mut pairs = Vec::new(alloc.clone()?);
+    pairs.extend_from_slice(letters)?;
+    let uppers = uppers_of(alloc, letters)?;
+    Ok(CaseMapper {
+        pairs,
+        uppers,
+        seed: 0,
+    })
+}
+
+/// The upper case of each letter that has one.
+fn uppers_of<A: Allocator + Clone>(
+    alloc: A,
+    letters: &[(char, char)],
+) -> Result<BTreeMap<char, char, A>, AllocError>
+    ensures { IfOk result (λ uppers. (c : ℕ) → unwrap_or (get nat_cmp uppers c) c ≡ paired letters.now c) }
+{
+    let mut uppers = BTreeMap::new(alloc);
+    for i in 0..letters.len() {
+        let (letter, upper) = letters[i];
+        uppers.insert(letter, upper)?;
+    }
+    Ok(uppers)
+}
+
 impl<A: Allocator> CaseMapper<A> {
+    /// The same letters, with the number by which the indexes of names are mixed, so that whoever
+    /// does not know it can choose no names that meet in them.
+    pub fn with_seed(self, seed: u64) -> CaseMapper<A>
+        ensures { result ≡ self }
+    {
+        let CaseMapper {
+            pairs,
+            uppers,
+            seed: _,
+        } = self;
+        CaseMapper {
+            pairs,
+            uppers,
+            seed,
+        }
+    }
+
+    /// The number by which the indexes of names are mixed.
+    pub fn seed(&self) -> u64 {
+        self.seed
+    }
+}
+
+impl<A: Allocator + Clone> CaseMapper<A> {
     /// The default table, for the letters of Latin-1 and two more.
     ///
     /// It answers `Memory` where memory for the table is refused, and no other error.
@@ -89,9 +169,21 @@ impl<A: Allocator> CaseMapper<A> {
         ensures ok { IfOk result (λ cases. cases ≡ default_cases) }
         ensures refused { IfErr result IsMemory }
     {
-        let mut pairs = Vec::new(alloc);
-        pairs.extend_from_slice(&DEFAULT_PAIRS)?;
-        Ok(CaseMapper { pairs })
+        Ok(indexed(alloc, &DEFAULT_PAIRS)?)
+    }
+
+    /// The letters past ASCII of Unicode's first 65,536 characters that have an upper case of one
+    /// character, as those of Greek and Cyrillic.
+    ///
+    /// It answers `Memory` where memory for the table is refused, and no other error.
+    pub fn unicode(alloc: A) -> Result<CaseMapper<A>, Error>
+        ensures letters { IfOk result (λ cases. (c : ℕ) → IsScalar c → 0x80 ≤ c → c < 0x10000
+            → upper_case cases c ≡ simple_upper c) }
+        ensures others { IfOk result (λ cases. (c : ℕ) → 0x10000 ≤ c → upper_case cases c ≡ c) }
+        ensures refused { IfErr result IsMemory }
+    {
+        let pairs = unicode_pairs(alloc.clone()?)?;
+        Ok(indexed(alloc, &pairs)?)
     }
 
     /// A table of these letters, each with its upper case. The last pair for a letter counts.
@@ -108,22 +200,19 @@ impl<A: Allocator> CaseMapper<A> {
                 "an ASCII letter has its upper case always",
             )));
         }
-        let mut pairs = Vec::new(alloc);
-        pairs.extend_from_slice(letters)?;
-        Ok(CaseMapper { pairs })
+        Ok(indexed(alloc, letters)?)
     }
+}
 
+impl<A: Allocator> CaseMapper<A> {
     /// The upper case of a character past ASCII.
     fn paired(&self, letter: char) -> char
         ensures { result ≡ paired self.now letter }
     {
-        let mut found = letter;
-        for pair in &self.pairs {
-            if pair.0 == letter {
-                found = pair.1;
-            }
+        match self.uppers.get(&letter) {
+            Some(upper) => *upper,
+            None => letter,
         }
-        found
     }
 
     /// The upper case of a character.

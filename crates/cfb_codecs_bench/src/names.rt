@@ -4,6 +4,7 @@ use cfb_codecs::path::{self, CaseMapper, NameKey};
 use cfb_format::error::Error;
 use std::alloc::Global;
 use std::cmp::Ordering::{self, Equal, Greater, Less};
+use std::test::Fail;
 
 /// Two names and their order.
 type Row = (&'static str, &'static str, Ordering);
@@ -69,6 +70,26 @@ fn order_by_a_table(rt: HostRuntime) {
     for (number, row) in ORDER_OF_A_TABLE.iter().enumerate() {
         check(&rt, &are_ordered(rt.alloc(), true, row), number);
     }
+}
+
+/// Two letters, and whether the first has the second as its upper case in Unicode's table.
+#[rattlefmt::skip]
+const UNICODE: [(char, char); 8] = [
+    ('я', 'Я'), ('ё', 'Ё'), ('ω', 'Ω'), ('ς', 'Σ'), ('é', 'É'), ('ÿ', '\u{178}'), ('ß', 'ß'), ('a', 'A'),
+];
+
+fn has_upper_case(cases: &CaseMapper, (letter, upper): (char, char)) -> bool {
+    cases.upper_case(letter) == upper
+}
+
+#[test]
+fn letters_of_unicode(rt: HostRuntime) -> Result<(), Fail> {
+    let cases = CaseMapper::unicode(rt.alloc())?;
+    for row in &UNICODE {
+        assert!(rt; has_upper_case(&cases, *row), "{row:?}");
+    }
+    assert!(rt; are_one(rt.alloc(), &cases, "Входящие", "входящие")?);
+    Ok(())
 }
 
 #[test]

@@ -34,6 +34,7 @@ pub struct OpenOptions<A: Heap = Global> {
     max_sectors: u32,
     letters: Option<CaseMapper<A>>,
     validation: Validation,
+    seed: u64,
 }
 
 impl<A: Heap> Model for OpenOptions<A> {
@@ -71,7 +72,16 @@ impl<A: Heap> OpenOptions<A> {
             max_sectors: MAX_REGULAR_SECTOR,
             letters: None,
             validation: Validation::Permissive,
+            seed: 0,
         }
+    }
+
+    /// The indexes of names are mixed with this number, 0 unless it is said, so that whoever does
+    /// not know it can choose no names that meet in them. It changes no answer.
+    pub fn seed(self, seed: u64) -> OpenOptions<A>
+        ensures { result ≡ self }
+    {
+        OpenOptions { seed, ..self }
     }
 
     /// The buffer of a stream grows to at most so many bytes. It has room for 1024 always, so that fewer count as 1024.
@@ -129,7 +139,7 @@ impl<A: Heap + Clone> OpenOptions<A> {
         ensures kinds { IfErr result IsOfOpening }
     {
         laws::bytes_are_what_is_held();
-        let letters = letters_of(&alloc, self.letters)?;
+        let letters = letters_of(&alloc, self.letters)?.with_seed(self.seed);
         let opened = open_file(alloc, medium, letters, self.max_sectors, self.validation)?;
         let volume = Volume::new(opened.mini, opened.is_sound, self.max_buffer_size);
         Ok(CompoundFile { volume })
@@ -168,7 +178,7 @@ impl<A: Heap + Clone> OpenOptions<A> {
         ensures unfailed { IfOk result (λ file. is_failed file ≡ false) }
         ensures kinds { IfErr result IsOfCreating }
     {
-        let letters = letters_of(&alloc, self.letters)?;
+        let letters = letters_of(&alloc, self.letters)?.with_seed(self.seed);
         let mini = create_file(alloc, version, medium, letters, self.max_sectors)?;
         let volume = Volume::new(mini, true, self.max_buffer_size);
         Ok(CompoundFile { volume })

@@ -9,7 +9,7 @@ use Rattle.cfb_format.specs.DirectoryEntry.{Entry}
 use Rattle.cfb_format.specs.Reading.{Outline}
 use Rattle.cfb_entries.specs.cfb_keys.declared.key.IndexKey.{IndexKey}
 use Rattle.cfb_entries.specs.cfb_keys.Keys.{is_same_key, key_in}
-use Rattle.cfb_entries.proofs.cfb_keys.Equal.{key-equal}
+use Rattle.cfb_entries.specs.cfb_keys.Equal.{key-equal}
 use Rattle.cfb_entries.proofs.cfb_keys.Padded.{keys-tell-names}
 use Rattle.cfb_index.specs.Index.{Lists}
 use Rattle.cfb_index.proofs.Lists.{keys-differ, lists-less, lists-more, lists-same, none-some}

@@ -214,7 +214,7 @@ pub(crate) fn index_of<A: Allocator + Clone>(
     ensures refused { IfErr result IsMemory }
 {
     let children = children_in(heap, list, reached)?;
-    let mut index = NameIndex::new(heap.clone()?);
+    let mut index = NameIndex::new(heap.clone()?, letters.seed());
     index.reserve(children.len())?;
     put_entries(&mut index, letters, list, &children);
     index.reserve(more)?;

@@ -17,6 +17,7 @@ use cfb_format::error::Error;
 use cfb_format::version::Version;
 use std::alloc::Allocator as Heap;
 use std::fs::File;
+use std::random::RandomSource;
 use std::rt::Files;
 
 /// Opens the compound file at this path of the system, to be read. The file is not locked, so that another may change it.
@@ -24,7 +25,7 @@ use std::rt::Files;
 /// # Errors
 ///
 /// `Medium(Open)` where the file is not opened; else as `CompoundFile::open`.
-pub fn open<R: Files<File = File>, A: Heap + Clone>(
+pub fn open<R: Files<File = File> + RandomSource, A: Heap + Clone>(
     rt: &R,
     alloc: A,
     path: &str,
@@ -34,7 +35,9 @@ pub fn open<R: Files<File = File>, A: Heap + Clone>(
     ensures kinds { IfErr result IsOfOpening }
 {
     let medium = FileReadMedium::open(rt, path)?;
-    CompoundFile::open(alloc, medium)
+    OpenOptions::new()
+        .seed(seed_of(rt))
+        .open_with(alloc, medium)
 }
 
 /// Opens the compound file at this path of the system, to be read and changed in place. The file is locked as long as it is open
@@ -43,7 +46,7 @@ pub fn open<R: Files<File = File>, A: Heap + Clone>(
 /// # Errors
 ///
 /// `Medium(Open)` where the file is not opened, and where another has it open to be changed; else as `CompoundFile::open`.
-pub fn open_rw<R: Files<File = File>, A: Heap + Clone>(
+pub fn open_rw<R: Files<File = File> + RandomSource, A: Heap + Clone>(
     rt: &R,
     alloc: A,
     path: &str,
@@ -53,7 +56,9 @@ pub fn open_rw<R: Files<File = File>, A: Heap + Clone>(
     ensures kinds { IfErr result IsOfOpening }
 {
     let medium = FileMedium::open(rt, path)?;
-    CompoundFile::open(alloc, medium)
+    OpenOptions::new()
+        .seed(seed_of(rt))
+        .open_with(alloc, medium)
 }
 
 /// Makes a compound file of version 4 with nothing in it at this path of the system. An older file there is emptied first. The file is
@@ -63,7 +68,7 @@ pub fn open_rw<R: Files<File = File>, A: Heap + Clone>(
 ///
 /// `Medium(Open)` where the file is not opened, and where another has it open to be changed: then the older file keeps its bytes. Else as
 /// `CompoundFile::create`.
-pub fn create<R: Files<File = File>, A: Heap + Clone>(
+pub fn create<R: Files<File = File> + RandomSource, A: Heap + Clone>(
     rt: &R,
     alloc: A,
     path: &str,
@@ -74,7 +79,9 @@ pub fn create<R: Files<File = File>, A: Heap + Clone>(
     ensures kinds { IfErr result IsOfCreating }
 {
     let medium = FileMedium::create(rt, path)?;
-    CompoundFile::create(alloc, medium)
+    OpenOptions::new()
+        .seed(seed_of(rt))
+        .create_with(alloc, medium)
 }
 
 /// Makes a compound file of this version with nothing in it at this path of the system, as `create` does one of version 4.
@@ -82,7 +89,7 @@ pub fn create<R: Files<File = File>, A: Heap + Clone>(
 /// # Errors
 ///
 /// As `create`.
-pub fn create_as<R: Files<File = File>, A: Heap + Clone>(
+pub fn create_as<R: Files<File = File> + RandomSource, A: Heap + Clone>(
     rt: &R,
     alloc: A,
     version: Version,
@@ -94,5 +101,16 @@ pub fn create_as<R: Files<File = File>, A: Heap + Clone>(
     ensures kinds { IfErr result IsOfCreating }
 {
     let medium = FileMedium::create(rt, path)?;
-    OpenOptions::new().create_as(alloc, version, medium)
+    OpenOptions::new()
+        .seed(seed_of(rt))
+        .create_as(alloc, version, medium)
+}
+
+/// A number that nobody knows, for the indexes of names; 0 where the system gives none.
+fn seed_of<R: RandomSource>(rt: &R) -> u64 {
+    let mut bytes = [0; 8];
+    match rt.fill_bytes(&mut bytes) {
+        Ok(()) => u64::from_le_bytes(bytes),
+        Err(_) => 0,
+    }
 }
