@@ -117,3 +117,9 @@ pub record MiniGivesBack (ends gone old new : List ℕ) : Type 0 where
 pub record AreBusy (table list : List ℕ) : Type 0 where
   pub busy : (i : ℕ) → Contains list i → value table i ≢ free_sector
   pub once : IsDistinct nat_eq list
+
+-- the listed mini sectors are free, and the chain that they were of ends before them; what was prepared stays so, and nothing but the table has changed
+pub record GivesBackOnly (ends list : List ℕ) (old new : MiniTableState) : Type 0 where
+  pub freed : MiniGivesBack ends list old.minifat new.minifat
+  pub prepared : (count : ℕ) → IsPreparedMini old count → IsPreparedMini new count
+  pub rest : new ≡ record old { minifat = new.minifat }

@@ -9,7 +9,7 @@ ghost use Rattle.cfb_tables.specs.Changes.{IsNextOf};
 ghost use Rattle.cfb_tables.specs.Listed.{ends_of, gained, last_or_end};
 ghost use Rattle.cfb_tables.specs.Refused.{TableRefused, WalkRefused, LastRefused, NextRefused};
 ghost use Rattle.cfb_tables.specs.Tables.{first_or_end};
-ghost use Rattle.cfb_mini_table.specs.MiniTable.{read_entries, AcceptsMini, IsTooFewMini, IsPreparedMini, TakesMini, MiniGivesBack, AreBusy};
+ghost use Rattle.cfb_mini_table.specs.MiniTable.{read_entries, AcceptsMini, IsTooFewMini, IsPreparedMini, TakesMini, MiniGivesBack, AreBusy, GivesBackOnly};
 
 use crate::words::{begin, extend, give_back, read};
 use cfb_format::consts::{END_OF_CHAIN, MAX_REGULAR_SECTOR};
@@ -303,10 +303,7 @@ impl<A: Allocator> MiniTable<A> {
     /// Frees these mini sectors, without a walk. It asks for no memory. What was prepared stays so.
     pub fn free_listed(&mut self, list: &[u32])
         requires busy { AreBusy self.old.minifat list.now }
-        ensures freed { MiniGivesBack [] list.now self.old.minifat self.new.minifat }
-        ensures prepared { (count : ℕ)
-            → IsPreparedMini self.old count → IsPreparedMini self.new count }
-        ensures rest { self.new ≡ record self.old { minifat = self.new.minifat } }
+        ensures given_back { GivesBackOnly [] list.now self.old self.new }
     {
         if list.is_empty() {
             return;
@@ -319,10 +316,7 @@ impl<A: Allocator> MiniTable<A> {
     fn cut_behind(&mut self, last: u32, list: &[u32])
         requires below { last < length self.old.minifat }
         requires chain { IsChain self.old.minifat (value self.old.minifat last) list.now }
-        ensures cut { MiniGivesBack (last ∷ []) list.now self.old.minifat self.new.minifat }
-        ensures prepared { (count : ℕ)
-            → IsPreparedMini self.old count → IsPreparedMini self.new count }
-        ensures rest { self.new ≡ record self.old { minifat = self.new.minifat } }
+        ensures given_back { GivesBackOnly (last ∷ []) list.now self.old self.new }
     {
         if list.is_empty() {
             return;
@@ -337,11 +331,8 @@ impl<A: Allocator> MiniTable<A> {
     pub fn cut_listed(&mut self, list: &[u32], left: usize)
         requires chain { IsChain self.old.minifat (first_or_end list.now) list.now }
         requires fewer { left ≤ length list.now }
-        ensures cut { MiniGivesBack
-            (ends_of (take left list.now)) (drop left list.now) self.old.minifat self.new.minifat }
-        ensures prepared { (count : ℕ)
-            → IsPreparedMini self.old count → IsPreparedMini self.new count }
-        ensures rest { self.new ≡ record self.old { minifat = self.new.minifat } }
+        ensures given_back { GivesBackOnly (ends_of (take left list.now)) (drop left list.now)
+            self.old self.new }
     {
         if left == 0 {
             return self.free_listed(list);

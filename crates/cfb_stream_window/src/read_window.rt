@@ -1,5 +1,6 @@
 //! The buffered stream that is only read. Lengths and places are in bytes.
 ghost use Rattle.std.specs.Prelude.{◌≡◌, ◌+◌, ◌-◌, ◌<◌, ◌≤◌, ◌==◌, ◌⊎◌, ◌++◌, min, max, ℕ, false, OnOk, OnErr, IfOk, IfErr, length, take, drop, Some, None, ⊤};
+ghost use Rattle.cfb_stream_window.specs.Leaves.{ReadsContents, StaysOpenToRead};
 ghost use Rattle.cfb_format.specs.Refused.{HasReason, IsMemory, no_error};
 ghost use Rattle.cfb_stream_window.specs.cfb_rules.StreamCalls.{StreamStep, read, fill_buf, consume, seek, read_to_end, ask_len, ask_position, ask_is_empty, ready, got, offset, answered, opened};
 ghost use Rattle.cfb_stream_buffer.specs.Contents.{Stored, stream_setting_of, IsFitting};
@@ -106,10 +107,7 @@ impl<A: Allocator> ReadWindow<A> {
     fn have_rest<C: ReadContents>(&mut self, content: &mut C, id: u32) -> Result<(), Error>
         requires there { C.has content.old id }
         requires behind { self.old.base + self.old.cursor < self.old.size }
-        ensures there { C.has content.new id }
-        ensures any { HasSameFlags C.ReadContents content.old content.new id }
-        ensures around { C.tells content.old
-            → IsRead C.ReadContents content.old content.new id result }
+        ensures reads { ReadsContents C.ReadContents content.old content.new id result }
         ensures ok { IsReady C.ReadContents content.old id self.old → OnOk result
             (Carries (C.stored content.old id) self.old (C.stored content.new id) self.new) }
         ensures some { IsReady C.ReadContents content.old id self.old
@@ -144,10 +142,7 @@ impl<A: Allocator> ReadWindow<A> {
         requires behind { self.old.base + self.old.cursor < self.old.size }
         requires unread { self.old.ahead ≡ 0 }
         requires some { 0 < length into.old }
-        ensures there { C.has content.new id }
-        ensures any { HasSameFlags C.ReadContents content.old content.new id }
-        ensures around { C.tells content.old
-            → IsRead C.ReadContents content.old content.new id result }
+        ensures reads { ReadsContents C.ReadContents content.old content.new id result }
         ensures most { IfOk result (λ n. n ≤ length into.new) }
         ensures rest { IfOk result (λ n. drop n into.new ≡ drop n into.old) }
         ensures ok { IsReady C.ReadContents content.old id self.old → IfOk result (ReadPast into.new
@@ -171,9 +166,8 @@ impl<A: Allocator> ReadWindow<A> {
         into: &mut [u8],
     ) -> Result<usize, Error>
         requires there { C.has content.old id }
-        ensures there { C.has content.new id }
-        ensures any { HeedsReading C.ReadContents
-            content.old id self.old result content.new self.new }
+        ensures open { StaysOpenToRead C.ReadContents content.old id self.old result content.new
+            self.new }
         ensures most { IfOk result (λ n. n ≤ length into.new) }
         ensures rest { IfOk result (λ n. drop n into.new ≡ drop n into.old) }
         ensures runs { IsOpen C.ReadContents content.old id self.old
@@ -182,15 +176,12 @@ impl<A: Allocator> ReadWindow<A> {
         ensures refused { IsOpen C.ReadContents content.old id self.old
             → IfErr result (IsRefusedReading C.ReadContents content.old id self.old
             (read (length into.old)) content.new self.new) }
-        ensures goes_on { IsOpen C.ReadContents content.old id self.old
-            → GoesOn C.ReadContents content.old content.new id self.new }
         ensures none { length into.old ≡ 0 → content.new ≡ content.old }
         ensures held { StandsInside self.old → content.new ≡ content.old }
         ensures grown { length into.old < 65536
             → self.new.room < min (self.old.size - (self.old.base + self.old.cursor)) self.old.bound
             → content.new ≡ content.old }
         ensures straight { 65536 ≤ length into.old → self.new.room ≡ self.old.room }
-        ensures bound { self.new.bound ≡ self.old.bound }
         ensures lean { self.new.room ≤ max self.old.room
             (min (self.old.size - (self.old.base + self.old.cursor)) self.old.bound) }
         ensures around { C.tells content.old
@@ -219,22 +210,18 @@ impl<A: Allocator> ReadWindow<A> {
     /// It is refused as `read` is.
     pub fn fill<C: ReadContents>(&mut self, content: &mut C, id: u32) -> Result<(), Error>
         requires there { C.has content.old id }
-        ensures there { C.has content.new id }
-        ensures any { HeedsReading C.ReadContents
-            content.old id self.old result content.new self.new }
+        ensures open { StaysOpenToRead C.ReadContents content.old id self.old result content.new
+            self.new }
         ensures runs { IsOpen C.ReadContents content.old id self.old
             → OnOk result (RunsReading C.ReadContents content.old id self.old fill_buf
             (got (drop self.new.cursor self.new.filled)) content.new self.new) }
         ensures refused { IsOpen C.ReadContents content.old id self.old
             → IfErr result (IsRefusedReading C.ReadContents
             content.old id self.old fill_buf content.new self.new) }
-        ensures goes_on { IsOpen C.ReadContents content.old id self.old
-            → GoesOn C.ReadContents content.old content.new id self.new }
         ensures held { StandsInside self.old → content.new ≡ content.old }
         ensures grown { self.new.room
             < min (self.old.size - (self.old.base + self.old.cursor)) self.old.bound
             → content.new ≡ content.old }
-        ensures bound { self.new.bound ≡ self.old.bound }
         ensures lean { self.new.room ≤ max self.old.room
             (min (self.old.size - (self.old.base + self.old.cursor)) self.old.bound) }
         ensures around { C.tells content.old
@@ -316,9 +303,8 @@ impl<A: Allocator> ReadWindow<A> {
         into: &mut Vec<u8, B>,
     ) -> Result<usize, Error>
         requires there { C.has content.old id }
-        ensures there { C.has content.new id }
-        ensures any { HeedsReading C.ReadContents
-            content.old id self.old result content.new self.new }
+        ensures open { StaysOpenToRead C.ReadContents content.old id self.old result content.new
+            self.new }
         ensures appends { IfOk result (λ n. (length into.new.items ≡ length into.old.items + n)
             × (into.new.items ≡ into.old.items ++ drop (length into.old.items) into.new.items)) }
         ensures nothing { OnErr result (into.new.items ≡ into.old.items) }
@@ -328,11 +314,8 @@ impl<A: Allocator> ReadWindow<A> {
         ensures refused { IsOpen C.ReadContents content.old id self.old
             → IfErr result (IsRefusedReading C.ReadContents
             content.old id self.old read_to_end content.new self.new) }
-        ensures goes_on { IsOpen C.ReadContents content.old id self.old
-            → GoesOn C.ReadContents content.old content.new id self.new }
         ensures held { self.old.base + length self.old.filled ≡ self.old.size
             → content.new ≡ content.old }
-        ensures bound { self.new.bound ≡ self.old.bound }
         ensures room { self.new.room ≡ self.old.room }
         ensures around { C.tells content.old
             → IsRead C.ReadContents content.old content.new id result }

@@ -1,5 +1,6 @@
 //! The buffered stream: a window in memory over what is stored. Lengths and places are in bytes.
 ghost use Rattle.std.specs.Prelude.{◌≡◌, ◌+◌, ◌-◌, ◌<◌, ◌≤◌, ◌==◌, ◌⊎◌, ◌↔◌, ◌++◌, min, max, [], false, IsTrue, OnOk, OnErr, IfOk, IfErr, IfSome, length, take, drop, nat_lt};
+ghost use Rattle.cfb_stream_window.specs.Leaves.{ReadsContents};
 ghost use Rattle.cfb_format.specs.Refused.{IsInvalidOrMemory, IsMemory};
 ghost use Rattle.cfb_stream_window.specs.cfb_rules.StreamCalls.{StreamStep, consume, ask_len, ask_position, ask_is_empty, ready, offset, answered, opened};
 ghost use Rattle.cfb_stream_buffer.specs.Contents.{Stored, stream_setting_of, IsRefusedRead, IsFitting};
@@ -240,10 +241,7 @@ impl<A: Allocator> Window<A> {
         requires calm { self.old.pending ≡ false }
         requires behind { self.old.base + self.old.cursor < self.old.size }
         requires unread { self.old.ahead ≡ 0 }
-        ensures there { C.has content.new id }
-        ensures any { HasSameFlags C.ReadContents content.old content.new id }
-        ensures around { C.tells content.old
-            → IsRead C.ReadContents content.old content.new id result }
+        ensures reads { ReadsContents C.ReadContents content.old content.new id result }
         ensures calm { self.new.pending ≡ false }
         ensures ok { IsReady C.ReadContents content.old id self.old → OnOk result
             (Carries (C.stored content.old id) self.old (C.stored content.new id) self.new) }
@@ -270,10 +268,7 @@ impl<A: Allocator> Window<A> {
     fn load<C: ReadContents>(&mut self, content: &mut C, id: u32) -> Result<(), Error>
         requires there { C.has content.old id }
         requires behind { self.old.base < self.old.size }
-        ensures there { C.has content.new id }
-        ensures any { HasSameFlags C.ReadContents content.old content.new id }
-        ensures around { C.tells content.old
-            → IsRead C.ReadContents content.old content.new id result }
+        ensures reads { ReadsContents C.ReadContents content.old content.new id result }
         ensures ok { C.tells content.old → self.old.base < (C.stored content.old id).size
             → OnOk result (IsLoaded (C.stored content.old id).content self.old self.new) }
         ensures refused { C.tells content.old → self.old.base < (C.stored content.old id).size
@@ -300,10 +295,7 @@ impl<A: Allocator> Window<A> {
         requires behind { self.old.base + self.old.cursor < self.old.size }
         requires unread { self.old.ahead ≡ 0 }
         requires some { 0 < length into.old }
-        ensures there { C.has content.new id }
-        ensures any { HasSameFlags C.ReadContents content.old content.new id }
-        ensures around { C.tells content.old
-            → IsRead C.ReadContents content.old content.new id result }
+        ensures reads { ReadsContents C.ReadContents content.old content.new id result }
         ensures calm { self.new.pending ≡ false }
         ensures most { IfOk result (λ n. n ≤ length into.new) }
         ensures rest { IfOk result (λ n. drop n into.new ≡ drop n into.old) }
@@ -456,10 +448,7 @@ impl<A: Allocator> Window<A> {
         requires calm { self.old.pending ≡ false }
         requires room { length into.old.items
             ≡ start + (self.old.size - (self.old.base + self.old.cursor)) }
-        ensures there { C.has content.new id }
-        ensures any { HasSameFlags C.ReadContents content.old content.new id }
-        ensures around { C.tells content.old
-            → IsRead C.ReadContents content.old content.new id result }
+        ensures reads { ReadsContents C.ReadContents content.old content.new id result }
         ensures calm { self.new.pending ≡ false }
         ensures len { OnOk result (length into.new.items ≡ length into.old.items) }
         ensures first { OnOk result (take start into.new.items ≡ take start into.old.items) }
@@ -492,10 +481,7 @@ impl<A: Allocator> Window<A> {
     ) -> Result<usize, Error>
         requires there { C.has content.old id }
         requires calm { self.old.pending ≡ false }
-        ensures there { C.has content.new id }
-        ensures any { HasSameFlags C.ReadContents content.old content.new id }
-        ensures around { C.tells content.old
-            → IsRead C.ReadContents content.old content.new id result }
+        ensures reads { ReadsContents C.ReadContents content.old content.new id result }
         ensures calm { self.new.pending ≡ false }
         ensures count { IfOk result (λ n. length into.new.items ≡ length into.old.items + n) }
         ensures before { OnOk result (into.new.items

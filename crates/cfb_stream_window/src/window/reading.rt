@@ -1,5 +1,6 @@
 //! Reading, seeking and writing out of a stream that may have bytes pending.
 ghost use Rattle.std.specs.Prelude.{◌≡◌, ◌+◌, ◌-◌, ◌<◌, ◌≤◌, ◌⊎◌, ◌++◌, min, max, ℕ, true, false, OnOk, OnErr, IfOk, IfErr, length, take, drop, Some, None};
+ghost use Rattle.cfb_stream_window.specs.Leaves.{WritesContents, StaysOpen};
 ghost use Rattle.cfb_stream_window.specs.cfb_rules.StreamCalls.{read, fill_buf, seek, flush, read_to_end, ready, got, offset};
 ghost use Rattle.cfb_format.specs.Refused.{IsBreak};
 ghost use Rattle.cfb_stream_window.specs.Windows.{Carries, ReadBrokeOff, IsLost, Unreadable, IsSettled, StandsInside, settled, window_settled, window_at, WentTo, target_of, whence_of, IsReadable, Appended, ReadPast};
@@ -18,10 +19,8 @@ impl<A: Allocator> Window<A> {
     /// Writes out what is pending.
     pub(super) fn write_out<C: Contents>(&mut self, content: &mut C, id: u32) -> Result<(), Error>
         requires there { C.has content.old id }
-        ensures there { C.has content.new id }
-        ensures any { HasKeptFlags C.ReadContents content.old content.new id result }
-        ensures around { C.tells content.old
-            → IsWritten C.ReadContents C.Contents.own content.old content.new id result }
+        ensures writes { WritesContents C.ReadContents C.Contents.own content.old content.new id
+            result }
         ensures ok { IsReady C.ReadContents content.old id self.old
             → OnOk result ((C.stored content.new id) ≡ settled (C.stored content.old id) self.old) }
         ensures window { OnOk result (self.new ≡ window_settled self.old) }
@@ -54,10 +53,8 @@ impl<A: Allocator> Window<A> {
     /// Writes out what is pending, and holds nothing from then on.
     pub(super) fn leave<C: Contents>(&mut self, content: &mut C, id: u32) -> Result<(), Error>
         requires there { C.has content.old id }
-        ensures there { C.has content.new id }
-        ensures any { HasKeptFlags C.ReadContents content.old content.new id result }
-        ensures around { C.tells content.old
-            → IsWritten C.ReadContents C.Contents.own content.old content.new id result }
+        ensures writes { WritesContents C.ReadContents C.Contents.own content.old content.new id
+            result }
         ensures ok { IsReady C.ReadContents content.old id self.old → OnOk result
             (Carries (C.stored content.old id) self.old (C.stored content.new id) self.new) }
         ensures stored { IsReady C.ReadContents content.old id self.old
@@ -87,10 +84,8 @@ impl<A: Allocator> Window<A> {
         requires there { C.has content.old id }
         requires behind { self.old.base + self.old.cursor < self.old.size }
         requires unread { self.old.ahead ≡ 0 }
-        ensures there { C.has content.new id }
-        ensures any { HasKeptFlags C.ReadContents content.old content.new id result }
-        ensures around { C.tells content.old
-            → IsWritten C.ReadContents C.Contents.own content.old content.new id result }
+        ensures writes { WritesContents C.ReadContents C.Contents.own content.old content.new id
+            result }
         ensures calm { C.tells content.old → self.old.pending ≡ false
             → IsRead C.ReadContents content.old content.new id result }
         ensures ok { IsReady C.ReadContents content.old id self.old → OnOk result
@@ -134,10 +129,8 @@ impl<A: Allocator> Window<A> {
         requires behind { self.old.base + self.old.cursor < self.old.size }
         requires unread { self.old.ahead ≡ 0 }
         requires some { 0 < length into.old }
-        ensures there { C.has content.new id }
-        ensures any { HasKeptFlags C.ReadContents content.old content.new id result }
-        ensures around { C.tells content.old
-            → IsWritten C.ReadContents C.Contents.own content.old content.new id result }
+        ensures writes { WritesContents C.ReadContents C.Contents.own content.old content.new id
+            result }
         ensures calm { C.tells content.old → self.old.pending ≡ false
             → IsRead C.ReadContents content.old content.new id result }
         ensures most { IfOk result (λ n. n ≤ length into.new) }
@@ -171,10 +164,8 @@ impl<A: Allocator> Window<A> {
     fn have_rest<C: Contents>(&mut self, content: &mut C, id: u32) -> Result<(), Error>
         requires there { C.has content.old id }
         requires behind { self.old.base + self.old.cursor < self.old.size }
-        ensures there { C.has content.new id }
-        ensures any { HasKeptFlags C.ReadContents content.old content.new id result }
-        ensures around { C.tells content.old
-            → IsWritten C.ReadContents C.Contents.own content.old content.new id result }
+        ensures writes { WritesContents C.ReadContents C.Contents.own content.old content.new id
+            result }
         ensures calm { C.tells content.old → self.old.pending ≡ false
             → IsRead C.ReadContents content.old content.new id result }
         ensures ok { IsReady C.ReadContents content.old id self.old → OnOk result
@@ -215,9 +206,8 @@ impl<A: Allocator> Window<A> {
         into: &mut [u8],
     ) -> Result<usize, Error>
         requires there { C.has content.old id }
-        ensures there { C.has content.new id }
-        ensures any { HeedsFlags C.ReadContents
-            content.old id self.old result content.new self.new }
+        ensures open { StaysOpen C.ReadContents content.old id self.old result content.new self.new
+            }
         ensures most { IfOk result (λ n. n ≤ length into.new) }
         ensures rest { IfOk result (λ n. drop n into.new ≡ drop n into.old) }
         ensures runs { IsOpen C.ReadContents content.old id self.old
@@ -229,8 +219,6 @@ impl<A: Allocator> Window<A> {
         ensures foreseen { IsOpen C.ReadContents content.old id self.old
             → IfErr result (λ e. e ≡ Error.Full
             → LacksRoomToWriteOut C.ReadContents C.Contents.own content.old id self.old) }
-        ensures goes_on { IsOpen C.ReadContents content.old id self.old
-            → GoesOn C.ReadContents content.old content.new id self.new }
         ensures settles { IsOpen C.ReadContents content.old id self.old
             → OnOk result (IsSettled (C.stored content.old id) self.old (C.stored content.new id)) }
         ensures calm { C.tells content.old → self.old.pending ≡ false
@@ -241,7 +229,6 @@ impl<A: Allocator> Window<A> {
             → self.new.room < min (self.old.size - (self.old.base + self.old.cursor)) self.old.bound
             → content.new ≡ content.old }
         ensures straight { 65536 ≤ length into.old → self.new.room ≡ self.old.room }
-        ensures bound { self.new.bound ≡ self.old.bound }
         ensures lean { self.new.room ≤ max self.old.room
             (min (self.old.size - (self.old.base + self.old.cursor)) self.old.bound) }
         ensures around { C.tells content.old
@@ -270,9 +257,8 @@ impl<A: Allocator> Window<A> {
     /// It is refused as `read` is.
     pub fn fill<C: Contents>(&mut self, content: &mut C, id: u32) -> Result<(), Error>
         requires there { C.has content.old id }
-        ensures there { C.has content.new id }
-        ensures any { HeedsFlags C.ReadContents
-            content.old id self.old result content.new self.new }
+        ensures open { StaysOpen C.ReadContents content.old id self.old result content.new self.new
+            }
         ensures runs { IsOpen C.ReadContents content.old id self.old
             → OnOk result (RunsOn C.ReadContents C.Contents.own content.old id self.old fill_buf
             (got (drop self.new.cursor self.new.filled)) content.new self.new) }
@@ -282,8 +268,6 @@ impl<A: Allocator> Window<A> {
         ensures foreseen { IsOpen C.ReadContents content.old id self.old
             → IfErr result (λ e. e ≡ Error.Full
             → LacksRoomToWriteOut C.ReadContents C.Contents.own content.old id self.old) }
-        ensures goes_on { IsOpen C.ReadContents content.old id self.old
-            → GoesOn C.ReadContents content.old content.new id self.new }
         ensures settles { IsOpen C.ReadContents content.old id self.old
             → OnOk result (IsSettled (C.stored content.old id) self.old (C.stored content.new id)) }
         ensures calm { C.tells content.old → self.old.pending ≡ false
@@ -292,7 +276,6 @@ impl<A: Allocator> Window<A> {
         ensures grown { self.new.room
             < min (self.old.size - (self.old.base + self.old.cursor)) self.old.bound
             → content.new ≡ content.old }
-        ensures bound { self.new.bound ≡ self.old.bound }
         ensures lean { self.new.room ≤ max self.old.room
             (min (self.old.size - (self.old.base + self.old.cursor)) self.old.bound) }
         ensures around { C.tells content.old
@@ -319,9 +302,8 @@ impl<A: Allocator> Window<A> {
         to: SeekFrom,
     ) -> Result<u64, Error>
         requires there { C.has content.old id }
-        ensures there { C.has content.new id }
-        ensures any { HeedsFlags C.ReadContents
-            content.old id self.old result content.new self.new }
+        ensures open { StaysOpen C.ReadContents content.old id self.old result content.new self.new
+            }
         ensures runs { IsOpen C.ReadContents content.old id self.old
             → IfOk result (λ at. RunsOn C.ReadContents C.Contents.own content.old id self.old
             (seek (whence_of to)) (offset at) content.new self.new) }
@@ -331,8 +313,6 @@ impl<A: Allocator> Window<A> {
         ensures foreseen { IsOpen C.ReadContents content.old id self.old
             → IfErr result (λ e. e ≡ Error.Full
             → LacksRoomToWriteOut C.ReadContents C.Contents.own content.old id self.old) }
-        ensures goes_on { IsOpen C.ReadContents content.old id self.old
-            → GoesOn C.ReadContents content.old content.new id self.new }
         ensures settles { IsOpen C.ReadContents content.old id self.old
             → OnOk result (IsSettled (C.stored content.old id) self.old (C.stored content.new id)) }
         ensures calm { self.old.pending ≡ false → content.new ≡ content.old }
@@ -346,7 +326,6 @@ impl<A: Allocator> Window<A> {
             → target_of self.old.size (self.old.base + self.old.cursor) to ≡ Some at
             → self.old.base ≤ at → at ≤ self.old.base + length self.old.filled
             → (self.new.base ≡ self.old.base) × (self.new.filled ≡ self.old.filled) }
-        ensures bound { self.new.bound ≡ self.old.bound }
         ensures room { self.new.room ≡ self.old.room }
         ensures around { C.tells content.old
             → IsWritten C.ReadContents C.Contents.own content.old content.new id result }
@@ -365,10 +344,8 @@ impl<A: Allocator> Window<A> {
     fn go<C: Contents>(&mut self, content: &mut C, id: u32, at: u64) -> Result<(), Error>
         requires there { C.has content.old id }
         requires inside { at ≤ self.old.size }
-        ensures there { C.has content.new id }
-        ensures any { HasKeptFlags C.ReadContents content.old content.new id result }
-        ensures around { C.tells content.old
-            → IsWritten C.ReadContents C.Contents.own content.old content.new id result }
+        ensures writes { WritesContents C.ReadContents C.Contents.own content.old content.new id
+            result }
         ensures ok { IsReady C.ReadContents content.old id self.old → OnOk result (WentTo at
             (C.stored content.old id) self.old (C.stored content.new id) self.new) }
         ensures calm { self.old.pending ≡ false → content.new ≡ content.old }
@@ -435,10 +412,8 @@ impl<A: Allocator> Window<A> {
     /// Writes out what is pending, and says that it is the same stream.
     pub(super) fn settle<C: Contents>(&mut self, content: &mut C, id: u32) -> Result<(), Error>
         requires there { C.has content.old id }
-        ensures there { C.has content.new id }
-        ensures any { HasKeptFlags C.ReadContents content.old content.new id result }
-        ensures around { C.tells content.old
-            → IsWritten C.ReadContents C.Contents.own content.old content.new id result }
+        ensures writes { WritesContents C.ReadContents C.Contents.own content.old content.new id
+            result }
         ensures ok { IsReady C.ReadContents content.old id self.old → OnOk result
             (Carries (C.stored content.old id) self.old (C.stored content.new id) self.new) }
         ensures stored { IsReady C.ReadContents content.old id self.old
@@ -506,9 +481,8 @@ impl<A: Allocator> Window<A> {
         into: &mut Vec<u8, B>,
     ) -> Result<usize, Error>
         requires there { C.has content.old id }
-        ensures there { C.has content.new id }
-        ensures any { HeedsFlags C.ReadContents
-            content.old id self.old result content.new self.new }
+        ensures open { StaysOpen C.ReadContents content.old id self.old result content.new self.new
+            }
         ensures appends { IfOk result (λ n. (length into.new.items ≡ length into.old.items + n)
             × (into.new.items ≡ into.old.items ++ drop (length into.old.items) into.new.items)) }
         ensures nothing { OnErr result (into.new.items ≡ into.old.items) }
@@ -521,15 +495,12 @@ impl<A: Allocator> Window<A> {
         ensures foreseen { IsOpen C.ReadContents content.old id self.old
             → IfErr result (λ e. e ≡ Error.Full
             → LacksRoomToWriteOut C.ReadContents C.Contents.own content.old id self.old) }
-        ensures goes_on { IsOpen C.ReadContents content.old id self.old
-            → GoesOn C.ReadContents content.old content.new id self.new }
         ensures settles { IsOpen C.ReadContents content.old id self.old
             → OnOk result (IsSettled (C.stored content.old id) self.old (C.stored content.new id)) }
         ensures calm { C.tells content.old → self.old.pending ≡ false
             → IsRead C.ReadContents content.old content.new id result }
         ensures held { self.old.base + length self.old.filled ≡ self.old.size
             → content.new ≡ content.old }
-        ensures bound { self.new.bound ≡ self.old.bound }
         ensures room { self.new.room ≡ self.old.room }
         ensures around { C.tells content.old
             → IsWritten C.ReadContents C.Contents.own content.old content.new id result }
@@ -556,10 +527,8 @@ impl<A: Allocator> Window<A> {
         into: &mut Vec<u8, B>,
     ) -> Result<usize, Error>
         requires there { C.has content.old id }
-        ensures there { C.has content.new id }
-        ensures any { HasKeptFlags C.ReadContents content.old content.new id result }
-        ensures around { C.tells content.old
-            → IsWritten C.ReadContents C.Contents.own content.old content.new id result }
+        ensures writes { WritesContents C.ReadContents C.Contents.own content.old content.new id
+            result }
         ensures calm { C.tells content.old → self.old.pending ≡ false
             → IsRead C.ReadContents content.old content.new id result }
         ensures count { IfOk result (λ n. length into.new.items ≡ length into.old.items + n) }

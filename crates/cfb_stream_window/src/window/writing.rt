@@ -1,5 +1,6 @@
 //! Writing to a buffered stream, and giving it another length.
 ghost use Rattle.std.specs.Prelude.{◌≡◌, ◌+◌, ◌-◌, ◌*◌, ◌^◌, ◌<◌, ◌≤◌, ◌⊎◌, ◌↔◌, min, max, [], true, false, IsTrue, OnOk, OnErr, IfOk, IfErr, length, take};
+ghost use Rattle.cfb_stream_window.specs.Leaves.{WritesContents, StaysOpen};
 ghost use Rattle.cfb_format.specs.Refused.{IsMemory, IsBreak};
 ghost use Rattle.cfb_stream_window.specs.cfb_rules.StreamCalls.{write, count};
 ghost use Rattle.cfb_stream_window.specs.Windows.{Carries, WriteBrokeOff, LengthBrokeOff, IsLengthened, IsSettled, HasBufferRoom, window_kept, window_past, window_within, WroteStraight, Resized};
@@ -30,9 +31,8 @@ impl<A: Allocator> Window<A> {
         bytes: &[u8],
     ) -> Result<usize, Error>
         requires there { C.has content.old id }
-        ensures there { C.has content.new id }
-        ensures any { HeedsFlags C.ReadContents
-            content.old id self.old result content.new self.new }
+        ensures open { StaysOpen C.ReadContents content.old id self.old result content.new self.new
+            }
         ensures most { IfOk result (λ n. n ≤ length bytes.now) }
         ensures runs { IsOpen C.ReadContents content.old id self.old
             → IfOk result (λ n. RunsOn C.ReadContents C.Contents.own content.old id self.old
@@ -40,8 +40,6 @@ impl<A: Allocator> Window<A> {
         ensures refused { IsOpen C.ReadContents content.old id self.old
             → IfErr result (IsRefusedOn C.ReadContents C.Contents.own content.old id self.old
             (write bytes.now) content.new self.new) }
-        ensures goes_on { IsOpen C.ReadContents content.old id self.old
-            → GoesOn C.ReadContents content.old content.new id self.new }
         ensures settles { IsOpen C.ReadContents content.old id self.old → length bytes.now < 65536
             → OnOk result (IsSettled (C.stored content.old id) self.old (C.stored content.new id)) }
         ensures none { length bytes.now ≡ 0 → content.new ≡ content.old }
@@ -57,7 +55,6 @@ impl<A: Allocator> Window<A> {
             → IfErr result (λ e. e ≡ Error.Full
             → LacksRoomToWrite C.ReadContents C.Contents.own content.old id self.old
             (length bytes.now) content.new) }
-        ensures bound { self.new.bound ≡ self.old.bound }
         ensures lean { self.new.room ≤ max self.old.room (min (4 * self.old.room) self.old.bound) }
         ensures around { C.tells content.old
             → IsTouched C.ReadContents C.Contents.own content.old content.new id result }
@@ -93,10 +90,8 @@ impl<A: Allocator> Window<A> {
     /// Sees to it that there is room at the cursor.
     fn have_room<C: Contents>(&mut self, content: &mut C, id: u32) -> Result<(), Error>
         requires there { C.has content.old id }
-        ensures there { C.has content.new id }
-        ensures any { HasKeptFlags C.ReadContents content.old content.new id result }
-        ensures around { C.tells content.old
-            → IsWritten C.ReadContents C.Contents.own content.old content.new id result }
+        ensures writes { WritesContents C.ReadContents C.Contents.own content.old content.new id
+            result }
         ensures ok { IsReady C.ReadContents content.old id self.old → OnOk result
             (Carries (C.stored content.old id) self.old (C.stored content.new id) self.new) }
         ensures room { OnOk result (self.new.cursor < self.new.room) }
@@ -144,10 +139,8 @@ impl<A: Allocator> Window<A> {
 
     fn make_room<C: Contents>(&mut self, content: &mut C, id: u32) -> Result<(), Error>
         requires there { C.has content.old id }
-        ensures there { C.has content.new id }
-        ensures any { HasKeptFlags C.ReadContents content.old content.new id result }
-        ensures around { C.tells content.old
-            → IsWritten C.ReadContents C.Contents.own content.old content.new id result }
+        ensures writes { WritesContents C.ReadContents C.Contents.own content.old content.new id
+            result }
         ensures ok { IsReady C.ReadContents content.old id self.old → OnOk result
             (Carries (C.stored content.old id) self.old (C.stored content.new id) self.new) }
         ensures room { OnOk result (self.new.cursor < self.new.room) }
@@ -258,17 +251,14 @@ impl<A: Allocator> Window<A> {
     /// has changed then, or the length is longer, bytes were pending behind the end, and the file has failed.
     pub fn set_len<C: Contents>(&mut self, content: &mut C, id: u32, len: u64) -> Result<(), Error>
         requires there { C.has content.old id }
-        ensures there { C.has content.new id }
-        ensures any { HeedsFlags C.ReadContents
-            content.old id self.old result content.new self.new }
+        ensures open { StaysOpen C.ReadContents content.old id self.old result content.new self.new
+            }
         ensures runs { IsOpen C.ReadContents content.old id self.old
             → OnOk result (RunsSettingLen C.ReadContents C.Contents.own
             content.old id self.old len content.new self.new) }
         ensures refused { IsOpen C.ReadContents content.old id self.old
             → IfErr result (IsLengthRefusedOn C.ReadContents C.Contents.own
             content.old id self.old len content.new self.new) }
-        ensures goes_on { IsOpen C.ReadContents content.old id self.old
-            → GoesOn C.ReadContents content.old content.new id self.new }
         ensures same { len ≡ self.old.size → content.new ≡ content.old }
         ensures unsound { (C.stored content.old id).sound ≡ false → content.new ≡ content.old }
         ensures foreseen { IsOpen C.ReadContents content.old id self.old
@@ -279,7 +269,6 @@ impl<A: Allocator> Window<A> {
             → IsLengthened (C.stored content.old id) self.old len
             → HasRoomForBoth C.ReadContents C.Contents.own content.old id self.old len → OnOk result
             (WritesOutFirst C.ReadContents C.Contents.own content.old id self.old content.new) }
-        ensures bound { self.new.bound ≡ self.old.bound }
         ensures room { self.new.room ≡ self.old.room }
         ensures around { C.tells content.old
             → IsTouched C.ReadContents C.Contents.own content.old content.new id result }
@@ -431,10 +420,8 @@ impl<A: Allocator> Window<A> {
     /// failed.
     fn resize_again<C: Contents>(&mut self, content: &mut C, id: u32, len: u64) -> Result<(), Error>
         requires there { C.has content.old id }
-        ensures there { C.has content.new id }
-        ensures any { HasKeptFlags C.ReadContents content.old content.new id result }
-        ensures around { C.tells content.old
-            → IsWritten C.ReadContents C.Contents.own content.old content.new id result }
+        ensures writes { WritesContents C.ReadContents C.Contents.own content.old content.new id
+            result }
         ensures ok { IsReady C.ReadContents content.old id self.old
             → (C.stored content.old id).sound ≡ true → len ≤ (C.stored content.old id).limit
             → OnOk result (Resized len
@@ -458,10 +445,8 @@ impl<A: Allocator> Window<A> {
     /// out what is pending inside of it.
     fn resize<C: Contents>(&mut self, content: &mut C, id: u32, len: u64) -> Result<(), Error>
         requires there { C.has content.old id }
-        ensures there { C.has content.new id }
-        ensures any { HasKeptFlags C.ReadContents content.old content.new id result }
-        ensures around { C.tells content.old
-            → IsWritten C.ReadContents C.Contents.own content.old content.new id result }
+        ensures writes { WritesContents C.ReadContents C.Contents.own content.old content.new id
+            result }
         ensures ok { IsReady C.ReadContents content.old id self.old
             → (C.stored content.old id).sound ≡ true → len ≤ (C.stored content.old id).limit
             → OnOk result (Resized len

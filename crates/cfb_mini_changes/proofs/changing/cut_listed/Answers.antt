@@ -66,7 +66,7 @@ returns-clause-chain g c =
     let chain = c.requires.chain in
     let fewer = c.requires.fewer in
     let cut = c.cut_listed.new.self in
-    let gives = subst (λ (l : List ℕ). MiniGivesBack (ends_of (take left l)) (drop left l) table.minifat cut.minifat) c.deref-5.ensures.value c.cut_listed.ensures.cut in
+    let gives = subst (λ (l : List ℕ). MiniGivesBack (ends_of (take left l)) (drop left l) table.minifat cut.minifat) c.deref-5.ensures.value c.cut_listed.ensures.given_back.freed in
     subst (λ (l : List ℕ). IsChain cut.minifat (first_or_end l) l) (sym c.truncate.ensures.items) (left-chain ids left table.minifat cut.minifat chain fewer gives)
 
 pub returns-clause-holds : goal.returns-clause-holds
@@ -82,8 +82,8 @@ returns-clause-holds g c told validation h starts unnamed =
     let a = mini_of directory table sectors (Some stream) in
     let cut = c.cut_listed.new.self in
     let of = c.settle_freed-freed.ensures in
-    let gives = subst (λ (l : List ℕ). MiniGivesBack (ends_of (take left l)) (drop left l) table.minifat cut.minifat) c.deref-5.ensures.value c.cut_listed.ensures.cut in
-    let limit : table.limit ≡ cut.limit = sym (ap (λ (t : MiniTableState). t.limit) c.cut_listed.ensures.rest) in
+    let gives = subst (λ (l : List ℕ). MiniGivesBack (ends_of (take left l)) (drop left l) table.minifat cut.minifat) c.deref-5.ensures.value c.cut_listed.ensures.given_back.freed in
+    let limit : table.limit ≡ cut.limit = sym (ap (λ (t : MiniTableState). t.limit) c.cut_listed.ensures.given_back.rest) in
     let late = c.saturating_sub-2.result in
     let less : late ≡ left - 1 = omega (arith, c.saturating_sub-2.ensures) in
     let shown = shown-late table.minifat c.deref-7.result.now ids left late c.deref-7.ensures.value chain fewer less in
@@ -108,7 +108,7 @@ returns-clause-wiped g c told validation h =
     let stream' = c.settle_freed-freed.new.stream.items in
     let d = mini_of now cut sectors' (Some stream') in
     let of = c.settle_freed-freed.ensures in
-    let limit : table.limit ≡ cut.limit = sym (ap (λ (t : MiniTableState). t.limit) c.cut_listed.ensures.rest) in
+    let limit : table.limit ≡ cut.limit = sym (ap (λ (t : MiniTableState). t.limit) c.cut_listed.ensures.given_back.rest) in
     let held = subst (λ n. HoldsMiniBut [] validation (record a { max_mini_sectors = n })) limit (held-but validation a h) in
     let shown = shown-rest c.deref-6.result.now ids left c.deref-6.ensures.value in
     subst (λ (l : List ℕ). OnOk c.settle_freed-freed.result ((m : ℕ) → Contains l m → IsInMiniStream d m → IsZeroMini d m)) shown (of.zeros told validation [] table.minifat held)
@@ -148,8 +148,8 @@ returns-clause-mini_spares g c told validation h =
     let stream' = c.settle_freed-freed.new.stream.items in
     let d = mini_of now cut sectors' (Some stream') in
     let of = c.settle_freed-freed.ensures in
-    let gives = subst (λ (l : List ℕ). MiniGivesBack (ends_of (take left l)) (drop left l) table.minifat cut.minifat) c.deref-5.ensures.value c.cut_listed.ensures.cut in
-    let limit : table.limit ≡ cut.limit = sym (ap (λ (t : MiniTableState). t.limit) c.cut_listed.ensures.rest) in
+    let gives = subst (λ (l : List ℕ). MiniGivesBack (ends_of (take left l)) (drop left l) table.minifat cut.minifat) c.deref-5.ensures.value c.cut_listed.ensures.given_back.freed in
+    let limit : table.limit ≡ cut.limit = sym (ap (λ (t : MiniTableState). t.limit) c.cut_listed.ensures.given_back.rest) in
     let held = subst (λ n. HoldsMiniBut [] validation (record a { max_mini_sectors = n })) limit (held-but validation a h) in
     let shown = shown-rest c.deref-6.result.now ids left c.deref-6.ensures.value in
     let others = λ (m : ℕ) (has : HasMiniSector a m) (out : Contains (drop left ids) m → ⊥).
@@ -175,8 +175,8 @@ returns-clause-bytes g c told validation h m busy out =
     let stream' = c.settle_freed-freed.new.stream.items in
     let d = mini_of now cut sectors' (Some stream') in
     let of = c.settle_freed-freed.ensures in
-    let gives = subst (λ (l : List ℕ). MiniGivesBack (ends_of (take left l)) (drop left l) table.minifat cut.minifat) c.deref-5.ensures.value c.cut_listed.ensures.cut in
-    let limit : table.limit ≡ cut.limit = sym (ap (λ (t : MiniTableState). t.limit) c.cut_listed.ensures.rest) in
+    let gives = subst (λ (l : List ℕ). MiniGivesBack (ends_of (take left l)) (drop left l) table.minifat cut.minifat) c.deref-5.ensures.value c.cut_listed.ensures.given_back.freed in
+    let limit : table.limit ≡ cut.limit = sym (ap (λ (t : MiniTableState). t.limit) c.cut_listed.ensures.given_back.rest) in
     let held = subst (λ n. HoldsMiniBut [] validation (record a { max_mini_sectors = n })) limit (held-but validation a h) in
     let shown = shown-rest c.deref-6.result.now ids left c.deref-6.ensures.value in
     let others = λ (m : ℕ) (has : HasMiniSector a m) (out : Contains (drop left ids) m → ⊥).
@@ -221,7 +221,7 @@ returns-clause-snug g c validation h =
     let cut = c.cut_listed.new.self in
     let of = c.settle_freed-freed.ensures in
     let d = mini_of c.settle_freed-freed.new.directory cut c.settle_freed-freed.new.minifat_sectors.items (Some c.settle_freed-freed.new.stream.items) in
-    let gives = subst (λ (l : List ℕ). MiniGivesBack (ends_of (take left l)) (drop left l) table.minifat cut.minifat) c.deref-5.ensures.value c.cut_listed.ensures.cut in
+    let gives = subst (λ (l : List ℕ). MiniGivesBack (ends_of (take left l)) (drop left l) table.minifat cut.minifat) c.deref-5.ensures.value c.cut_listed.ensures.given_back.freed in
     on_both _ _ _ c.settle_freed-freed.result (λ given named. snug-given validation a d h gives.shorter of.kept.limits.version given named.measured named.start)
     (returns-clause-room g c (held-can validation a h)) of.named
 

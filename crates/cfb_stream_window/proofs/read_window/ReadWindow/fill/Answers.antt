@@ -25,7 +25,7 @@ returns-in_err-have_rest-clause-refused g c = λ (h : IsOpen g.C.ReadContents c.
     let r : IsReady g.C.ReadContents c.args.content.now c.args.id c.args.self.now = record { told = h.told; agrees = a } in
     let e = c.in_err-have_rest.ensures in
     let p = err_from_is_err_and c.from_residual.result c.from_residual.ensures.1 in
-    rw (p.1, p.2) (read_for _ _ _ _ _ _ _ _ _ (refused_fill _ _ _ _ _ _ _ _ _ a (omega (arith, c.position.ensures.value, c.position.ensures.inside, c.len.ensures.value)) (e.around h.told).counts (e.refused r)) _ (λ _. (e.around h.told).kept) (e.refused r))
+    rw (p.1, p.2) (read_for _ _ _ _ _ _ _ _ _ (refused_fill _ _ _ _ _ _ _ _ _ a (omega (arith, c.position.ensures.value, c.position.ensures.inside, c.len.ensures.value)) (e.reads.around h.told).counts (e.refused r)) _ (λ _. (e.reads.around h.told).kept) (e.refused r))
 
 pub returns-clause-runs : goal.returns-clause-runs
 returns-clause-runs g c = λ (h : IsOpen g.C.ReadContents c.args.content.now c.args.id c.args.self.now).

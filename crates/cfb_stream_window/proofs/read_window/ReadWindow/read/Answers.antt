@@ -1,4 +1,5 @@
-use Rattle.std.proofs.Common.{◌+◌, ◌-◌, ◌∙◌, length, take, drop, arith, sym, ap, refl}
+use Rattle.std.proofs.lemmas.Grind.{common_steps}
+use Rattle.std.proofs.Common.{◌+◌, ◌-◌, ◌∙◌, length, take, drop, arith, sym, ap, refl, rules}
 use Rattle.std.proofs.lemmas.Result.{err_from_is_err_and}
 use Rattle.cfb_stream_window.specs.cfb_rules.StreamCalls.{read}
 use Rattle.cfb_stream_window.specs.Answers.{IsOpen, IsReady}
@@ -27,7 +28,7 @@ returns-in_err-have_rest-clause-refused g c = λ (h : IsOpen g.C.ReadContents c.
     let some = not_empty _ (sym c.is_empty.ensures ∙ c.if-is_empty.false) in
     let p = err_from_is_err_and c.from_residual-in_err-have_rest.result c.from_residual-in_err-have_rest.ensures.1 in
     rw (p.1, p.2) (read_for _ _ _ _ _ _ _ _ _
-    (refused_read _ _ _ _ _ _ _ _ _ a (omega (arith, c.position.ensures.value, c.position.ensures.inside, c.len.ensures.value)) (e.around h.told).counts (e.refused r) (length c.args.into.now) some) _ (λ _. (e.around h.told).kept) (e.refused r))
+    (refused_read _ _ _ _ _ _ _ _ _ a (omega (arith, c.position.ensures.value, c.position.ensures.inside, c.len.ensures.value)) (e.reads.around h.told).counts (e.refused r) (length c.args.into.now) some) _ (λ _. (e.reads.around h.told).kept) (e.refused r))
 
 pub returns-in_err-count-clause-refused : goal.returns-in_err-count-clause-refused
 returns-in_err-count-clause-refused g c = λ (h : IsOpen g.C.ReadContents c.args.content.now c.args.id c.args.self.now).
@@ -38,7 +39,7 @@ returns-in_err-count-clause-refused g c = λ (h : IsOpen g.C.ReadContents c.args
     let p = err_from_is_err_and c.from_residual.result c.from_residual.ensures.1 in
     let broke = e.refused r in
     rw (p.1, p.2) (read_for _ _ _ _ _ _ _ _ _
-    (refused_read _ _ _ _ _ _ _ _ _ a (omega (arith, c.position.ensures.value, c.position.ensures.inside, c.len.ensures.value)) (e.around h.told).counts broke (length c.args.into.now) some) _ (λ _. (e.around h.told).kept) broke)
+    (refused_read _ _ _ _ _ _ _ _ _ a (omega (arith, c.position.ensures.value, c.position.ensures.inside, c.len.ensures.value)) (e.reads.around h.told).counts broke (length c.args.into.now) some) _ (λ _. (e.reads.around h.told).kept) broke)
 
 pub returns-then-not-has_rest-clause-runs : goal.returns-then-not-has_rest-clause-runs
 returns-then-not-has_rest-clause-runs g c = λ (h : IsOpen g.C.ReadContents c.args.content.now c.args.id c.args.self.now).
@@ -60,3 +61,11 @@ returns-clause-runs g c = λ (h : IsOpen g.C.ReadContents c.args.content.now c.a
     let more = had.some r in
     read_runs _ _ _ _ _ _ a.unfailed (had.ok r) (omega (arith, c.position.ensures.value, c.position.ensures.inside, c.len.ensures.value)) c.serve.new.into (length c.args.into.now) n (omega (arith, count, held, more, some)) (omega (arith, count)) (omega (arith, count, held, more))
     (c.serve.ensures.bytes ∙ ap (λ (z : Window). take n (drop z.cursor z.filled)) v) (c.serve.ensures.window ∙ ap (λ (z : Window). record z { cursor = z.cursor + n; ahead = 0 }) v)
+
+pub returns-clause-open : goal.returns-clause-open
+returns-clause-open g c = record {
+  there = first_of (search rules, grind (arith, common_steps));
+  flags = first_of (search rules, grind (arith, common_steps));
+  goes_on = first_of (search rules, grind (arith, common_steps));
+  bound = first_of (search rules, grind (arith, common_steps));
+}

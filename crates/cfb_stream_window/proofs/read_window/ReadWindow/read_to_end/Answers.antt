@@ -83,4 +83,4 @@ returns-in_err-count-2-clause-refused g c = λ (h : IsOpen g.C.ReadContents c.ar
     let why = broken_from ⊥ s _ w c.check_rest.new.self _ _ seen.window (calm_reads ⊥ _ c.check_rest.new.self _ _ c.in_err-count-2.field-0.0 calm (q.refused there (readable_same s _ _ seen.window (seen.ok r)) more)) in
     let p = err_from_is_err_and c.from_residual-in_err-count-2.result c.from_residual-in_err-count-2.ensures.1 in
     rw (p.1, p.2) (subst (λ (z : Window). IsRefusedReading g.C.ReadContents c.args.content.now c.args.id z read_to_end c.append_rest.new.content c.append_rest.new.self c.in_err-count-2.field-0.0) c.self.view_is
-    (broke_for _ _ _ _ _ _ _ _ _ (read_broken _ _ _ _ _ _ _ _ read_to_end _ refl a.unfailed tt (q.around h.told).counts why) _ _ IsMemory why))
+    (broke_for _ _ _ _ _ _ _ _ _ (read_broken _ _ _ _ _ _ _ _ read_to_end _ refl a.unfailed tt (q.reads.around h.told).counts why) _ _ IsMemory why))

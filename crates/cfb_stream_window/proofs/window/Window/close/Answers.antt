@@ -14,6 +14,6 @@ returns-in_err-settle-clause-refused g c = λ (h : IsOpen g.C.ReadContents c.arg
     let f = sym c.is_failed.ensures ∙ c.if-is_failed.false in
     let e = c.in_err-settle.ensures in
     let why = e.refused (record { told = h.told; agrees = h.suits f }) in
-    let k = lost_closing _ _ _ _ _ c.args.self _ _ f (e.around h.told).counts why in
+    let k = lost_closing _ _ _ _ _ c.args.self _ _ f (e.writes.around h.told).counts why in
     let p = err_from_is_err_and c.from_residual.result c.from_residual.ensures.1 in
     rw (p.1, p.2) (record { refusal = k.0; is = k.1; closes = k.2; untouched = break_untouched (g.C.Contents.is_full c.settle.new.content) (c.settle.new.content ≡ c.args.content.now) (Unit {0}) c.in_err-settle.field-0.0 why.0 })

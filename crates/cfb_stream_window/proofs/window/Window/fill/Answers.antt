@@ -26,7 +26,7 @@ returns-in_err-have_rest-clause-refused g c = λ (h : IsOpen g.C.ReadContents c.
     let size = ap (λ (z : Window). z.size) c.self.view_is in
     let e = c.in_err-have_rest.ensures in
     let p = err_from_is_err_and c.from_residual.result c.from_residual.ensures.1 in
-    rw (p.1, p.2) (read_for _ _ _ _ _ _ _ _ _ (refused_fill _ _ _ _ _ _ _ _ _ a (omega (arith, size)) (e.around h.told).counts (e.refused r)) _ (λ calm. (e.calm h.told calm).kept) (e.refused r))
+    rw (p.1, p.2) (read_for _ _ _ _ _ _ _ _ _ (refused_fill _ _ _ _ _ _ _ _ _ a (omega (arith, size)) (e.writes.around h.told).counts (e.refused r)) _ (λ calm. (e.calm h.told calm).kept) (e.refused r))
 
 pub returns-clause-runs : goal.returns-clause-runs
 returns-clause-runs g c = λ (h : IsOpen g.C.ReadContents c.args.content.now c.args.id c.args.self.now).

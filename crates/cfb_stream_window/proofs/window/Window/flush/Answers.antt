@@ -19,7 +19,7 @@ returns-in_err-settle-clause-refused g c = λ (h : IsOpen g.C.ReadContents c.arg
     let r : IsReady g.C.ReadContents c.args.content.now c.args.id c.args.self.now = record { told = h.told; agrees = h.suits f } in
     let e = c.in_err-settle.ensures in
     let p = err_from_is_err_and c.from_residual.result c.from_residual.ensures.1 in
-    rw (p.1, p.2) (lost_for _ _ _ _ _ _ _ _ _ (lost_flushing _ _ _ _ _ _ _ _ flush _ refl f tt (e.around h.told).counts (e.refused r)) _ (e.refused r))
+    rw (p.1, p.2) (lost_for _ _ _ _ _ _ _ _ _ (lost_flushing _ _ _ _ _ _ _ _ flush _ refl f tt (e.writes.around h.told).counts (e.refused r)) _ (e.refused r))
 
 pub returns-clause-runs : goal.returns-clause-runs
 returns-clause-runs g c = λ (h : IsOpen g.C.ReadContents c.args.content.now c.args.id c.args.self.now).
@@ -27,7 +27,7 @@ returns-clause-runs g c = λ (h : IsOpen g.C.ReadContents c.args.content.now c.a
     let r : IsReady g.C.ReadContents c.args.content.now c.args.id c.args.self.now = record { told = h.told; agrees = h.suits f } in
     let done = c.in_ok-settle.ensures in
     let k = done.ok r in
-    flushed_runs _ _ _ _ _ _ (h.suits f) k done.window (c.in_ok-flush.ensures.ok (done.around h.told).told k.agrees.unfailed)
+    flushed_runs _ _ _ _ _ _ (h.suits f) k done.window (c.in_ok-flush.ensures.ok (done.writes.around h.told).told k.agrees.unfailed)
 
 pub returns-in_err-flush-clause-refused : goal.returns-in_err-flush-clause-refused
 returns-in_err-flush-clause-refused g c = λ (h : IsOpen g.C.ReadContents c.args.content.now c.args.id c.args.self.now).
@@ -35,10 +35,10 @@ returns-in_err-flush-clause-refused g c = λ (h : IsOpen g.C.ReadContents c.args
     let r : IsReady g.C.ReadContents c.args.content.now c.args.id c.args.self.now = record { told = h.told; agrees = h.suits f } in
     let done = c.in_ok-settle.ensures in
     let e = c.in_err-flush.ensures in
-    let told = (done.around h.told).told in
+    let told = (done.writes.around h.told).told in
     let k = done.ok r in
     let why = e.refused told k.agrees.unfailed in
-    let counts = subst (λ (m : ℕ). CountsError (faults_of g.C.ReadContents g.C.Contents) m (g.C.ReadContents.failures c.flush.new.self) c.in_err-flush.field-0.0) (done.around h.told).counts (e.counts told) in
+    let counts = subst (λ (m : ℕ). CountsError (faults_of g.C.ReadContents g.C.Contents) m (g.C.ReadContents.failures c.flush.new.self) c.in_err-flush.field-0.0) (done.writes.around h.told).counts (e.counts told) in
     let p = err_from_is_err_and c.from_residual-in_err-flush.result c.from_residual-in_err-flush.ensures.1 in
     rw (p.1, p.2) (record {
       rules = flush_broken _ _ _ _ _ _ _ _ flush _ refl f tt counts why.0 why.1.is_failed;

@@ -69,4 +69,4 @@ returns-in_err-count-2-clause-refused g c = λ (h : IsOpen g.C.ReadContents c.ar
     let q = c.in_err-count-2.ensures in
     let why = broken_from _ _ _ _ c.check_rest.new.self _ _ seen.window (q.refused there (readable_same (g.C.ReadContents.stored c.args.content.now c.args.id) _ _ seen.window (seen.ok r)) more) in
     let p = err_from_is_err_and c.from_residual-in_err-count-2.result c.from_residual-in_err-count-2.ensures.1 in
-    rw (p.1, p.2) (broke_for _ _ _ _ _ _ _ _ _ (read_broken _ _ _ _ _ _ _ _ read_to_end _ refl a.unfailed tt (q.around h.told).counts why) _ _ IsMemory why)
+    rw (p.1, p.2) (broke_for _ _ _ _ _ _ _ _ _ (read_broken _ _ _ _ _ _ _ _ read_to_end _ refl a.unfailed tt (q.writes.around h.told).counts why) _ _ IsMemory why)

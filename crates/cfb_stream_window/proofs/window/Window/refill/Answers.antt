@@ -16,7 +16,7 @@ returns-clause-ok g c = λ (h : IsReady g.C.ReadContents c.args.content.now c.ar
     let e = c.in_ok-load.ensures in
     let inside : v.base < s.size = omega (arith, base, c.requires.behind, h.agrees.clean_size c.requires.calm) in
     carries_trans _ _ _ _ _ _ k
-    (loaded s v k.agrees (ap (λ (z : Window). z.filled) is) (ap (λ (z : Window). z.cursor) is) (k.calm c.requires.calm) _ _ (e.around h.told).same e.window (e.ok h.told inside))
+    (loaded s v k.agrees (ap (λ (z : Window). z.filled) is) (ap (λ (z : Window). z.cursor) is) (k.calm c.requires.calm) _ _ (e.reads.around h.told).same e.window (e.ok h.told inside))
 
 pub returns-in_err-load-clause-refused : goal.returns-in_err-load-clause-refused
 returns-in_err-load-clause-refused g c = λ (h : IsReady g.C.ReadContents c.args.content.now c.args.id c.args.self.now).
@@ -31,5 +31,5 @@ returns-in_err-load-clause-refused g c = λ (h : IsReady g.C.ReadContents c.args
     let inside : v.base < s.size = omega (arith, base, c.requires.behind, h.agrees.clean_size c.requires.calm) in
     let unlent = ap (λ (z : Window). z.ahead) is in
     let p = err_from_is_err_and c.from_residual-in_err-load.result c.from_residual-in_err-load.ensures.1 in
-    rw (p.1, p.2) (refill_refused s _ w v _ c.in_err-load.field-0.0 k base unlent c.requires.calm c.requires.unread (e.around h.told).same
+    rw (p.1, p.2) (refill_refused s _ w v _ c.in_err-load.field-0.0 k base unlent c.requires.calm c.requires.unread (e.reads.around h.told).same
     (emptied_still v _ (ap (λ (z : Window). z.filled) is) (ap (λ (z : Window). z.cursor) is) unlent e.window e.emptied) (e.refused h.told inside))

@@ -1,4 +1,5 @@
-use Rattle.std.proofs.Common.{◌≡◌, ◌≤◌, ◌∙◌, ℕ, true, false, ap, arith, subst, sym}
+use Rattle.std.proofs.lemmas.Grind.{common_steps}
+use Rattle.std.proofs.Common.{◌≡◌, ◌≤◌, ◌∙◌, ℕ, true, false, ap, arith, subst, sym, rules}
 use Rattle.std.proofs.lemmas.Result.{err_from_is_err_and}
 use Rattle.cfb_format.specs.Refused.{CountsError}
 use Rattle.cfb_stream_buffer.proofs.Breaks.{never_full}
@@ -46,17 +47,23 @@ returns-in_err-settle-clause-foreseen g c = λ (h : IsReady g.C.ReadContents c.a
     let p = err_from_is_err_and c.from_residual.result c.from_residual.ensures.1 in
     rw (p.1, p.2) (never_full _ _ (c.in_err-settle.ensures.inside (record { told = e.told h.told; agrees = cut.agrees }) (omega (arith, inside, e.len))))
 
-pub returns-in_err-settle-clause-around : goal.returns-in_err-settle-clause-around
-returns-in_err-settle-clause-around g c = λ told.
-    let e = c.in_default.ensures in
-    let q = c.in_err-settle.ensures in
-    let out = q.around (e.told told) in
-    let inside = cut_inside c.args.self.now c.cut.new.self c.args.len c.cut.ensures.kept c.cut.ensures.past c.cut.ensures.calm in
-    let p = err_from_is_err_and c.from_residual.result c.from_residual.ensures.1 in
-    rw (p.1, p.2) (record {
-      told = out.told;
-      others = λ first k. out.others first (e.others told first k);
-      tight = q.within (e.told told) (omega (arith, inside, e.len)) _ (e.tight told);
-      counts = subst (λ (m : ℕ). CountsError (faults_of g.C.ReadContents g.C.Contents) m (g.C.ReadContents.failures c.settle.new.content) c.in_err-settle.field-0.0) (e.counts told) out.counts;
-      stays = λ calm. absurd (let w : true ≡ false = sym q.lost ∙ calm in cc);
-    })
+pub returns-in_err-settle-clause-writes : goal.returns-in_err-settle-clause-writes
+returns-in_err-settle-clause-writes g c = record {
+  there = first_of (search rules, grind (arith, common_steps));
+  flags = first_of (search rules, grind (arith, common_steps));
+  around = (
+      λ told.
+      let e = c.in_default.ensures in
+      let q = c.in_err-settle.ensures in
+      let out = q.writes.around (e.told told) in
+      let inside = cut_inside c.args.self.now c.cut.new.self c.args.len c.cut.ensures.kept c.cut.ensures.past c.cut.ensures.calm in
+      let p = err_from_is_err_and c.from_residual.result c.from_residual.ensures.1 in
+      rw (p.1, p.2) (record {
+        told = out.told;
+        others = λ first k. out.others first (e.others told first k);
+        tight = q.within (e.told told) (omega (arith, inside, e.len)) _ (e.tight told);
+        counts = subst (λ (m : ℕ). CountsError (faults_of g.C.ReadContents g.C.Contents) m (g.C.ReadContents.failures c.settle.new.content) c.in_err-settle.field-0.0) (e.counts told) out.counts;
+        stays = λ calm. absurd (let w : true ≡ false = sym q.lost ∙ calm in cc);
+      })
+  );
+}

@@ -26,7 +26,7 @@ returns-in_err-go-clause-refused g c = λ (h : IsOpen g.C.ReadContents c.args.co
     let r : IsReady g.C.ReadContents c.args.content.now c.args.id c.args.self.now = record { told = h.told; agrees = h.suits f } in
     let e = c.in_err-go.ensures in
     let p = err_from_is_err_and c.from_residual.result c.from_residual.ensures.1 in
-    rw (p.1, p.2) (lost_for _ _ _ _ _ _ _ _ _ (lost_moving _ _ _ _ _ _ _ _ (seek (whence_of c.args.to)) _ refl f (leads_within (g.C.ReadContents.stored c.args.content.now c.args.id) c.args.self.now c.args.to _ c.in-Some.ensures.value) (e.around h.told).counts (e.refused r)) _ (e.refused r))
+    rw (p.1, p.2) (lost_for _ _ _ _ _ _ _ _ _ (lost_moving _ _ _ _ _ _ _ _ (seek (whence_of c.args.to)) _ refl f (leads_within (g.C.ReadContents.stored c.args.content.now c.args.id) c.args.self.now c.args.to _ c.in-Some.ensures.value) (e.writes.around h.told).counts (e.refused r)) _ (e.refused r))
 
 pub returns-clause-runs : goal.returns-clause-runs
 returns-clause-runs g c = λ (h : IsOpen g.C.ReadContents c.args.content.now c.args.id c.args.self.now).

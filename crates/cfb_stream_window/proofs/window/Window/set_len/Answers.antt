@@ -59,7 +59,7 @@ returns-in_err-resize-clause-refused g c = λ (h : IsOpen g.C.ReadContents c.arg
     let why = e.refused r sound fits in
     let p = err_from_is_err_and c.from_residual-in_err-resize.result c.from_residual-in_err-resize.ensures.1 in
     rw (p.1, p.2) (broke_for _ _ _ _ _ _ _ _ _
-    (length_broken _ _ _ _ _ _ _ _ (set_len c.args.len) _ (len_work (g.C.ReadContents.stored c.args.content.now c.args.id) c.args.self.now c.args.len other) f (fits, sound) (e.around h.told).counts why) _ _ IsMemoryOrFull why)
+    (length_broken _ _ _ _ _ _ _ _ (set_len c.args.len) _ (len_work (g.C.ReadContents.stored c.args.content.now c.args.id) c.args.self.now c.args.len other) f (fits, sound) (e.writes.around h.told).counts why) _ _ IsMemoryOrFull why)
 
 pub returns-then-is_lengthened-clause-runs : goal.returns-then-is_lengthened-clause-runs
 returns-then-is_lengthened-clause-runs g c = λ (h : IsOpen g.C.ReadContents c.args.content.now c.args.id c.args.self.now).

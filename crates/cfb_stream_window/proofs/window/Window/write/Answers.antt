@@ -1,4 +1,5 @@
-use Rattle.std.proofs.Common.{◌≡◌, ◌<◌, ◌≤◌, ◌+◌, ◌∙◌, ℕ, length, take, arith, sym, refl, inl, length-take}
+use Rattle.std.proofs.lemmas.Grind.{common_steps}
+use Rattle.std.proofs.Common.{◌≡◌, ◌<◌, ◌≤◌, ◌+◌, ◌∙◌, ℕ, length, take, arith, sym, refl, inl, length-take, rules}
 use Rattle.std.proofs.lemmas.List.{take-take}
 use Rattle.std.proofs.lemmas.Result.{err_from_is_err_and}
 use Rattle.cfb_format.specs.Refused.{IsMemory}
@@ -74,7 +75,7 @@ returns-in_err-have_room-clause-refused g c = λ (h : IsOpen g.C.ReadContents c.
     let e = c.in_err-have_room.ensures in
     let why = e.refused r in
     let p = err_from_is_err_and c.from_residual-in_err-have_room.result c.from_residual-in_err-have_room.ensures.1 in
-    rw (p.1, p.2) (broke_for _ _ _ _ _ _ _ _ _ (written_broken _ _ _ _ _ _ _ _ c.args.bytes.now _ some f (before, sound) (e.around h.told).counts why) _ _ IsMemory why)
+    rw (p.1, p.2) (broke_for _ _ _ _ _ _ _ _ _ (written_broken _ _ _ _ _ _ _ _ c.args.bytes.now _ some f (before, sound) (e.writes.around h.told).counts why) _ _ IsMemory why)
 
 pub returns-clause-runs : goal.returns-clause-runs
 returns-clause-runs g c = λ (h : IsOpen g.C.ReadContents c.args.content.now c.args.id c.args.self.now).
@@ -91,20 +92,27 @@ returns-clause-runs g c = λ (h : IsOpen g.C.ReadContents c.args.content.now c.a
     (omega (arith, length-take {A = ℕ} n (take most bytes), length-take {A = ℕ} most bytes)) (take-take n most bytes within) c.keep.ensures.inside
     (omega (arith, k.place)) c.keep.ensures.window (omega (arith, length-take {A = ℕ} most bytes, some, had.room)) (omega (arith))
 
-pub returns-clause-goes_on : goal.returns-clause-goes_on
-returns-clause-goes_on g c = λ (h : IsOpen g.C.ReadContents c.args.content.now c.args.id c.args.self.now).
-    let f = sym c.is_failed.ensures ∙ c.if-is_failed.false in
-    let r : IsReady g.C.ReadContents c.args.content.now c.args.id c.args.self.now = record { told = h.told; agrees = h.suits f } in
-    let had = c.in_ok-have_room.ensures in
-    let k = had.ok r in
-    let n = c.keep.result in
-    let most = c.min-most.result in
-    let bytes = c.args.bytes.now in
-    let within : n ≤ most = omega (arith, length-take {A = ℕ} most bytes) in
-    let a = kept_agrees any_cause _ _ _ _ _ bytes (take n (take most bytes)) n f k (sym c.is_sound.ensures ∙ c.if-not-is_sound.false)
-    (omega (arith, length-take {A = ℕ} n (take most bytes), length-take {A = ℕ} most bytes)) (take-take n most bytes within) c.keep.ensures.inside
-    (omega (arith, k.place)) c.keep.ensures.window in
-    record { is_open = record { told = (had.around h.told).told; suits = λ _. a }; limit = k.limit; sound = k.sound }
+pub returns-clause-open : goal.returns-clause-open
+returns-clause-open g c = record {
+  there = first_of (search rules, grind (arith, common_steps));
+  flags = first_of (search rules, grind (arith, common_steps));
+  goes_on = (
+      λ (h : IsOpen g.C.ReadContents c.args.content.now c.args.id c.args.self.now).
+      let f = sym c.is_failed.ensures ∙ c.if-is_failed.false in
+      let r : IsReady g.C.ReadContents c.args.content.now c.args.id c.args.self.now = record { told = h.told; agrees = h.suits f } in
+      let had = c.in_ok-have_room.ensures in
+      let k = had.ok r in
+      let n = c.keep.result in
+      let most = c.min-most.result in
+      let bytes = c.args.bytes.now in
+      let within : n ≤ most = omega (arith, length-take {A = ℕ} most bytes) in
+      let a = kept_agrees any_cause _ _ _ _ _ bytes (take n (take most bytes)) n f k (sym c.is_sound.ensures ∙ c.if-not-is_sound.false)
+      (omega (arith, length-take {A = ℕ} n (take most bytes), length-take {A = ℕ} most bytes)) (take-take n most bytes within) c.keep.ensures.inside
+      (omega (arith, k.place)) c.keep.ensures.window in
+      record { is_open = record { told = (had.writes.around h.told).told; suits = λ _. a }; limit = k.limit; sound = k.sound }
+  );
+  bound = first_of (search rules, grind (arith, common_steps));
+}
 
 pub returns-clause-between : goal.returns-clause-between
-returns-clause-between g c = λ told. once_between g.C.ReadContents g.C.Contents g.met.C.Contents.still_is_tight _ _ _ _ _ told (c.in_ok-have_room.ensures.around told)
+returns-clause-between g c = λ told. once_between g.C.ReadContents g.C.Contents g.met.C.Contents.still_is_tight _ _ _ _ _ told (c.in_ok-have_room.ensures.writes.around told)

@@ -20,7 +20,7 @@ returns-clause-ok g c = λ (h : IsReady g.C.ReadContents c.args.content.now c.ar
     let is = c.len-size.ensures.value in
     let e = c.in_ok-resize.ensures in
     let k = subst (λ (n : ℕ). Resized n s w t v) is (e.ok h sound (omega (arith, is, h.agrees.within))) in
-    let r : IsReady g.C.ReadContents c.resize.new.content c.args.id v = record { told = (e.around h.told).told; agrees = k.agrees } in
+    let r : IsReady g.C.ReadContents c.resize.new.content c.args.id v = record { told = (e.writes.around h.told).told; agrees = k.agrees } in
     resized_again c.args.len s t _ w v _ h.agrees sound (omega (arith, c.requires.longer)) c.position-at.ensures.inside k
     (c.in_ok-resize_again.ensures.ok r (k.sound ∙ sound) (omega (arith, k.limit, fits)))
 
@@ -62,7 +62,7 @@ returns-in_err-resize_again-clause-refused g c = λ (h : IsReady g.C.ReadContent
     let is = c.len-size.ensures.value in
     let e = c.in_ok-resize.ensures in
     let k = subst (λ (n : ℕ). Resized n s w t v) is (e.ok h sound (omega (arith, is, h.agrees.within))) in
-    let r : IsReady g.C.ReadContents c.resize.new.content c.args.id v = record { told = (e.around h.told).told; agrees = k.agrees } in
+    let r : IsReady g.C.ReadContents c.resize.new.content c.args.id v = record { told = (e.writes.around h.told).told; agrees = k.agrees } in
     let why = c.in_err-resize_again.ensures.refused r (k.sound ∙ sound) (omega (arith, k.limit, fits)) in
     let p = err_from_is_err_and c.from_residual-in_err-resize_again.result c.from_residual-in_err-resize_again.ensures.1 in
     rw (p.1, p.2) (lost_after _ w.size s t _ w v _ c.in_err-resize_again.field-0.0 k why.0 why.1)
@@ -73,7 +73,7 @@ returns-in_err-resize_again-clause-foreseen g c = λ h sound fits.
     rw (p.1, p.2) (λ full. inr c.in_err-resize_again.ensures.lost)
 
 pub returns-in_err-resize-clause-between : goal.returns-in_err-resize-clause-between
-returns-in_err-resize-clause-between g c = λ told. once_between g.C.ReadContents g.C.Contents g.met.C.Contents.still_is_tight _ _ _ _ _ told (c.in_err-resize.ensures.around told)
+returns-in_err-resize-clause-between g c = λ told. once_between g.C.ReadContents g.C.Contents g.met.C.Contents.still_is_tight _ _ _ _ _ told (c.in_err-resize.ensures.writes.around told)
 
 pub returns-clause-between : goal.returns-clause-between
 returns-clause-between g c = λ told.
@@ -82,19 +82,19 @@ returns-clause-between g c = λ told.
     let w = c.args.self.now in
     let is = c.len-size.ensures.value in
     let e = c.in_ok-resize.ensures in
-    let then' = c.in_ok-resize_again.ensures.around (e.around told).told in (
+    let then' = c.in_ok-resize_again.ensures.writes.around (e.writes.around told).told in (
       c.resize.new.content,
       record {
-        told = (e.around told).told;
+        told = (e.writes.around told).told;
         calm = λ calm. absurd (let x : true ≡ false = sym c.requires.pending ∙ calm in cc);
         settles = λ (a : LiesOver s w). inr (
           c.requires.pending,
           resized_settled s t w c.resize.new.self a (a.trusted c.requires.pending)
               (subst (λ (n : ℕ). Resized n s w t c.resize.new.self) is (e.ok (record { told = told; agrees = a }) (a.trusted c.requires.pending) (omega (arith, is, a.within)))),
         );
-        before = (e.around told).others;
+        before = (e.writes.around told).others;
         after = then'.others;
-        first = (e.around told).tight;
+        first = (e.writes.around told).tight;
         second = then'.tight;
       },
     )
@@ -106,19 +106,19 @@ returns-in_err-resize_again-clause-between g c = λ told.
     let w = c.args.self.now in
     let is = c.len-size.ensures.value in
     let e = c.in_ok-resize.ensures in
-    let then' = c.in_err-resize_again.ensures.around (e.around told).told in (
+    let then' = c.in_err-resize_again.ensures.writes.around (e.writes.around told).told in (
       c.resize.new.content,
       record {
-        told = (e.around told).told;
+        told = (e.writes.around told).told;
         calm = λ calm. absurd (let x : true ≡ false = sym c.requires.pending ∙ calm in cc);
         settles = λ (a : LiesOver s w). inr (
           c.requires.pending,
           resized_settled s t w c.resize.new.self a (a.trusted c.requires.pending)
               (subst (λ (n : ℕ). Resized n s w t c.resize.new.self) is (e.ok (record { told = told; agrees = a }) (a.trusted c.requires.pending) (omega (arith, is, a.within)))),
         );
-        before = (e.around told).others;
+        before = (e.writes.around told).others;
         after = then'.others;
-        first = (e.around told).tight;
+        first = (e.writes.around told).tight;
         second = then'.tight;
       },
     )
@@ -131,8 +131,8 @@ returns-clause-writes_out g c = λ (h : IsReady g.C.ReadContents c.args.content.
     let is = c.len-size.ensures.value in
     let sound = h.agrees.trusted c.requires.pending in
     let e = c.in_ok-resize.ensures in
-    let out = e.around h.told in
-    let then' = c.in_ok-resize_again.ensures.around out.told in
+    let out = e.writes.around h.told in
+    let then' = c.in_ok-resize_again.ensures.writes.around out.told in
     let settles = resized_settled s t w c.resize.new.self h.agrees sound (subst (λ (n : ℕ). Resized n s w t c.resize.new.self) is (e.ok h sound (omega (arith, is, h.agrees.within)))) in
     record {
       mid = c.resize.new.content;

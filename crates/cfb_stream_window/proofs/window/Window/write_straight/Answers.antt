@@ -22,7 +22,7 @@ returns-in-Ok-clause-ok g c = λ (h : IsReady g.C.ReadContents c.args.content.no
     let e = c.in-Ok.ensures in
     let takes : TakesBytes t c.self-2.inside.base (length c.args.bytes.now) =
     record { unfailed = k.agrees.unfailed; sound = k.sound ∙ sound; inside = omega (arith, at, k.agrees.begins); fits = omega (arith, at, base, k.limit) } in
-    let put = e.ok (left.around h.told).told takes some in
+    let put = e.ok (left.writes.around h.told).told takes some in
     let len : length (take n c.args.bytes.now) ≡ n = omega (arith, length-take n c.args.bytes.now, e.bound) in (
       put.some,
       straight_to _ _ _ _ (take n c.args.bytes.now) k sound (ap (λ (z : Window). z.filled) left.window) (ap (λ (z : Window). z.cursor) left.window) (ap (λ (z : Window). z.pending) left.window)
@@ -32,14 +32,14 @@ returns-in-Ok-clause-ok g c = λ (h : IsReady g.C.ReadContents c.args.content.no
     )
 
 pub returns-in_err-leave-clause-between : goal.returns-in_err-leave-clause-between
-returns-in_err-leave-clause-between g c = λ told. once_between g.C.ReadContents g.C.Contents g.met.C.Contents.still_is_tight _ _ _ _ _ told (c.in_err-leave.ensures.around told)
+returns-in_err-leave-clause-between g c = λ told. once_between g.C.ReadContents g.C.Contents g.met.C.Contents.still_is_tight _ _ _ _ _ told (c.in_err-leave.ensures.writes.around told)
 
 pub returns-in-Ok-clause-between : goal.returns-in-Ok-clause-between
 returns-in-Ok-clause-between g c = λ told.
     let s = g.C.ReadContents.stored c.args.content.now c.args.id in
     let t = g.C.ReadContents.stored c.leave.new.content c.args.id in
     let left = c.in_ok-leave.ensures in
-    let out = left.around told in
+    let out = left.writes.around told in
     let e = c.in-Ok.ensures in (
       c.leave.new.content,
       record {
@@ -58,7 +58,7 @@ returns-in-Err-clause-between g c = λ told.
     let s = g.C.ReadContents.stored c.args.content.now c.args.id in
     let t = g.C.ReadContents.stored c.leave.new.content c.args.id in
     let left = c.in_ok-leave.ensures in
-    let out = left.around told in
+    let out = left.writes.around told in
     let e = c.in-Err.ensures in
     let up = c.give_up.ensures in (
       c.leave.new.content,
@@ -80,7 +80,7 @@ returns-in-Err-clause-foreseen g c = λ (h : IsReady g.C.ReadContents c.args.con
     let t = g.C.ReadContents.stored c.leave.new.content c.args.id in
     let w = c.args.self.now in
     let left = c.in_ok-leave.ensures in
-    let out = left.around h.told in
+    let out = left.writes.around h.told in
     let k = left.ok h in
     let e = c.in-Err.ensures in
     let up = c.give_up.ensures in
