@@ -4,3 +4,4 @@ pub mod Fields
 pub mod Words
 pub mod Commands
 pub mod Wrong
+pub mod Writing

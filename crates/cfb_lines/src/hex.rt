@@ -1,10 +1,8 @@
 //! Bytes in digits to the base 16.
-ghost use Rattle.std.specs.Prelude.{◌≡◌, ◌≢◌, ◌<◌, ◌≤◌, ◌++◌, ℕ, List, length, drop, MatchOption, IfOk, IfErr};
+ghost use Rattle.std.specs.Prelude.{◌≡◌, ◌≢◌, ◌<◌, ◌≤◌, ◌++◌, ℕ, List, length, drop, MatchOption, IfOk};
 ghost use Rattle.cfb_lines.specs.Fields.{IsHex, hex_digit, hex_pair};
-ghost use Rattle.cfb_lines.specs.Wrong.{WrongIf};
 
-use crate::error::LinesError;
-use std::alloc::Allocator;
+use std::alloc::{AllocError, Allocator};
 
 /// The value of a digit, in lower case.
 fn digit_value(byte: u8) -> Option<u8>
@@ -33,23 +31,24 @@ fn first_byte(digits: &[u8]) -> Option<u8>
     Some(high * 16 + low)
 }
 
-/// The bytes of a text of two digits each, in lower case.
-pub(crate) fn bytes_in<A: Allocator>(alloc: A, text: &str) -> Result<Vec<u8, A>, LinesError>
-    ensures ok { IfOk result (λ v. IsHex text.now v.items) }
-    ensures wrong { IfErr result (WrongIf ((bytes : List ℕ) → IsHex text.now bytes → ⊥)) }
+/// The bytes of a text of two digits each, in lower case. None where it is no such text. Memory may
+/// be refused.
+pub(crate) fn bytes_in<A: Allocator>(alloc: A, text: &str) -> Result<Option<Vec<u8, A>>, AllocError>
+    ensures { IfOk result (λ read. MatchOption read ((bytes : List ℕ) → IsHex text.now bytes → ⊥)
+        (λ v. IsHex text.now v.items)) }
 {
     let mut rest = text.as_bytes();
     let mut bytes = Vec::with_capacity(alloc, rest.len() / 2)?;
     while rest.len() >= 2 {
         let Some(byte) = first_byte(rest) else {
-            return Err(LinesError::WrongWords);
+            return Ok(None);
         };
         bytes.push(byte)?;
         let (_, after) = rest.split_at(2);
         rest = after;
     }
     if rest.len() > 0 {
-        return Err(LinesError::WrongWords);
+        return Ok(None);
     }
-    Ok(bytes)
+    Ok(Some(bytes))
 }

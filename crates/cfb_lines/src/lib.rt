@@ -4,8 +4,10 @@
 mod error;
 mod fields;
 mod hex;
+pub mod laws;
 pub mod lines;
 mod numbers;
-mod word;
+pub mod word;
+pub mod writing;
 
-pub use error::LinesError;
+pub use error::{LineError, LinesError, WrongLine};

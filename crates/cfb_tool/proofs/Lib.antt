@@ -6,6 +6,7 @@ pub mod Listed
 pub mod Telling
 pub mod Turns
 pub mod Runs
+pub mod Explained
 pub mod Pieces
 pub mod Stored
 pub mod WholeWrites

@@ -5,8 +5,10 @@ pub use Rattle.cfb_commands.specs.cfb_stream_window
 pub use Rattle.cfb_commands.specs.cfb_agreement
 pub use Rattle.cfb_commands.specs.cfb_path_changes
 pub use Rattle.cfb_commands.specs.cfb_compound_file
+pub mod Word
 pub mod Asking
 pub mod Listing
+pub mod Details
 pub mod Playing
 pub mod Content
 pub mod Laws

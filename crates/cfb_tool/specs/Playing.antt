@@ -175,3 +175,21 @@ pub record ArePlayed (tells : Bool) (can_give : MediumFault → Bool) (old : Fil
   pub lines : now ≡ text ++ told_lines told
   pub done : all_done ≡ is_all_done told
   pub plays : IsTrue tells → ArePlayedAs can_give old asked told new
+
+-- ---- what was refused, by its place
+
+-- the refusals among what is told of commands from this place on, each with its place
+abbrev pub refusals_from : (place : ℕ) → List (Option Refusal) → List (ℕ × Refusal)
+refusals_from place [] = []
+refusals_from place (None ∷ more) = refusals_from (place + 1) more
+refusals_from place (Some refusal ∷ more) = (place, refusal) ∷ refusals_from (place + 1) more
+
+-- an error at a place, by its kind
+abbrev pub placed : ℕ × Error → ℕ × Refusal
+placed (place, e) = (place, refusal_of_error e)
+
+-- these are the refusals that the lines behind a text tell
+pub record AreToldIn (text now : List ℕ) (refusals : List (ℕ × Refusal)) : Type 0 where
+  pub told : List (Option Refusal)
+  pub lines : now ≡ text ++ told_lines told
+  pub each : refusals ≡ refusals_from 0 told

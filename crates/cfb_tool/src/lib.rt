@@ -3,8 +3,12 @@
 
 pub mod asking;
 pub mod content;
+pub mod details;
+pub mod explaining;
 pub mod laws;
 pub mod listing;
 pub mod playing;
 mod replies;
 pub mod soundness;
+pub mod tree;
+pub mod word;

@@ -94,7 +94,7 @@ fn go_on<F: Medium, A: Heap + Clone>(
 
 /// Does one command, and goes on behind its write until all bytes are taken. The first refusal;
 /// `Memory` for what is added, too.
-fn do_command<F: Medium, A: Heap + Clone>(
+pub(crate) fn do_command<F: Medium, A: Heap + Clone>(
     file: &mut CompoundFile<F, A>,
     one: &[Command<A>],
     replies: &mut Vec<Reply<A>, A>,
@@ -117,7 +117,7 @@ fn do_command<F: Medium, A: Heap + Clone>(
 }
 
 /// The command at this place, as a list of one.
-fn one_at<A: Heap>(commands: &[Command<A>], at: usize) -> &[Command<A>]
+pub(crate) fn one_at<A: Heap>(commands: &[Command<A>], at: usize) -> &[Command<A>]
     requires { at < length commands.now }
     ensures { result.now ≡ take 1 (drop at commands.now) }
 {
@@ -155,7 +155,7 @@ pub fn play<F: Medium, A: Heap + Clone>(
 }
 
 /// Appends a line of two letters, for which there is room.
-fn push_line<A: Heap>(lines: &mut Vec<u8, A>, first: u8, second: u8)
+pub(crate) fn push_line<A: Heap>(lines: &mut Vec<u8, A>, first: u8, second: u8)
     requires room { length lines.old.items + 3 ≤ vec_capacity lines.old }
     ensures line { lines.new.items ≡ lines.old.items ++ first ∷ second ∷ 10 ∷ [] }
     ensures capacity { vec_capacity lines.new ≡ vec_capacity lines.old }

@@ -2,16 +2,24 @@
 //! are listed at `tool`.
 #![tactic(auto)]
 
+mod descriptors;
+mod help;
+mod lent;
+mod output;
 mod refusal;
+mod shown;
 #[cfg(test)]
 mod tests;
 mod words;
 
+use descriptors::hold_standard;
+pub use output::Output;
 use std::env;
 use std::process::ExitCode;
 pub use words::tool;
 
 fn main(rt: HostRuntime) -> ExitCode {
+    let _held = hold_standard(&rt);
     let words = match env::args(&rt) {
         Ok(all) => all.skip(1).collect(rt.alloc()),
         Err(_) => Ok(Vec::new(rt.alloc())),

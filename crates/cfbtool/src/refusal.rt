@@ -1,31 +1,86 @@
-//! Why a run was not done.
+//! Why a run was not done, and the line that says so. No line takes memory.
+use crate::output::Output;
+use crate::shown::Shown;
 use cfb::{Error, MediumFault};
-use std::alloc::AllocError;
+use cfb_tool::asking::Asked;
+use cfb_tool::word::Word;
+use std::alloc::{AllocError, AllocFailed};
 use std::io;
-use std::io::{ErrorKind, Write};
+use std::io::ErrorKind;
 use std::process::ExitCode;
 
 /// Why a run was not done.
+#[derive(Clone, Copy)]
 pub(crate) enum Refusal {
     /// The words are wrong, or a line of the input.
     WrongWords,
-    /// Something is where the copy was to be.
+    /// The same, and standard error has been told.
+    ToldWrong,
+    /// Something is where a new file or folder was to be.
     TargetExists,
-    /// Standard output has told it.
+    /// Standard output or standard error has told it.
     Told,
-    /// A call was refused so.
+    /// FILE was refused so when it was opened.
+    Opening(Error),
+    /// A call was refused so, at PATH where one is given.
     Of(Error),
+    /// The system refused a call at FILE.
+    System(io::Error),
+    /// The system refused a call at the other file that was named.
+    OtherSystem(io::Error),
+    /// Another program is changing FILE.
+    Busy,
+    /// What was to be shown on a terminal is no text.
+    NotText,
+    /// Standard input or output failed.
+    Standard,
+}
+
+/// What a run is of, as it was given.
+#[derive(Clone, Copy)]
+pub(crate) struct About<'a> {
+    /// FILE.
+    pub(crate) file: &'a str,
+    /// PATH.
+    pub(crate) path: Option<&'a str>,
+    /// FROM, NEW or DIR.
+    pub(crate) other: Option<&'a str>,
 }
 
 impl Refusal {
-    /// Want of memory is told as such, and all else as a fault of standard input.
-    pub(crate) fn of_input(e: &io::Error) -> Refusal {
-        Refusal::Of(error_of(e, MediumFault::Read))
+    /// Want of memory is told as such, and all else as a fault of standard input or output.
+    pub(crate) fn of_standard(e: &io::Error) -> Refusal {
+        if e.kind() == ErrorKind::OutOfMemory {
+            Refusal::Of(Error::Memory)
+        } else {
+            Refusal::Standard
+        }
     }
 
-    /// Want of memory is told as such, and all else as a fault of standard output.
-    pub(crate) fn of_output(e: &io::Error) -> Refusal {
-        Refusal::Of(error_of(e, MediumFault::Write))
+    /// The system refused a call at FILE.
+    pub(crate) fn of_system(e: io::Error) -> Refusal {
+        match e.kind() {
+            ErrorKind::OutOfMemory => Refusal::Of(Error::Memory),
+            _ => Refusal::System(e),
+        }
+    }
+
+    /// The system refused a call at the other file that was named.
+    pub(crate) fn of_other_system(e: io::Error) -> Refusal {
+        match e.kind() {
+            ErrorKind::OutOfMemory => Refusal::Of(Error::Memory),
+            _ => Refusal::OtherSystem(e),
+        }
+    }
+
+    /// A fault of the medium, with the reason that it gives.
+    pub(crate) fn because(self, reason: Option<io::Error>) -> Refusal {
+        match (self, reason) {
+            (Refusal::Of(Error::Medium(_)) | Refusal::Opening(Error::Medium(_)), Some(e)) => {
+                Refusal::of_system(e)
+            }
+            _ => self,
+        }
     }
 }
 
@@ -41,29 +96,122 @@ impl From<AllocError> for Refusal {
     }
 }
 
-fn error_of(e: &io::Error, fault: MediumFault) -> Error {
-    if e.kind() == ErrorKind::OutOfMemory {
-        Error::Memory
-    } else {
-        Error::Medium(fault)
+impl<T: Drop> From<AllocFailed<T>> for Refusal {
+    fn from(_e: AllocFailed<T>) -> Refusal {
+        Refusal::Of(Error::Memory)
     }
 }
 
-/// Writes the line on a refusal, if there is one to be written, and answers the status. Where the
-/// line can't be written the status alone tells it.
-pub(crate) fn tell<E: Write>(refusal: Refusal, faults: &mut E) -> ExitCode {
-    match refusal {
-        Refusal::WrongWords => {
-            let _ = writeln!(faults, "cfbtool: wrong words");
-            return ExitCode::from(2);
-        }
-        Refusal::TargetExists => {
-            let _ = writeln!(faults, "cfbtool: target exists");
-        }
-        Refusal::Told => (),
-        Refusal::Of(e) => {
-            let _ = writeln!(faults, "cfbtool: {e}");
+impl<'a> About<'a> {
+    fn new(file: &'a str) -> About<'a> {
+        About {
+            file,
+            path: None,
+            other: None,
         }
     }
-    ExitCode::from(1)
+
+    fn at(self, path: &'a str) -> About<'a> {
+        About {
+            path: Some(path),
+            ..self
+        }
+    }
+
+    fn and(self, other: &'a str) -> About<'a> {
+        About {
+            other: Some(other),
+            ..self
+        }
+    }
+
+    /// What a run is of that is asked for this.
+    pub(crate) fn of(asked: Asked<'a>) -> About<'a> {
+        match asked {
+            Asked::Create(_, file)
+            | Asked::ListAll(file)
+            | Asked::DetailsAll(file)
+            | Asked::TreeAll(file)
+            | Asked::Check(file)
+            | Asked::CheckStrict(file)
+            | Asked::Run(file)
+            | Asked::RunExplained(file) => About::new(file),
+            Asked::ListAt(file, path)
+            | Asked::DetailsAt(file, path)
+            | Asked::TreeAt(file, path)
+            | Asked::Cat(file, path)
+            | Asked::Put(file, path)
+            | Asked::OneChange(_, file, path)
+            | Asked::OneChangeBy(_, file, path, _) => About::new(file).at(path),
+            Asked::PutFrom(file, path, other) => About::new(file).at(path).and(other),
+            Asked::Compact(file, other) => About::new(file).and(other),
+            _ => About::new(""),
+        }
+    }
+}
+
+/// Writes the line on wrong words, and what helps on a terminal, and answers the status.
+pub(crate) fn tell_wrong<E: Output>(word: Option<Word>, faults: &mut E) -> ExitCode {
+    let _ = writeln!(faults, "cfbtool: wrong words");
+    if faults.is_terminal() {
+        match word {
+            Some(word) => {
+                let word = word.text();
+                let _ = writeln!(faults, "cfbtool: try 'cfbtool help {word}'");
+            }
+            None => {
+                let _ = writeln!(faults, "cfbtool: try 'cfbtool help'");
+            }
+        }
+    }
+    ExitCode::from(2)
+}
+
+/// Writes the line on a refusal, if there is one to be written. Where the line can't be written the
+/// status alone tells it.
+pub(crate) fn tell<E: Output>(refusal: Refusal, about: About<'_>, faults: &mut E) {
+    let file = Shown(about.file);
+    let _ = match refusal {
+        Refusal::WrongWords | Refusal::ToldWrong | Refusal::Told => Ok(()),
+        Refusal::TargetExists => writeln!(faults, "cfbtool: target exists"),
+        Refusal::Opening(e) => tell_error(e, About::new(about.file), faults),
+        Refusal::Of(e) => tell_error(e, about, faults),
+        Refusal::System(e) => writeln!(faults, "cfbtool: medium failed: {file}: {e}"),
+        Refusal::OtherSystem(e) => tell_system(about.other.unwrap_or(""), &e, faults),
+        Refusal::Busy => writeln!(faults, "cfbtool: {file}: another program is changing it"),
+        Refusal::NotText => {
+            let path = Shown(about.path.unwrap_or(""));
+            writeln!(
+                faults,
+                "cfbtool: {file}: {path}: not text; send it to a file or through '| cat'"
+            )
+        }
+        Refusal::Standard => writeln!(faults, "cfbtool: medium failed"),
+    };
+}
+
+/// Writes the line on a file of the system at which the system refused a call.
+pub(crate) fn tell_system<E: Output>(
+    path: &str,
+    reason: &io::Error,
+    faults: &mut E,
+) -> io::Result<()> {
+    let path = Shown(path);
+    writeln!(faults, "cfbtool: medium failed: {path}: {reason}")
+}
+
+/// Writes the line on a call that was refused so.
+fn tell_error<E: Output>(e: Error, about: About<'_>, faults: &mut E) -> io::Result<()> {
+    let file = Shown(about.file);
+    match (e, about.path) {
+        (Error::Memory, _) => writeln!(faults, "cfbtool: {e}"),
+        (Error::Medium(_) | Error::Full | Error::Unsound | Error::Failed, _) => {
+            writeln!(faults, "cfbtool: {e}: {file}")
+        }
+        (_, Some(path)) => {
+            let path = Shown(path);
+            writeln!(faults, "cfbtool: {file}: {path}: {e}")
+        }
+        (_, None) => writeln!(faults, "cfbtool: {file}: {e}"),
+    }
 }

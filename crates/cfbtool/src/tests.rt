@@ -1,29 +1,40 @@
 //! Tests are lists of steps, which one function plays: a further row costs the prover nothing.
 use acts::{
     Seen, damage, has_len, is_link, is_writable, make_old, note, set_mode, stays, stays_at,
-    stays_in_place,
+    stays_in_place, stays_locked,
 };
+use helps::are_helped;
 use library::{Outcome, comes_of};
-use runs::{CONTENT, Run, SOUND_3, SOUND_4, are_told, is_each_broken, is_each_told, say};
+use runs::{
+    CONTENT, Run, SOUND_3, SOUND_4, are_shown, are_told, is_each_broken, is_each_told, say,
+};
 use std::alloc::{AllocError, Global};
 use std::os::unix::fs::symlink;
 use std::test::Fail;
 use std::{env, fs};
 
 mod acts;
+mod changes;
 mod compacts;
 mod files;
+mod helps;
 mod library;
 mod lines;
 mod lists;
 mod opening;
 mod puts;
 mod runs;
+mod shows;
+mod trees;
 
 /// A step of a test. A word or a name that begins with `@` is a file of the test's folder.
 enum Step<'a> {
     /// Runs of the program, each of which answers as its row says.
     Runs(&'a [Run<'a>]),
+    /// The same with a terminal as output.
+    OnScreen(&'a [Run<'a>]),
+    /// Each of these words has a help, in both spellings.
+    Helps(&'a [&'a str]),
     /// Runs of each of these words, with each of these inputs: the status, and what is told.
     Each(&'a [&'a [&'a str]], &'a [&'a [u8]], u8, &'a [u8]),
     /// Runs of each of these words whose input and output fail.
@@ -51,6 +62,8 @@ enum Step<'a> {
     StaysInPlace,
     /// It is as it was noted behind each of these runs.
     StaysAt(&'a [Run<'a>]),
+    /// The same while another handle holds the lock of the file.
+    StaysLocked(&'a [Run<'a>]),
     /// These runs answer so, unless the system lets this user write the file.
     Unwritten(&'a [Run<'a>]),
     /// Its time becomes the start of 1970.
@@ -188,6 +201,7 @@ fn is_file_so(rt: &HostRuntime, world: &mut World, step: &Step<'_>) -> bool {
         Step::Stays => stays(rt, world),
         Step::StaysInPlace => stays_in_place(rt, world),
         Step::StaysAt(runs) => stays_at(rt, world, runs),
+        Step::StaysLocked(runs) => stays_locked(rt, world, runs),
         Step::Unwritten(runs) => is_writable(rt, path) || are_told(rt, world, runs),
         Step::Old => make_old(rt, path).is_ok(),
         Step::Filled => fs::write(rt, path, world.content.as_slice()).is_ok(),
@@ -204,6 +218,8 @@ fn is_file_so(rt: &HostRuntime, world: &mut World, step: &Step<'_>) -> bool {
 fn is_done(rt: &HostRuntime, world: &mut World, step: &Step<'_>) -> bool {
     match step {
         Step::Runs(runs) => are_told(rt, world, runs),
+        Step::OnScreen(runs) => are_shown(rt, world, runs),
+        Step::Helps(calls) => are_helped(rt, world, calls),
         Step::Each(all, inputs, status, told) => {
             is_each_told(rt, world, all, inputs, (*status, told))
         }

@@ -1,7 +1,7 @@
 //! What is done with files of the system, and what is to hold of them.
 use super::World;
 use super::runs::{Run, is_told};
-use std::fs::{OpenOptions, Permissions};
+use std::fs::{File, OpenOptions, Permissions};
 use std::os::unix::fs::{MetadataExt, PermissionsExt};
 use std::time::UNIX_EPOCH;
 use std::{fs, io};
@@ -50,6 +50,15 @@ pub(super) fn stays_at(rt: &HostRuntime, world: &mut World, runs: &[Run<'_>]) ->
         }
     }
     true
+}
+
+/// Whether runs answer so while another handle holds the lock of the file, and leave it as it was
+/// noted.
+pub(super) fn stays_locked(rt: &HostRuntime, world: &mut World, runs: &[Run<'_>]) -> bool {
+    match File::open(rt, world.path.as_str()) {
+        Ok(holder) => holder.try_lock().is_ok() && stays_at(rt, world, runs),
+        Err(_) => false,
+    }
 }
 
 /// Whether a file is there, and has this length.

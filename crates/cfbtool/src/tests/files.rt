@@ -4,13 +4,11 @@ use super::Step::{
     StaysInPlace, Unwritten,
 };
 use super::play;
-use super::runs::{
-    CONTENT, MEDIUM_FAILED, NEW_3, NEW_WITH_CONTENT, Run, SOUND_3, TARGET_EXISTS, WITH_STREAM,
-};
+use super::runs::{CONTENT, NEW_3, NEW_WITH_CONTENT, Run, SOUND_3, TARGET_EXISTS, WITH_STREAM};
 use std::test::Fail;
 
 /// What is no file, is none that may be written, or is a device with no room; and a program that
-/// runs, which is not written.
+/// runs, which is not written. The line goes on with the file and the system's reason.
 #[rattlefmt::skip]
 const NO_FILES: &[&[&str]] = &[
     &["create", "3", "@"], &["create", "4", ""], &["create", "3", "@no/such"],
@@ -20,7 +18,28 @@ const NO_FILES: &[&[&str]] = &[
     &["run", "/proc/self/exe"],
 ];
 
-const TOO_SHORT: &[u8] = b"cfbtool: too short for a compound file: 0 bytes, a header has 512\n";
+const FAULTS: &[u8] = b"cfbtool: medium failed: ";
+
+/// What the system says of some of them.
+#[rattlefmt::skip]
+const REASONS: &[Run<'static>] = &[
+    (&["ls", "@none"], b"", 1, b"", b"cfbtool: medium failed: @none: No such file or directory (os error 2)\n"),
+    (&["ls", "/proc"], b"", 1, b"", b"cfbtool: medium failed: /proc: Is a directory (os error 21)\n"),
+    (&["put", "/proc", "/a"], b"", 1, b"", b"cfbtool: medium failed: /proc: Is a directory (os error 21)\n"),
+    (&["create", "3", "@no/such"], b"", 1, b"", b"cfbtool: medium failed: @no/such: No such file or directory (os error 2)\n"),
+    (&["create", "3", "/dev/full"], b"", 1, b"", b"cfbtool: medium failed: /dev/full: No space left on device (os error 28)\n"),
+    (&["create", "3", "/proc/a\tb\u{202e}c"], b"", 1, b"", b"cfbtool: medium failed: /proc/a\\u0009b\\u202ec: "),
+    (&["compact", "@none", "@new"], b"", 1, b"", b"cfbtool: medium failed: @none: No such file or directory (os error 2)\n"),
+    (&["create", "3", "@g"], b"", 0, b"", b""),
+    (&["put", "@g", "/a", "@none"], b"abc", 1, b"", b"cfbtool: medium failed: @none: No such file or directory (os error 2)\n"),
+    (&["put", "@g", "/a", "/proc"], b"abc", 1, b"", b"cfbtool: medium failed: /proc: Is a directory (os error 21)\n"),
+    (&["ls", "@g"], b"", 0, b"d 0 /\n", b""),
+    (&["compact", "@g", "@no/such"], b"", 1, b"", b"cfbtool: medium failed: @no/such: No such file or directory (os error 2)\n"),
+];
+
+const TOO_SHORT: &[u8] = b"cfbtool: /dev/zero: too short for a compound file: 0 bytes, a header has 512\n";
+
+const EMPTY: &[u8] = b"cfbtool: @f: too short for a compound file: 0 bytes, a header has 512\n";
 
 /// A device with no bytes; and targets that are there, of which `link` leads nowhere.
 #[rattlefmt::skip]
@@ -36,24 +55,26 @@ const ODD_PATHS: &[Run<'static>] = &[
 
 const READ: &[Run<'static>] = &[(&["cat", "@f", "/a"], b"", 0, b"abc", b"")];
 
+const NO_RIGHT: &[u8] = b"cfbtool: medium failed: @f: Permission denied (os error 13)\n";
+
 #[rattlefmt::skip]
 const NOT_WRITTEN: &[Run<'static>] = &[
-    (&["put", "@f", "/a"], b"de", 1, b"", MEDIUM_FAILED),
-    (&["run", "@f"], b"rm\t/a", 1, b"", MEDIUM_FAILED),
-    (&["create", "3", "@f"], b"", 1, b"", MEDIUM_FAILED),
+    (&["put", "@f", "/a"], b"de", 1, b"", NO_RIGHT),
+    (&["run", "@f"], b"rm\t/a", 1, b"", NO_RIGHT),
+    (&["create", "3", "@f"], b"", 1, b"", NO_RIGHT),
 ];
 
 const PUT_BY_LINK: &[Run<'static>] = &[(&["put", "@link", "/b"], CONTENT, 0, b"", b"")];
 
-const UNSOUND: &[u8] = b"cfbtool: file is not sound\n";
+const UNSOUND: &[u8] = b"cfbtool: file is not sound: @f\n";
 
-const UNREADABLE: &[u8] = b"cfbtool: not all of the stream can be read\n";
+const UNREADABLE: &[u8] = b"cfbtool: @f: /a: not all of the stream can be read\n";
 
 #[rattlefmt::skip]
 const NO_BYTES: &[Run<'static>] = &[
-    (&["check", "@f"], b"", 1, b"", TOO_SHORT),
-    (&["put", "@f", "/a"], b"abc", 1, b"", TOO_SHORT),
-    (&["run", "@f"], b"mkdir\t/s\t0", 1, b"", TOO_SHORT),
+    (&["check", "@f"], b"", 1, b"", EMPTY),
+    (&["put", "@f", "/a"], b"abc", 1, b"", EMPTY),
+    (&["run", "@f"], b"mkdir\t/s\t0", 1, b"", EMPTY),
 ];
 
 /// Cut before the stream's end.
@@ -87,12 +108,12 @@ const CUT_BEHIND: &[Run<'static>] = &[
 #[rattlefmt::skip]
 const HARMLESS: &[Run<'static>] = &[
     (&["check", "@f"], b"", 0, SOUND_3, b""),
-    (&["check", "@f", "strict"], b"", 1, b"", b"cfbtool: "),
+    (&["check", "@f", "strict"], b"", 1, b"", b"cfbtool: @f: "),
 ];
 
 #[rattlefmt::skip]
 static PATHS: &[Step<'static>] = &[
-    Each(NO_FILES, &[b""], 1, MEDIUM_FAILED), At("@link"), Link("nowhere"), Runs(ODD_PATHS),
+    Each(NO_FILES, &[b""], 1, FAULTS), Runs(REASONS), At("@link"), Link("nowhere"), Runs(ODD_PATHS),
     At("@none"), Absent, At("@new"), Absent,
 ];
 

@@ -9,7 +9,7 @@ use std::process::Abort;
 type Row = (&'static [u8], Option<usize>);
 
 #[rattlefmt::skip]
-const TEXTS: [Row; 40] = [
+const TEXTS: [Row; 52] = [
     (b"", Some(0)), (b"\n", None), (b"rm\t/t", Some(1)), (b"rm\t/t\n", Some(1)), (b"rm\t/t\n\n", None),
     (b"mkdir\t/s\t0\nput\t/s/x\t616263\nrm\t/t\n", Some(3)),
     (b"rm", None), (b"rm\t", Some(1)), (b"rm\t/t\t", None), (b"rm /t", None), (b"Rm\t/t", None), (b" rm\t/t", None),
@@ -22,13 +22,18 @@ const TEXTS: [Row; 40] = [
     (b"len\t/s\t18446744073709551615", Some(1)), (b"len\t/s\t18446744073709551616", None), (b"len\t/s\t+1", None),
     (b"put\t/a\t", Some(1)), (b"put\t/a", None), (b"put\t/a\t6", None), (b"put\t/a\t6A", None),
     (b"add\t/\xc3\xa4\t00ff", Some(1)), (b"add\t/\xc3\t00ff", None),
+    (b"created\t/s\t18446744073709551615", Some(1)), (b"created\t/s\t18446744073709551616", None), (b"modified\t/s\t-1", None),
+    (b"clsid\t/s\t00020906-0000-0000-C000-000000000046", Some(1)), (b"clsid\t/s\t0002090600000000c000000000000046", Some(1)),
+    (b"clsid\t/s\t00020906-0000-0000-c000-00000000004", None), (b"clsid\t/s", None),
+    (b"# cfbtool dump, version 3\nrm\t/t\n", Some(1)), (b"# cfbtool dump", Some(0)), (b"# cfbtool\nrm\t/t\n", None),
+    (b"rm\t/t\n# cfbtool dump\n", None), (b"# cfbtool dump\n\n", None),
 ];
 
 /// Whether a text is so many commands, or none.
 fn are_commands(alloc: Global, (text, wanted): &Row) -> bool {
     match commands_in(alloc, text) {
         Ok(commands) => *wanted == Some(commands.len()),
-        Err(LinesError::WrongWords) => wanted.is_none(),
+        Err(LinesError::WrongWords(..)) => wanted.is_none(),
         Err(LinesError::Memory) => false,
     }
 }

@@ -24,14 +24,14 @@ const OTHER_BYTES: &[Run<'static>] = &[
 /// What the rules refuse. The last name has 32 letters.
 #[rattlefmt::skip]
 const REFUSED: &[Run<'static>] = &[
-    (&["put", "@f", "/"], b"61", 1, b"", b"cfbtool: the root is there\n"),
-    (&["put", "@f", "/../b"], b"61", 1, b"", b"cfbtool: the path leaves the root\n"),
-    (&["put", "@f", "/s/x"], b"61", 1, b"", b"cfbtool: no parent storage\n"),
-    (&["put", "@f", "/a/x"], b"61", 1, b"", b"cfbtool: the parent is a stream\n"),
-    (&["put", "@f", "/a:b"], b"61", 1, b"", b"cfbtool: a name has none of the characters / \\ : !\n"),
-    (&["put", "@f", "/abcdefghijklmnopqrstuvwxyzabcdef"], b"61", 1, b"", b"cfbtool: a name has at most 31 UTF-16 units\n"),
-    (&["cat", "@f", "/b"], b"", 1, b"", b"cfbtool: nothing is at this path\n"),
-    (&["ls", "@f", "/b"], b"", 1, b"", b"cfbtool: nothing is at this path\n"),
+    (&["put", "@f", "/"], b"61", 1, b"", b"cfbtool: @f: /: the root is there\n"),
+    (&["put", "@f", "/../b"], b"61", 1, b"", b"cfbtool: @f: /../b: the path leaves the root\n"),
+    (&["put", "@f", "/s/x"], b"61", 1, b"", b"cfbtool: @f: /s/x: no parent storage\n"),
+    (&["put", "@f", "/a/x"], b"61", 1, b"", b"cfbtool: @f: /a/x: the parent is a stream\n"),
+    (&["put", "@f", "/a:b"], b"61", 1, b"", b"cfbtool: @f: /a:b: a name has none of the characters / \\ : !\n"),
+    (&["put", "@f", "/abcdefghijklmnopqrstuvwxyzabcdef"], b"61", 1, b"", b"cfbtool: @f: /abcdefghijklmnopqrstuvwxyzabcdef: a name has at most 31 UTF-16 units\n"),
+    (&["cat", "@f", "/b"], b"", 1, b"", b"cfbtool: @f: /b: nothing is at this path\n"),
+    (&["ls", "@f", "/b"], b"", 1, b"", b"cfbtool: @f: /b: nothing is at this path\n"),
     (&["compact", "@f", "@f"], b"", 1, b"", TARGET_EXISTS),
     (&["run", "@f"], b"rm\t/b\nmkdir\t/a\t0\nrmdir\t/\nlen\t/b\t1\nadd\t/b\t61", 1, b"E1\nE2\nE3\nE1\nE1\n", b""),
     (&["run", "@f"], b"len\t/a\t4096\nlen\t/a\t4294967296\nadd\t/a\t", 1, b"ok\nE3\nok\n", b""),

@@ -1,13 +1,14 @@
 //! Runs of the program.
 use super::World;
-use crate::tool;
+use crate::{Output, tool};
 use std::alloc::{AllocError, Global};
 use std::io;
 use std::io::{ErrorKind, Read, Write};
 use std::process::ExitCode;
 
 /// Words, standard input, status, standard output and standard error. A word that begins with `@`
-/// is a file of the folder. What is to be told without the end of a line is the beginning of it.
+/// is a file of the folder, also on standard error. What is to be told without the end of a line is
+/// the beginning of it.
 pub(super) type Run<'a> = (&'a [&'a str], &'a [u8], u8, &'a [u8], &'a [u8]);
 
 /// Stands for the content, as input and as what is printed.
@@ -70,13 +71,13 @@ fn words_of(alloc: Global, folder: &str, words: &[&str]) -> Result<Vec<String>, 
 }
 
 /// One run of these words: the status.
-fn status_of<R: Read, W: Write>(
+fn status_of<R: Read, W: Output, E: Output>(
     rt: &HostRuntime,
     folder: &str,
     words: &[&str],
     input: &mut R,
     out: &mut W,
-    faults: &mut Vec<u8>,
+    faults: &mut E,
 ) -> Result<ExitCode, AllocError> {
     let given = words_of(rt.alloc(), folder, words)?;
     Ok(tool(rt, given.as_slice(), input, out, faults))
@@ -87,8 +88,27 @@ fn bytes_of<'a>(row: &'a [u8], content: &'a [u8]) -> &'a [u8] {
     if row == CONTENT { content } else { row }
 }
 
-fn is_line(told: &[u8], wanted: &[u8]) -> bool {
-    told == wanted || !wanted.is_empty() && !wanted.ends_with(b"\n") && told.starts_with(wanted)
+/// Whether the folder's path and a slash stand in front of what is told.
+fn rest_behind<'a>(told: &'a [u8], folder: &str) -> Option<&'a [u8]> {
+    told.strip_prefix(folder.as_bytes())?.strip_prefix(b"/")
+}
+
+/// Whether this is told, with the folder in front of each name that begins with `@`.
+fn is_line(told: &[u8], wanted: &[u8], folder: &str) -> bool {
+    let mut rest = told;
+    for byte in wanted {
+        if *byte == b'@' {
+            match rest_behind(rest, folder) {
+                Some(behind) => rest = behind,
+                None => return false,
+            }
+        }
+        match rest {
+            [first, behind @ ..] if first == byte => rest = behind,
+            _ => return false,
+        }
+    }
+    rest.is_empty() || !wanted.is_empty() && !wanted.ends_with(b"\n")
 }
 
 /// Whether a run answers as its row says.
@@ -109,7 +129,58 @@ pub(super) fn is_told(rt: &HostRuntime, world: &mut World, run: &Run<'_>) -> boo
     );
     answered == Ok(ExitCode::from(status))
         && world.out.as_slice() == bytes_of(out, &world.content)
-        && is_line(&world.faults, faults)
+        && is_line(&world.faults, faults, &world.folder)
+}
+
+/// A terminal that keeps what is written to it.
+#[derive(Drop)]
+struct Screen<'a>(&'a mut Vec<u8>);
+
+impl Write for Screen<'_> {
+    fn write(&mut self, buf: &[u8]) -> io::Result<usize> {
+        self.0.write(buf)
+    }
+
+    fn flush(&mut self) -> io::Result<()> {
+        Ok(())
+    }
+}
+
+impl Output for Screen<'_> {
+    fn is_terminal(&self) -> bool {
+        true
+    }
+}
+
+/// Whether a run at a terminal answers as its row says.
+fn is_shown(rt: &HostRuntime, world: &mut World, run: &Run<'_>) -> bool {
+    let (words, input, status, out, faults) = *run;
+    world.runs = world.runs.saturating_add(1);
+    world.out.clear();
+    world.faults.clear();
+    let folder = world.folder.as_str();
+    let mut given = input;
+    let answered = status_of(
+        rt,
+        folder,
+        words,
+        &mut given,
+        &mut Screen(&mut world.out),
+        &mut Screen(&mut world.faults),
+    );
+    answered == Ok(ExitCode::from(status))
+        && world.out.as_slice() == out
+        && is_line(&world.faults, faults, folder)
+}
+
+/// Whether runs at a terminal answer so, one behind the other.
+pub(super) fn are_shown(rt: &HostRuntime, world: &mut World, runs: &[Run<'_>]) -> bool {
+    for run in runs {
+        if !is_shown(rt, world, run) {
+            return false;
+        }
+    }
+    true
 }
 
 /// Whether runs answer so, one behind the other.
@@ -171,6 +242,12 @@ impl Write for Broken {
 
     fn flush(&mut self) -> io::Result<()> {
         Ok(())
+    }
+}
+
+impl Output for Broken {
+    fn is_terminal(&self) -> bool {
+        false
     }
 }
 

@@ -1,0 +1,56 @@
+//! What the program tells of itself.
+use cfb_tool::word::{Change, Word};
+
+mod texts;
+
+/// The words, on one screen.
+pub(crate) const HELP: &str =
+    "cfbtool: looks into and changes compound files (.doc .xls .msg .msi Thumbs.db)
+
+  ls [-l] FILE [PATH]     objects: d or f, length, path; -l: ids, bits, times
+  tree FILE [PATH]        the same as a tree
+  check FILE [strict]     sound (status 0) or not (1)
+  cat FILE PATH           the bytes of a stream
+  create 3|4 FILE         an empty file; EMPTIES one that is there
+  put FILE PATH [FROM]    a stream, from FROM or standard input
+  mkdir mkdirs rmdir rmtree rm touch bits len clsid add FILE PATH ...
+  run [-e] FILE           such lines from standard input; -e: explains refusals
+  compact FILE NEW        a copy without free sectors
+
+PATH is /storage/stream, in any case of letters; \\u0005 is the character U+0005.
+Status: 0 done, 1 refused, 2 wrong words. More: cfbtool help WORD.
+";
+
+/// The version.
+pub(crate) const VERSION: &str = "cfbtool 0.16.0 (kit 13f)\n";
+
+/// What a word that makes one change does.
+fn help_on_change(change: Change) -> &'static str {
+    match change {
+        Change::Mkdir => texts::MKDIR,
+        Change::Mkdirs => texts::MKDIRS,
+        Change::Rmdir => texts::RMDIR,
+        Change::Rmtree => texts::RMTREE,
+        Change::Rm => texts::RM,
+        Change::Touch => texts::TOUCH,
+        Change::Bits => texts::BITS,
+        Change::Len => texts::LEN,
+        Change::Clsid => texts::CLSID,
+        Change::Add => texts::ADD,
+    }
+}
+
+/// What a word does.
+pub(crate) fn help_on(word: Word) -> &'static str {
+    match word {
+        Word::Ls => texts::LS,
+        Word::Tree => texts::TREE,
+        Word::Check => texts::CHECK,
+        Word::Cat => texts::CAT,
+        Word::Create => texts::CREATE,
+        Word::Put => texts::PUT,
+        Word::Changing(change) => help_on_change(change),
+        Word::Run => texts::RUN,
+        Word::Compact => texts::COMPACT,
+    }
+}

@@ -1,0 +1,229 @@
+//! What `help WORD` prints. `docs/PROGRAM.md` repeats each text word for word.
+
+pub(super) const LS: &str = "cfbtool ls [-l] FILE [PATH]
+
+A line for each storage (d) and stream (f): kind, length, path. With PATH it
+starts there. The length of the root is that of the mini stream, which holds
+all streams below 4096 bytes. -l: kind, length, class id, state bits, created,
+modified, path, with tabs; '-' is not set. On a terminal and with -l a control
+character in a name is shown as \\u0005.
+
+Example: cfbtool ls a.cfb
+d 64 /
+d 0 /docs
+f 6 /docs/note
+
+Fails if FILE is no compound file, or nothing is at PATH.
+";
+
+pub(super) const TREE: &str = "cfbtool tree FILE [PATH]
+
+The storages and streams as a tree, with the length of each stream in bytes,
+and how many there are. With PATH it starts there.
+A control character is shown as \\u0005.
+
+Example: cfbtool tree a.cfb
+/
+└── docs/
+    └── note  6
+
+1 storages, 1 streams, 6 bytes
+
+Fails if FILE is no compound file, or nothing is at PATH.
+";
+
+pub(super) const CHECK: &str = "cfbtool check FILE [strict]
+
+'version V sound' (status 0) or 'version V not sound' (1): a file is sound if no
+sector is used twice, every chain ends and every stream can be read.
+'strict' fails also if the file breaks a rule that does no harm.
+
+Example: cfbtool check a.cfb
+version 3 sound
+
+Fails if FILE is no compound file.
+";
+
+pub(super) const CAT: &str = "cfbtool cat FILE PATH
+
+The bytes of the stream at PATH, or none if it fails.
+A terminal gets text only: UTF-8, and of the control characters tabs and
+newlines.
+
+Example: cfbtool cat a.cfb /docs/note
+hello
+
+Fails if no stream is at PATH, or it cannot be read whole.
+";
+
+pub(super) const CREATE: &str = "cfbtool create 3|4 FILE
+
+An empty file of version 3 (sectors of 512 bytes, streams below 4 GiB) or 4
+(sectors of 4096 bytes).
+If FILE is there, it is EMPTIED.
+
+Example: cfbtool create 3 a.cfb && cfbtool ls a.cfb
+d 0 /
+
+Fails if FILE cannot be written, or another program is changing it.
+";
+
+pub(super) const PUT: &str = "cfbtool put FILE PATH [FROM]
+
+Makes the stream at PATH, or replaces its bytes.
+The bytes are those of the file FROM, or of standard input.
+They are read before FILE is opened.
+
+Example: echo hello | cfbtool put a.cfb /docs/note
+
+Fails if FROM cannot be read, the storage above PATH is missing, or a storage is
+at PATH.
+";
+
+pub(super) const MKDIR: &str = "cfbtool mkdir FILE PATH [SECS]
+
+Makes a storage at PATH.
+The storage above it must be there.
+SECS is its creation time, in seconds since 1970 (UTC); 0 if not given.
+
+Example: cfbtool mkdir a.cfb /docs && cfbtool ls a.cfb /docs
+d 0 /docs
+
+Fails if something is at PATH, or the storage above it is missing.
+";
+
+pub(super) const MKDIRS: &str = "cfbtool mkdirs FILE PATH [SECS]
+
+Makes a storage at PATH, and those above it that are missing.
+A storage that is there stays as it is.
+SECS is their creation time, in seconds since 1970 (UTC); 0 if not given.
+
+Example: cfbtool mkdirs a.cfb /p/q && cfbtool ls a.cfb /p
+d 0 /p
+d 0 /p/q
+
+Fails if a stream is at PATH or above it.
+";
+
+pub(super) const RMDIR: &str = "cfbtool rmdir FILE PATH
+
+Removes the empty storage at PATH.
+The file keeps its length.
+'cfbtool compact' makes a shorter copy.
+
+Example: cfbtool rmdir a.cfb /docs
+cfbtool: a.cfb: /docs: the storage is not empty
+
+Fails if no storage is at PATH, or it is not empty, or it is the root.
+";
+
+pub(super) const RMTREE: &str = "cfbtool rmtree FILE PATH
+
+Removes what is at PATH with all that is in it; of the root all that is in it.
+The file keeps its length.
+'cfbtool compact' makes a shorter copy.
+
+Example: cfbtool rmtree a.cfb /docs && cfbtool ls a.cfb
+d 0 /
+
+Fails if nothing is at PATH.
+";
+
+pub(super) const RM: &str = "cfbtool rm FILE PATH
+
+Removes the stream at PATH.
+The file keeps its length.
+'cfbtool compact' makes a shorter copy.
+
+Example: cfbtool rm a.cfb /docs/note && cfbtool ls a.cfb
+d 0 /
+d 0 /docs
+
+Fails if no stream is at PATH.
+";
+
+pub(super) const TOUCH: &str = "cfbtool touch FILE PATH SECS
+
+Sets the modification time of the storage at PATH.
+SECS are seconds since 1970 (UTC), below zero for earlier times.
+A stream has no such time, and stays as it is.
+
+Example: cfbtool touch a.cfb /docs 1000000000
+
+Fails if nothing is at PATH.
+";
+
+pub(super) const BITS: &str = "cfbtool bits FILE PATH N
+
+Sets the state bits of the storage or stream at PATH.
+N is a number below 4294967296.
+'cfbtool ls -l' shows it in hexadecimal.
+
+Example: cfbtool bits a.cfb /docs/note 255
+
+Fails if nothing is at PATH.
+";
+
+pub(super) const LEN: &str = "cfbtool len FILE PATH N
+
+Sets the length of the stream at PATH to N bytes.
+A shorter stream loses its last bytes.
+A longer one gets zeros.
+
+Example: cfbtool len a.cfb /docs/note 4 && cfbtool ls a.cfb /docs/note
+f 4 /docs/note
+
+Fails if no stream is at PATH, or the version allows no such length.
+";
+
+pub(super) const CLSID: &str = "cfbtool clsid FILE PATH UUID
+
+Sets the class id of the storage at PATH.
+UUID has 32 hexadecimal digits in five groups.
+'cfbtool ls -l' shows it.
+
+Example: cfbtool clsid a.cfb /docs 00020906-0000-0000-c000-000000000046
+
+Fails if no storage is at PATH.
+";
+
+pub(super) const ADD: &str = "cfbtool add FILE PATH
+
+Writes the bytes of standard input behind the stream at PATH.
+They are read before FILE is opened.
+The stream must be there.
+
+Example: echo you | cfbtool add a.cfb /docs/note; cfbtool cat a.cfb /docs/note
+hello
+you
+
+Fails if no stream is at PATH.
+";
+
+pub(super) const RUN: &str = "cfbtool run [-e] FILE
+
+Does lines of standard input in turn: a word, a path and an argument, with tabs
+between. Words: mkdir mkdirs rmdir rmtree rm touch bits len clsid created
+modified put add; put and add take hexadecimal bytes. For each line 'ok' or E
+and the number of the error; -e explains errors. E1 nothing there, E2 there
+already, E3 wrong path or argument, E4 damaged, E5 file, E6 memory, E7 full,
+E8 not sound, E9 failed earlier.
+
+Example: printf 'rm\\t/none\\nrm\\t/docs/note\\n' | cfbtool run a.cfb
+E1
+ok
+
+Fails, with nothing done, if a line is wrong (status 2).
+";
+
+pub(super) const COMPACT: &str = "cfbtool compact FILE NEW
+
+Copies all storages and streams into the new file NEW.
+NEW has no free sectors.
+FILE is only read.
+
+Example: cfbtool compact a.cfb b.cfb && cfbtool check b.cfb strict
+version 3 sound
+
+Fails if NEW is there, or a stream cannot be read whole.
+";

@@ -1,0 +1,185 @@
+//! The words that change FILE. It is opened once all that they read is there.
+ghost use Rattle.std.specs.Prelude.{◌≡◌, ◌+◌, ◌*◌, ◌≤◌, [], IfOk, length, vec_capacity};
+
+use super::files::{opened, to_change};
+use super::lines::{One, command_of, commands_of, explain, explained_commands_of};
+use super::print;
+use crate::lent::Lent;
+use crate::output::Output;
+use crate::refusal::Refusal;
+use cfb::{Command, Error, Medium};
+use cfb_text::meant::meant;
+use cfb_tool::content::put_content;
+use cfb_tool::explaining::play_explained;
+use std::alloc::Global;
+use std::fs;
+use std::fs::File;
+use std::io::{Read, Write};
+use std::rt::Files;
+
+/// All of standard input. `Medium`, `Memory`.
+pub(super) fn read_input<R: Read>(alloc: Global, input: &mut R) -> Result<Vec<u8>, Refusal> {
+    let mut bytes = Vec::new(alloc);
+    match input.read_to_end(&mut bytes) {
+        Ok(_) => Ok(bytes),
+        Err(e) => Err(Refusal::of_standard(&e)),
+    }
+}
+
+/// `put` without FROM.
+pub(super) fn put_input<H: Files<File = File> + AllocGlobal, R: Read>(
+    rt: &H,
+    path: &str,
+    stream: &str,
+    input: &mut R,
+) -> Result<(), Refusal> {
+    let bytes = read_input(rt.alloc(), input)?;
+    put_bytes(rt, path, stream, bytes.as_slice())
+}
+
+/// `put` with FROM.
+pub(super) fn put_from<H: Files<File = File> + AllocGlobal>(
+    rt: &H,
+    path: &str,
+    stream: &str,
+    from: &str,
+) -> Result<(), Refusal> {
+    match fs::read(rt, from) {
+        Ok(bytes) => put_bytes(rt, path, stream, bytes.as_slice()),
+        Err(e) => Err(Refusal::of_other_system(e)),
+    }
+}
+
+fn put_bytes<H: Files<File = File> + AllocGlobal>(
+    rt: &H,
+    path: &str,
+    stream: &str,
+    bytes: &[u8],
+) -> Result<(), Refusal> {
+    let object = meant(rt.alloc(), stream)?;
+    let mut medium = to_change(rt, path)?;
+    let done = put_into(rt.alloc(), Lent(&mut medium), object.as_str(), bytes);
+    done.map_err(|refusal| refusal.because(medium.last_error()))
+}
+
+fn put_into<F: Medium>(
+    alloc: Global,
+    medium: F,
+    stream: &str,
+    bytes: &[u8],
+) -> Result<(), Refusal> {
+    let mut file = opened(alloc, medium)?;
+    put_content(&mut file, stream, bytes).map_err(Refusal::Of)
+}
+
+/// One change.
+pub(super) fn change_one<H: Files<File = File> + AllocGlobal, R: Read>(
+    rt: &H,
+    path: &str,
+    one: One<'_>,
+    input: &mut R,
+) -> Result<(), Refusal> {
+    let commands = vec![in rt.alloc(); command_of(rt.alloc(), one, input)?]?;
+    let told = run_commands(rt, path, commands.as_slice())?;
+    match told.refusals.first() {
+        Some((_, e)) => Err(Refusal::Of(*e)),
+        None => Ok(()),
+    }
+}
+
+/// `run`.
+pub(super) fn run_input<H: Files<File = File> + AllocGlobal, R: Read, W: Write>(
+    rt: &H,
+    path: &str,
+    input: &mut R,
+    out: &mut W,
+) -> Result<(), Refusal> {
+    let text = read_input(rt.alloc(), input)?;
+    let commands = commands_of(rt.alloc(), text.as_slice())?;
+    let told = run_commands(rt, path, commands.as_slice())?;
+    print_told(&told, out)
+}
+
+/// `run -e`.
+pub(super) fn run_explained<H: Files<File = File> + AllocGlobal, R: Read, W: Output, E: Output>(
+    rt: &H,
+    path: &str,
+    input: &mut R,
+    out: &mut W,
+    faults: &mut E,
+) -> Result<(), Refusal> {
+    let text = read_input(rt.alloc(), input)?;
+    let commands = explained_commands_of(rt.alloc(), text.as_slice(), faults)?;
+    let told = run_commands(rt, path, commands.as_slice())?;
+    let printed = print_told(&told, out);
+    let _ = explain(text.as_slice(), told.refusals.as_slice(), faults);
+    printed
+}
+
+/// What is told of commands.
+#[derive(Drop)]
+struct Told {
+    /// A line for each.
+    lines: Vec<u8>,
+    /// The place of each that was refused, and why.
+    refusals: Vec<(usize, Error)>,
+    is_done: bool,
+}
+
+fn run_commands<H: Files<File = File> + AllocGlobal>(
+    rt: &H,
+    path: &str,
+    commands: &[Command],
+) -> Result<Told, Refusal> {
+    let mut lines = room_for_lines(rt.alloc(), commands.len())?;
+    let mut refusals = Vec::with_capacity(rt.alloc(), commands.len())?;
+    let mut medium = to_change(rt, path)?;
+    let played = play_in(
+        rt.alloc(),
+        Lent(&mut medium),
+        commands,
+        &mut lines,
+        &mut refusals,
+    );
+    let is_done = played.map_err(|refusal| refusal.because(medium.last_error()))?;
+    Ok(Told {
+        lines,
+        refusals,
+        is_done,
+    })
+}
+
+fn play_in<F: Medium>(
+    alloc: Global,
+    medium: F,
+    commands: &[Command],
+    lines: &mut Vec<u8>,
+    refusals: &mut Vec<(usize, Error)>,
+) -> Result<bool, Refusal>
+    requires room { length lines.old.items + 3 * length commands.now ≤ vec_capacity lines.old }
+    requires kept { length commands.now ≤ vec_capacity refusals.old }
+    requires empty { refusals.old.items ≡ [] }
+{
+    let mut file = opened(alloc, medium)?;
+    Ok(play_explained(&alloc, &mut file, commands, lines, refusals)?)
+}
+
+/// Prints what is told of commands, once they are done.
+fn print_told<W: Write>(told: &Told, out: &mut W) -> Result<(), Refusal> {
+    print(told.lines.as_slice(), out)?;
+    if told.is_done {
+        Ok(())
+    } else {
+        Err(Refusal::Told)
+    }
+}
+
+/// Room for a line of two letters for each command. `Memory`.
+fn room_for_lines(alloc: Global, count: usize) -> Result<Vec<u8>, Refusal>
+    ensures { IfOk result (λ lines. (lines.items ≡ []) × (3 * count ≤ vec_capacity lines)) }
+{
+    let Some(len) = count.checked_mul(3) else {
+        return Err(Refusal::Of(Error::Memory));
+    };
+    Ok(Vec::with_capacity(alloc, len)?)
+}

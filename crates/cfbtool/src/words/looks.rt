@@ -1,0 +1,119 @@
+//! The words that only read FILE.
+use super::details::details;
+use super::files::{opened, to_read};
+use super::print;
+use super::tree::tree;
+use crate::lent::Lent;
+use crate::output::Output;
+use crate::refusal::{About, Refusal};
+use cfb::{CompoundFile, ReadMedium};
+use cfb_text::meant::meant;
+use cfb_tool::asking::Asked;
+use cfb_tool::content::content_at;
+use cfb_tool::listing::{listing, listing_at, shown_listing, shown_listing_at};
+use cfb_tool::soundness::soundness_line;
+use std::alloc::Global;
+use std::fs::File;
+use std::rt::Files;
+
+/// Does what is asked of FILE.
+pub(super) fn look<H: Files<File = File> + AllocGlobal, W: Output>(
+    rt: &H,
+    asked: Asked<'_>,
+    out: &mut W,
+) -> Result<(), Refusal> {
+    let mut medium = to_read(rt, About::of(asked).file)?;
+    let done = look_into(rt.alloc(), asked, Lent(&mut medium), out);
+    done.map_err(|refusal| refusal.because(medium.last_error()))
+}
+
+/// The compound file, as opening is asked to be.
+fn opened_for<F: ReadMedium>(
+    alloc: Global,
+    asked: Asked<'_>,
+    medium: F,
+) -> Result<CompoundFile<F>, Refusal> {
+    match asked {
+        Asked::CheckStrict(_) => {
+            CompoundFile::open_strict(alloc, medium).map_err(Refusal::Opening)
+        }
+        _ => opened(alloc, medium),
+    }
+}
+
+fn look_into<F: ReadMedium, W: Output>(
+    alloc: Global,
+    asked: Asked<'_>,
+    medium: F,
+    out: &mut W,
+) -> Result<(), Refusal> {
+    let mut file = opened_for(alloc, asked, medium)?;
+    let given = About::of(asked).path;
+    let path = meant(alloc, given.unwrap_or(""))?;
+    let at = given.map(|_| path.as_str());
+    match asked {
+        Asked::ListAll(_) | Asked::ListAt(..) => list(alloc, &file, at, out),
+        Asked::DetailsAll(_) | Asked::DetailsAt(..) => details(alloc, &file, at, out),
+        Asked::TreeAll(_) | Asked::TreeAt(..) => tree(alloc, &file, at, out),
+        Asked::Check(_) | Asked::CheckStrict(_) => print_soundness(alloc, &file, out),
+        Asked::Cat(..) => cat(alloc, &mut file, path.as_str(), out),
+        _ => Err(Refusal::WrongWords),
+    }
+}
+
+/// `ls`.
+fn list<F: ReadMedium, W: Output>(
+    alloc: Global,
+    file: &CompoundFile<F>,
+    at: Option<&str>,
+    out: &mut W,
+) -> Result<(), Refusal> {
+    let is_shown = out.is_terminal();
+    let lines = match at {
+        Some(path) if is_shown => shown_listing_at(&alloc, file, path)?,
+        Some(path) => listing_at(&alloc, file, path)?,
+        None if is_shown => shown_listing(&alloc, file)?,
+        None => listing(&alloc, file)?,
+    };
+    print(lines.as_bytes(), out)
+}
+
+/// `cat`.
+fn cat<F: ReadMedium, W: Output>(
+    alloc: Global,
+    file: &mut CompoundFile<F>,
+    stream: &str,
+    out: &mut W,
+) -> Result<(), Refusal> {
+    let bytes = content_at(alloc, file, stream)?;
+    if out.is_terminal() && !is_plain_text(bytes.as_slice()) {
+        return Err(Refusal::NotText);
+    }
+    print(bytes.as_slice(), out)
+}
+
+/// Whether a terminal shows these bytes as they are: characters, and of the controls tabs and ends of
+/// lines alone.
+fn is_plain_text(bytes: &[u8]) -> bool {
+    match str::from_utf8(bytes) {
+        Ok(text) => !text.chars().any(|letter| letter.is_control()
+            && letter != '\t'
+            && letter != '\n'),
+        Err(_) => false,
+    }
+}
+
+/// `check`.
+fn print_soundness<F: ReadMedium, W: Output>(
+    alloc: Global,
+    file: &CompoundFile<F>,
+    out: &mut W,
+) -> Result<(), Refusal> {
+    let line = soundness_line(alloc, file)?;
+    print(line.as_bytes(), out)?;
+    if file.is_sound() {
+        Ok(())
+    } else {
+        Err(Refusal::Told)
+    }
+}
