@@ -15,46 +15,46 @@ const ALL: usize = usize::MAX;
 /// The header. The field at each place is the one that the line is about.
 #[rattlefmt::skip]
 const HEADS: &[Flaw<'static>] = &[
-    (&[], 6, b"cfbtool: @f: shorter than a header (6)\n"),
-    (&[], 300, b"cfbtool: @f: shorter than a header (300)\n"),
-    (&[], 511, b"cfbtool: @f: shorter than a header (511)\n"),
-    (&[(0, 0x52), (1, 0x61), (2, 0x72), (3, 0x21), (4, 0x1a), (5, 7), (6, 0), (7, 0xcf)], ALL, b"cfbtool: @f: not a compound file\n"),
-    (&[(26, 5)], ALL, b"cfbtool: @f: not a compound file\n"),
-    (&[(30, 0x0c)], ALL, b"cfbtool: @f: not a compound file\n"),
-    (&[(32, 7)], ALL, b"cfbtool: @f: not a compound file\n"),
-    (&[(28, 0xff), (29, 0xfe)], ALL, b"cfbtool: @f: not a compound file\n"),
-    (&[(57, 0x20)], ALL, b"cfbtool: @f: not a compound file\n"),
+    (&[], 6, b"cfbtool: @f: too short for a compound file: 6 bytes, a header has 512\n"),
+    (&[], 300, b"cfbtool: @f: too short for a compound file: 300 bytes, a header has 512\n"),
+    (&[], 511, b"cfbtool: @f: too short for a compound file: 511 bytes, a header has 512\n"),
+    (&[(0, 0x52), (1, 0x61), (2, 0x72), (3, 0x21), (4, 0x1a), (5, 7), (6, 0), (7, 0xcf)], ALL, b"cfbtool: @f: not a compound file: it begins with 52 61 72 21 1a 07 00 cf\n"),
+    (&[(26, 5)], ALL, b"cfbtool: @f: version 5 is neither 3 nor 4\n"),
+    (&[(30, 0x0c)], ALL, b"cfbtool: @f: sectors of 2^12 bytes in version 3\n"),
+    (&[(32, 7)], ALL, b"cfbtool: @f: mini sectors of 2^7 bytes\n"),
+    (&[(28, 0xff), (29, 0xfe)], ALL, b"cfbtool: @f: byte order mark 0xfeff in place of 0xfffe\n"),
+    (&[(57, 0x20)], ALL, b"cfbtool: @f: mini stream cutoff 8192 in place of 4096\n"),
 ];
 
 /// The FAT. Its word of sector 7 is at 540.
 #[rattlefmt::skip]
 const TABLES: &[Flaw<'static>] = &[
-    (&[], 6144, b"cfbtool: @f: FAT goes on past the end of the file\n"),
-    (&[], 1200, b"cfbtool: @f: FAT goes on past the end of the file\n"),
-    (&[(76, 0x7c), (77, 4)], ALL, b"cfbtool: @f: FAT sector goes past the end of the file\n"),
-    (&[(540, 0x0a)], ALL, b"cfbtool: @f: FAT points to a sector twice\n"),
-    (&[(540, 0xfb), (541, 0xff), (542, 0xff), (543, 0xff)], ALL, b"cfbtool: @f: FAT holds the invalid mark\n"),
+    (&[], 6144, b"cfbtool: @f: FAT: sector 11 is in use, and the file has 11 sectors (cut short?)\n"),
+    (&[], 1200, b"cfbtool: @f: FAT: sector 2 is in use, and the file has 2 sectors (cut short?)\n"),
+    (&[(76, 0x7c), (77, 4)], ALL, b"cfbtool: @f: FAT sector 1148 is not in the file, which has 12 sectors\n"),
+    (&[(540, 0x0a)], ALL, b"cfbtool: @f: FAT: sectors 7 and 9 both go on in sector 10\n"),
+    (&[(540, 0xfb), (541, 0xff), (542, 0xff), (543, 0xff)], ALL, b"cfbtool: @f: FAT: sector 7 has the invalid mark\n"),
 ];
 
 /// The slot of entry 1 is at 1152.
 #[rattlefmt::skip]
 const ENTRIES: &[Flaw<'static>] = &[
-    (&[(1216, 0x46)], ALL, b"cfbtool: @f: directory entry with a wrong length of its name\n"),
-    (&[(1152, 0), (1153, 0xd8)], ALL, b"cfbtool: @f: directory entry whose name is no text\n"),
-    (&[(1152, 0x2f)], ALL, b"cfbtool: @f: directory entry whose name has a forbidden character\n"),
-    (&[(1218, 7)], ALL, b"cfbtool: @f: directory entry of no known type\n"),
-    (&[(1219, 2)], ALL, b"cfbtool: @f: directory entry of no known colour\n"),
-    (&[(1220, 0xfd)], ALL, b"cfbtool: @f: directory entry with a link to no entry\n"),
-    (&[(1228, 0), (1229, 0), (1230, 0), (1231, 0)], ALL, b"cfbtool: @f: directory entry with a link to no entry\n"),
+    (&[(1216, 0x46)], ALL, b"cfbtool: @f: entry 1: its name has a length of 70 bytes\n"),
+    (&[(1152, 0), (1153, 0xd8)], ALL, b"cfbtool: @f: entry 1: its name is not UTF-16\n"),
+    (&[(1152, 0x2f)], ALL, b"cfbtool: @f: entry 1: its name has one of / \\ : !\n"),
+    (&[(1218, 7)], ALL, b"cfbtool: @f: entry 1: type 7\n"),
+    (&[(1219, 2)], ALL, b"cfbtool: @f: entry 1: colour 2\n"),
+    (&[(1220, 0xfd)], ALL, b"cfbtool: @f: entry 1: a link to 0xfffffffd\n"),
+    (&[(1228, 0), (1229, 0), (1230, 0), (1231, 0)], ALL, b"cfbtool: @f: entry 1: a stream with a child\n"),
 ];
 
 /// What strict opening alone refuses.
 #[rattlefmt::skip]
 const STRICT: &[Flaw<'static>] = &[
-    (&[(40, 1)], ALL, b"cfbtool: @f: version 3 counts directory sectors\n"),
-    (&[(1232, 1)], ALL, b"cfbtool: @f: directory entry with a field that is not of its type\n"),
-    (&[(1252, 1)], ALL, b"cfbtool: @f: directory entry with a field that is not of its type\n"),
-    (&[(1260, 1)], ALL, b"cfbtool: @f: directory entry with a field that is not of its type\n"),
+    (&[(40, 1)], ALL, b"cfbtool: @f: strict: version 3 counts 1 directory sectors\n"),
+    (&[(1232, 1)], ALL, b"cfbtool: @f: strict: entry 1: a class id on a stream\n"),
+    (&[(1252, 1)], ALL, b"cfbtool: @f: strict: entry 1: a moment on a stream\n"),
+    (&[(1260, 1)], ALL, b"cfbtool: @f: strict: entry 1: a moment on a stream\n"),
 ];
 
 #[rattlefmt::skip]
@@ -67,23 +67,23 @@ const WITH_THREE: &[Run<'static>] = &[
 /// the root at 1090, its length at 1144.
 #[rattlefmt::skip]
 const TREES: &[Flaw<'static>] = &[
-    (&[(1152, 0x7a)], ALL, b"cfbtool: @f: names do not rise (1)\n"),
-    (&[(1352, 2), (1353, 0), (1354, 0), (1355, 0)], ALL, b"cfbtool: @f: entry reached twice (2)\n"),
-    (&[(1090, 1)], ALL, b"cfbtool: @f: first entry is no root\n"),
-    (&[(1144, 0x2c), (1145, 0x2d)], ALL, b"cfbtool: @f: first entry is no root\n"),
+    (&[(1152, 0x7a)], ALL, b"cfbtool: @f: entries 1 and 3: names out of order\n"),
+    (&[(1352, 2), (1353, 0), (1354, 0), (1355, 0)], ALL, b"cfbtool: @f: entry 2: reached twice\n"),
+    (&[(1090, 1)], ALL, b"cfbtool: @f: entry 0: not the root\n"),
+    (&[(1144, 0x2c), (1145, 0x2d)], ALL, b"cfbtool: @f: entry 0: the length of the mini stream, 11564, is no multiple of 64\n"),
 ];
 
 /// Their colours are at 1219, 1347 and 1475.
 #[rattlefmt::skip]
 const RED: &[Flaw<'static>] = &[
-    (&[(1219, 0), (1347, 1), (1475, 0)], ALL, b"cfbtool: @f: red entry under a red one\n"),
+    (&[(1219, 0), (1347, 1), (1475, 0)], ALL, b"cfbtool: @f: strict: entry 1: red below red entry 3\n"),
 ];
 
 /// The MiniFAT lies in sector 2, at 1536.
 #[rattlefmt::skip]
 const MINIS: &[Flaw<'static>] = &[
-    (&[(1536, 2)], ALL, b"cfbtool: @f: MiniFAT points to a mini sector twice\n"),
-    (&[(1536, 9)], ALL, b"cfbtool: @f: MiniFAT points past its end\n"),
+    (&[(1536, 2)], ALL, b"cfbtool: @f: MiniFAT: mini sectors 0 and 1 both go on in mini sector 2\n"),
+    (&[(1536, 9)], ALL, b"cfbtool: @f: MiniFAT: mini sector 0 goes on in mini sector 9, which is not there\n"),
 ];
 
 const LISTED: &[&str] = &["ls", "@f"];
