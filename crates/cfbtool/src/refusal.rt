@@ -24,16 +24,23 @@ pub(crate) enum Refusal {
     Opening(Error),
     /// A call was refused so, at PATH where one is given.
     Of(Error),
-    /// The system refused a call at FILE.
-    System(io::Error),
-    /// The system refused a call at the other file that was named.
-    OtherSystem(io::Error),
+    /// The system refused a call there.
+    System(Place, io::Error),
     /// Another program is changing FILE.
     Busy,
     /// What was to be shown on a terminal is no text.
     NotText,
-    /// Standard input or output failed.
-    Standard,
+}
+
+/// Where the system refuses a call.
+#[derive(Clone, Copy)]
+pub(crate) enum Place {
+    /// FILE.
+    File,
+    /// The other file that was named.
+    Other,
+    Input,
+    Output,
 }
 
 /// What a run is of, as it was given.
@@ -48,28 +55,31 @@ pub(crate) struct About<'a> {
 }
 
 impl Refusal {
-    /// Want of memory is told as such, and all else as a fault of standard input or output.
-    pub(crate) fn of_standard(e: &io::Error) -> Refusal {
-        if e.kind() == ErrorKind::OutOfMemory {
-            Refusal::Of(Error::Memory)
-        } else {
-            Refusal::Standard
-        }
-    }
-
     /// The system refused a call at FILE.
     pub(crate) fn of_system(e: io::Error) -> Refusal {
-        match e.kind() {
-            ErrorKind::OutOfMemory => Refusal::Of(Error::Memory),
-            _ => Refusal::System(e),
-        }
+        Refusal::at(Place::File, e)
     }
 
     /// The system refused a call at the other file that was named.
     pub(crate) fn of_other_system(e: io::Error) -> Refusal {
+        Refusal::at(Place::Other, e)
+    }
+
+    /// Standard input failed.
+    pub(crate) fn of_input(e: io::Error) -> Refusal {
+        Refusal::at(Place::Input, e)
+    }
+
+    /// Standard output failed.
+    pub(crate) fn of_output(e: io::Error) -> Refusal {
+        Refusal::at(Place::Output, e)
+    }
+
+    /// Want of memory is told as such, wherever it was.
+    fn at(place: Place, e: io::Error) -> Refusal {
         match e.kind() {
             ErrorKind::OutOfMemory => Refusal::Of(Error::Memory),
-            _ => Refusal::OtherSystem(e),
+            _ => Refusal::System(place, e),
         }
     }
 
@@ -99,6 +109,18 @@ impl From<AllocError> for Refusal {
 impl<T: Drop> From<AllocFailed<T>> for Refusal {
     fn from(_e: AllocFailed<T>) -> Refusal {
         Refusal::Of(Error::Memory)
+    }
+}
+
+impl Place {
+    /// How it is named in messages.
+    fn name<'a>(self, about: About<'a>) -> &'a str {
+        match self {
+            Place::File => about.file,
+            Place::Other => about.other.unwrap_or(""),
+            Place::Input => "standard input",
+            Place::Output => "standard output",
+        }
     }
 }
 
@@ -176,8 +198,7 @@ pub(crate) fn tell<E: Output>(refusal: Refusal, about: About<'_>, faults: &mut E
         Refusal::TargetExists => writeln!(faults, "cfbtool: target exists"),
         Refusal::Opening(e) => tell_error(e, About::new(about.file), faults),
         Refusal::Of(e) => tell_error(e, about, faults),
-        Refusal::System(e) => writeln!(faults, "cfbtool: medium failed: {file}: {e}"),
-        Refusal::OtherSystem(e) => tell_system(about.other.unwrap_or(""), &e, faults),
+        Refusal::System(place, e) => tell_system(place.name(about), &e, faults),
         Refusal::Busy => writeln!(faults, "cfbtool: {file}: another program is changing it"),
         Refusal::NotText => {
             let path = Shown(about.path.unwrap_or(""));
@@ -186,18 +207,17 @@ pub(crate) fn tell<E: Output>(refusal: Refusal, about: About<'_>, faults: &mut E
                 "cfbtool: {file}: {path}: not text; send it to a file or through '| cat'"
             )
         }
-        Refusal::Standard => writeln!(faults, "cfbtool: medium failed"),
     };
 }
 
-/// Writes the line on a file of the system at which the system refused a call.
+/// Writes the line on a call that the system refused.
 pub(crate) fn tell_system<E: Output>(
-    path: &str,
+    name: &str,
     reason: &io::Error,
     faults: &mut E,
 ) -> io::Result<()> {
-    let path = Shown(path);
-    writeln!(faults, "cfbtool: medium failed: {path}: {reason}")
+    let name = Shown(name);
+    writeln!(faults, "cfbtool: medium failed: {name}: {reason}")
 }
 
 /// Writes the line on a call that was refused so.

@@ -1,7 +1,7 @@
 //! Tests are lists of steps, which one function plays: a further row costs the prover nothing.
 use acts::{
-    Seen, damage, has_len, is_link, is_writable, make_old, note, set_mode, stays, stays_at,
-    stays_in_place, stays_locked,
+    Flaw, Seen, are_refused, damage, has_len, is_link, is_writable, make_old, note, set_mode,
+    stays, stays_at, stays_in_place, stays_locked,
 };
 use helps::are_helped;
 use library::{Outcome, comes_of};
@@ -23,7 +23,9 @@ mod lines;
 mod lists;
 mod opening;
 mod puts;
+mod refusals;
 mod runs;
+mod samples;
 mod shows;
 mod trees;
 
@@ -37,8 +39,8 @@ enum Step<'a> {
     Helps(&'a [&'a str]),
     /// Runs of each of these words, with each of these inputs: the status, and what is told.
     Each(&'a [&'a [&'a str]], &'a [&'a [u8]], u8, &'a [u8]),
-    /// Runs of each of these words whose input and output fail.
-    Broken(&'a [&'a [&'a str]]),
+    /// Runs of each of these words whose input and output fail, and what is told then.
+    Broken(&'a [&'a [&'a str]], &'a [u8]),
     /// So many bytes become the content.
     Content(usize),
     /// The content has one byte more.
@@ -72,6 +74,9 @@ enum Step<'a> {
     Filled,
     /// Some of its bytes are set, and it is cut to a length.
     Damage(&'a [(usize, u8)], usize),
+    /// Some bytes of what was noted are set, and it is cut to a length: it is refused so by these
+    /// words.
+    Flawed(&'a [&'a str], &'a [Flaw<'a>]),
     Mode(u32),
     /// It becomes a link to this.
     Link(&'a str),
@@ -223,9 +228,10 @@ fn is_done(rt: &HostRuntime, world: &mut World, step: &Step<'_>) -> bool {
         Step::Each(all, inputs, status, told) => {
             is_each_told(rt, world, all, inputs, (*status, told))
         }
-        Step::Broken(all) => is_each_broken(rt, world, all),
+        Step::Broken(all, told) => is_each_broken(rt, world, all, told),
         Step::Content(len) => fill(&mut world.content, *len),
         Step::Longer(byte) => world.content.push(*byte).is_ok(),
+        Step::Flawed(words, flaws) => are_refused(rt, world, words, flaws),
         Step::Line(word, start, end) => {
             write_line(&mut world.content, word, (*start, *end)).is_ok()
         }

@@ -102,6 +102,6 @@ fn print<W: Write>(bytes: &[u8], out: &mut W) -> Result<(), Refusal> {
     let printed = out.write_all(bytes);
     match printed.and_then(|()| out.flush()) {
         Ok(()) => Ok(()),
-        Err(e) => Err(Refusal::of_standard(&e)),
+        Err(e) => Err(Refusal::of_output(e)),
     }
 }

@@ -96,6 +96,31 @@ pub(super) fn damage(
     fs::write(rt, path, bytes.as_slice())
 }
 
+/// Bytes that are set, a length to be cut to, and what is told of the file then.
+pub(super) type Flaw<'a> = (&'a [(usize, u8)], usize, &'a [u8]);
+
+fn is_flawed(rt: &HostRuntime, world: &World, (changes, len, _): &Flaw<'_>) -> bool {
+    let (bytes, _) = &world.noted;
+    let path = world.path.as_str();
+    fs::write(rt, path, bytes.as_slice()).is_ok() && damage(rt, path, changes, *len).is_ok()
+}
+
+/// Whether the file as it was noted is refused so by these words, with each of these flaws.
+pub(super) fn are_refused(
+    rt: &HostRuntime,
+    world: &mut World,
+    words: &[&str],
+    flaws: &[Flaw<'_>],
+) -> bool {
+    for flaw in flaws {
+        let told = flaw.2;
+        if !is_flawed(rt, world, flaw) || !is_told(rt, world, &(words, b"", 1, b"", told)) {
+            return false;
+        }
+    }
+    true
+}
+
 pub(super) fn set_mode(rt: &HostRuntime, path: &str, mode: u32) -> io::Result<()> {
     fs::set_permissions(rt, path, Permissions::from_mode(mode))
 }

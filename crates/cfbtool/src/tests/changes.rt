@@ -1,7 +1,7 @@
 //! One change without `run`, and what `run -e` tells.
-use super::Step::{self, Each, Note, OnScreen, Runs, Stays, StaysAt};
+use super::Step::{self, At, Content, Each, Filled, Note, OnScreen, Runs, Stays, StaysAt};
 use super::play;
-use super::runs::{Run, WRONG_WORDS};
+use super::runs::{CONTENT, Run, WRONG_WORDS};
 use std::test::Fail;
 
 #[rattlefmt::skip]
@@ -74,6 +74,18 @@ const EXPLAINED: &[Run<'static>] = &[
     (&["run", "-e", "@f"], b"rm\t/\xff", 2, b"", b"cfbtool: wrong words\ncfbtool: line 1: not UTF-8\n"),
     (&["run", "-e", "@f"], b"rmtree\t/docs\n\nrmtree\t/docs\nmkdri\t/x\t0", 2, b"", b"cfbtool: wrong words\ncfbtool: line 2: no word ''\n"),
     (&["run", "-e", "@f"], b"mkdri\t/x\t0", 2, b"", b"cfbtool: wrong words\ncfbtool: line 1: no word 'mkdri'\n"),
+    (&["run", "-e", "@f"], b"mkdir /x 0\n", 2, b"", b"cfbtool: wrong words\ncfbtool: line 1: no word 'mkdir /x 0'\n"),
+    (&["run", "-e", "@f"], b"# a comment\nrm\t/docs\n", 2, b"", b"cfbtool: wrong words\ncfbtool: line 1: no word '# a comment'\n"),
+    (&["run", "-e", "@f"], b"# cfbtool dump, version 3\nrmtree\t/docs\nmkdir\t/x\n", 2, b"", b"cfbtool: wrong words\ncfbtool: line 3: mkdir wants PATH SECS\n"),
+    (&["run", "-e", "@f"], b"mkdir\t/x\t0\t", 2, b"", b"cfbtool: wrong words\ncfbtool: line 1: mkdir wants PATH SECS\n"),
+    (&["run", "-e", "@f"], b"rm", 2, b"", b"cfbtool: wrong words\ncfbtool: line 1: rm wants PATH\n"),
+    (&["run", "-e", "@f"], b"rm\t/docs\t0", 2, b"", b"cfbtool: wrong words\ncfbtool: line 1: rm wants PATH\n"),
+    (&["run", "-e", "@f"], b"len\t/docs", 2, b"", b"cfbtool: wrong words\ncfbtool: line 1: len wants PATH N\n"),
+    (&["run", "-e", "@f"], b"clsid\t/docs", 2, b"", b"cfbtool: wrong words\ncfbtool: line 1: clsid wants PATH UUID\n"),
+    (&["run", "-e", "@f"], b"bits\t/docs\t4294967296", 2, b"", b"cfbtool: wrong words\ncfbtool: line 1: not a number below 4294967296: 4294967296\n"),
+    (&["run", "-e", "@f"], b"bits\t/docs\t1\r\n", 2, b"", b"cfbtool: wrong words\ncfbtool: line 1: not a number below 4294967296: 1\\u000d\n"),
+    (&["run", "-e", "@f"], b"\x1b[31m\n", 2, b"", b"cfbtool: wrong words\ncfbtool: line 1: no word '\\u001b[31m'\n"),
+    (&["run", "-e", "@none"], b"mkdri", 2, b"", b"cfbtool: wrong words\ncfbtool: line 1: no word 'mkdri'\n"),
 ];
 
 #[rattlefmt::skip]
@@ -81,10 +93,33 @@ const WRONG_LINE: &[Run<'static>] = &[
     (&["run", "-e", "@f"], b"mkdri\t/x\t0", 2, b"", b"cfbtool: wrong words\ncfbtool: line 1: no word 'mkdri'\n"),
 ];
 
+/// Standard output is that of `run`.
+#[rattlefmt::skip]
+const TOLD: &[Run<'static>] = &[
+    (&["run", "-e", "@f"], b"mkdir\t/x\t0\nput\t/x/y\t6162\nrm\t/nothere\n", 1, b"ok\nok\nE1\n", b"cfbtool: line 3: rm /nothere: nothing is at this path\n"),
+    (&["run", "-e", "@f"], b"# cfbtool dump, version 3\nadd\t/x/y\t63\nmkdir\t/x\t0\nrm\t/a\x1bb\n", 1, b"ok\nE2\nE1\n", b"cfbtool: line 3: mkdir /x: something is there\ncfbtool: line 4: rm /a\\u001bb: nothing is at this path\n"),
+    (&["cat", "@f", "/x/y"], b"", 0, b"abc", b""),
+    (&["run", "-e", "@f"], b"rm\t/x/y\n", 0, b"ok\n", b""),
+    (&["run", "-e", "@f"], b"", 0, b"", b""),
+];
+
+/// The bytes of a file of the system, which may be FILE itself, are read before FILE is opened.
+#[rattlefmt::skip]
+const FROM: &[Run<'static>] = &[
+    (&["put", "@f", "/from", "@g"], b"abc", 0, b"", b""),
+    (&["cat", "@f", "/from"], b"", 0, CONTENT, b""),
+    (&["put", "@f", "/x/self", "@f"], b"", 0, b"", b""),
+    (&["put", "@f", "/from", "@none"], b"abc", 1, b"", b"cfbtool: medium failed: @none: No such file or directory (os error 2)\n"),
+    (&["put", "@f", "/no/from", "@g"], b"abc", 1, b"", b"cfbtool: @f: /no/from: no parent storage\n"),
+    (&["cat", "@f", "/from"], b"", 0, CONTENT, b""),
+    (&["check", "@f", "strict"], b"", 0, b"version 3 sound\n", b""),
+];
+
 #[rattlefmt::skip]
 static CHANGED: &[Step<'static>] = &[
     Runs(CHANGES), Note, StaysAt(REFUSED), Each(WRONG, &[b"abc"], 2, WRONG_WORDS), Stays,
-    StaysAt(EXPLAINED), OnScreen(WRONG_LINE), Stays,
+    StaysAt(EXPLAINED), OnScreen(WRONG_LINE), Stays, Runs(TOLD),
+    At("@g"), Content(5000), Filled, Runs(FROM),
 ];
 
 #[test]

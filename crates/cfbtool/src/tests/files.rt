@@ -30,6 +30,9 @@ const REASONS: &[Run<'static>] = &[
     (&["create", "3", "/dev/full"], b"", 1, b"", b"cfbtool: medium failed: /dev/full: No space left on device (os error 28)\n"),
     (&["create", "3", "/proc/a\tb\u{202e}c"], b"", 1, b"", b"cfbtool: medium failed: /proc/a\\u0009b\\u202ec: "),
     (&["compact", "@none", "@new"], b"", 1, b"", b"cfbtool: medium failed: @none: No such file or directory (os error 2)\n"),
+    (&["tree", "@a\u{1b}b\n"], b"", 1, b"", b"cfbtool: medium failed: @a\\u001bb\\u000a: No such file or directory (os error 2)\n"),
+    (&["mkdir", "@none", "/a"], b"", 1, b"", b"cfbtool: medium failed: @none: No such file or directory (os error 2)\n"),
+    (&["run", "-e", "@none"], b"rm\t/a", 1, b"", b"cfbtool: medium failed: @none: No such file or directory (os error 2)\n"),
     (&["create", "3", "@g"], b"", 0, b"", b""),
     (&["put", "@g", "/a", "@none"], b"abc", 1, b"", b"cfbtool: medium failed: @none: No such file or directory (os error 2)\n"),
     (&["put", "@g", "/a", "/proc"], b"abc", 1, b"", b"cfbtool: medium failed: /proc: Is a directory (os error 21)\n"),
@@ -37,7 +40,8 @@ const REASONS: &[Run<'static>] = &[
     (&["compact", "@g", "@no/such"], b"", 1, b"", b"cfbtool: medium failed: @no/such: No such file or directory (os error 2)\n"),
 ];
 
-const TOO_SHORT: &[u8] = b"cfbtool: /dev/zero: too short for a compound file: 0 bytes, a header has 512\n";
+const TOO_SHORT: &[u8] =
+    b"cfbtool: /dev/zero: too short for a compound file: 0 bytes, a header has 512\n";
 
 const EMPTY: &[u8] = b"cfbtool: @f: too short for a compound file: 0 bytes, a header has 512\n";
 
@@ -84,6 +88,11 @@ const CUT_SHORT: &[Run<'static>] = &[
     (&["cat", "@f", "/a"], b"", 1, b"", UNREADABLE),
     (&["put", "@f", "/a"], b"abc", 1, b"", UNSOUND),
     (&["put", "@f", "/b"], b"", 1, b"", UNSOUND),
+    (&["rm", "@f", "/a"], b"", 1, b"", UNSOUND),
+    (&["len", "@f", "/a", "5000"], b"", 0, b"", b""),
+    (&["compact", "@f", "@new"], b"", 1, b"", b"cfbtool: @f: "),
+    (&["ls", "@new"], b"", 1, b"", b"cfbtool: "),
+    (&["run", "-e", "@f"], b"rm\t/a\nrm\t/b", 1, b"E8\nE1\n", b"cfbtool: line 1: rm /a: file is not sound\ncfbtool: line 2: rm /b: nothing is at this path\n"),
     (&["run", "@f"], b"rm\t/b\nrm\t/a\nadd\t/a\t61\nlen\t/a\t5000", 1, b"E1\nE8\nE8\nok\n", b""),
 ];
 

@@ -71,8 +71,39 @@ pub(super) fn are_helped(rt: &HostRuntime, world: &mut World, calls: &[&str]) ->
     true
 }
 
+/// The examples of the helps, one behind the other where one is of what an earlier one made.
 #[rattlefmt::skip]
-static HELP: &[Step<'static>] = &[Runs(SCREENS), Helps(ALL)];
+const EXAMPLES: &[Run<'static>] = &[
+    (&["create", "3", "@f"], b"", 0, b"", b""),
+    (&["ls", "@f"], b"", 0, b"d 0 /\n", b""),
+    (&["mkdir", "@f", "/docs"], b"", 0, b"", b""),
+    (&["ls", "@f", "/docs"], b"", 0, b"d 0 /docs\n", b""),
+    (&["put", "@f", "/docs/note"], b"hello\n", 0, b"", b""),
+    (&["ls", "@f"], b"", 0, b"d 64 /\nd 0 /docs\nf 6 /docs/note\n", b""),
+    (&["tree", "@f"], b"", 0, b"/\n\xe2\x94\x94\xe2\x94\x80\xe2\x94\x80 docs/\n    \xe2\x94\x94\xe2\x94\x80\xe2\x94\x80 note  6\n\n1 storages, 1 streams, 6 bytes\n", b""),
+    (&["check", "@f"], b"", 0, b"version 3 sound\n", b""),
+    (&["cat", "@f", "/docs/note"], b"", 0, b"hello\n", b""),
+    (&["rmdir", "@f", "/docs"], b"", 1, b"", b"cfbtool: @f: /docs: the storage is not empty\n"),
+    (&["touch", "@f", "/docs", "1000000000"], b"", 0, b"", b""),
+    (&["bits", "@f", "/docs/note", "255"], b"", 0, b"", b""),
+    (&["clsid", "@f", "/docs", "00020906-0000-0000-c000-000000000046"], b"", 0, b"", b""),
+    (&["add", "@f", "/docs/note"], b"you\n", 0, b"", b""),
+    (&["cat", "@f", "/docs/note"], b"", 0, b"hello\nyou\n", b""),
+    (&["len", "@f", "/docs/note", "4"], b"", 0, b"", b""),
+    (&["ls", "@f", "/docs/note"], b"", 0, b"f 4 /docs/note\n", b""),
+    (&["compact", "@f", "@g"], b"", 0, b"", b""),
+    (&["check", "@g", "strict"], b"", 0, b"version 3 sound\n", b""),
+    (&["rm", "@g", "/docs/note"], b"", 0, b"", b""),
+    (&["ls", "@g"], b"", 0, b"d 0 /\nd 0 /docs\n", b""),
+    (&["run", "@f"], b"rm\t/none\nrm\t/docs/note\n", 1, b"E1\nok\n", b""),
+    (&["rmtree", "@f", "/docs"], b"", 0, b"", b""),
+    (&["ls", "@f"], b"", 0, b"d 0 /\n", b""),
+    (&["mkdirs", "@f", "/p/q"], b"", 0, b"", b""),
+    (&["ls", "@f", "/p"], b"", 0, b"d 0 /p\nd 0 /p/q\n", b""),
+];
+
+#[rattlefmt::skip]
+static HELP: &[Step<'static>] = &[Runs(SCREENS), Helps(ALL), Runs(EXAMPLES)];
 
 #[test]
 fn each_word_is_told_of(rt: HostRuntime) -> Result<(), Fail> {

@@ -52,6 +52,20 @@ const LISTS: &[Run<'static>] = &[
     (&["ls", "@f"], b"", 0, b"d 0 /\n", b""),
 ];
 
+/// An option stands right behind the word; anywhere else it is a file or a path.
+#[rattlefmt::skip]
+const OPTIONS: &[Run<'static>] = &[
+    (&["ls", "-l"], b"", 1, b"", b"cfbtool: medium failed: -l: No such file or directory (os error 2)\n"),
+    (&["ls", "./-l"], b"", 1, b"", b"cfbtool: medium failed: ./-l: No such file or directory (os error 2)\n"),
+    (&["run", "-e"], b"", 1, b"", b"cfbtool: medium failed: -e: No such file or directory (os error 2)\n"),
+    (&["create", "3", "@f"], b"", 0, b"", b""),
+    (&["ls", "@f", "-l"], b"", 1, b"", b"cfbtool: @f: -l: nothing is at this path\n"),
+    (&["put", "@f", "-l"], b"abc", 0, b"", b""),
+    (&["ls", "@f", "-l"], b"", 0, b"f 3 /-l\n", b""),
+    (&["ls", "-l", "@f", "-l"], b"", 0, b"f\t3\t-\t00000000\t-\t-\t/-l\n", b""),
+    (&["tree", "-l", "@f"], b"", 1, b"", b"cfbtool: medium failed: -l: No such file or directory (os error 2)\n"),
+];
+
 /// What `run` takes for no commands.
 #[rattlefmt::skip]
 const NO_COMMANDS: &[&[u8]] = &[
@@ -104,7 +118,7 @@ fn wrong_words_do_nothing(rt: HostRuntime) -> Result<(), Fail> {
 
 #[rattlefmt::skip]
 static LISTED: &[Step<'static>] = &[
-    Runs(LISTS), Len(12288),
+    Runs(LISTS), Len(12288), Runs(OPTIONS),
 ];
 
 #[test]

@@ -37,11 +37,24 @@ const REFUSED: &[Run<'static>] = &[
     (&["run", "@f"], b"len\t/a\t4096\nlen\t/a\t4294967296\nadd\t/a\t", 1, b"ok\nE3\nok\n", b""),
 ];
 
+/// What is read is read before anything else is done.
 #[rattlefmt::skip]
-const READ_OR_PRINTED: &[&[&str]] = &[
-    &["put", "@f", "/b"], &["run", "@f"], &["cat", "@f", "/a"], &["ls", "@f"],
-    &["ls", "@f", "/a"], &["check", "@f"],
+const READ: &[&[&str]] = &[
+    &["put", "@f", "/b"], &["run", "@f"], &["run", "-e", "@f"], &["add", "@f", "/a"],
+    &["put", "@none", "/b"], &["run", "@none"],
 ];
+
+const INPUT_FAILED: &[u8] = b"cfbtool: medium failed: standard input: other error\n";
+
+#[rattlefmt::skip]
+const PRINTED: &[&[&str]] = &[
+    &["cat", "@f", "/a"], &["ls", "@f"], &["ls", "@f", "/a"], &["check", "@f"],
+    &["check", "@f", "strict"], &["ls", "-l", "@f"], &["ls", "-l", "@f", "/a"], &["tree", "@f"],
+    &["tree", "@f", "/a"], &["help"], &["--help"], &["-h"], &["help", "ls"], &["ls", "--help"],
+    &["--version"],
+];
+
+const OUTPUT_FAILED: &[u8] = b"cfbtool: medium failed: standard output: other error\n";
 
 #[rattlefmt::skip]
 static ALL_PUT: &[Step<'static>] = &[
@@ -66,7 +79,7 @@ fn refused_runs_leave_the_file(rt: HostRuntime) -> Result<(), Fail> {
 
 #[rattlefmt::skip]
 static LEFT_AT_BREAKS: &[Step<'static>] = &[
-    Runs(WITH_STREAM), Old, Note, Broken(READ_OR_PRINTED), Stays,
+    Runs(WITH_STREAM), Old, Note, Broken(READ, INPUT_FAILED), Broken(PRINTED, OUTPUT_FAILED), Stays,
 ];
 
 /// Standard input that can't be read leaves the file; and what can't be printed is told.

@@ -16,8 +16,6 @@ pub(super) const CONTENT: &[u8] = b"(content)";
 
 pub(super) const WRONG_WORDS: &[u8] = b"cfbtool: wrong words\n";
 
-pub(super) const MEDIUM_FAILED: &[u8] = b"cfbtool: medium failed\n";
-
 const OUT_OF_MEMORY: &[u8] = b"cfbtool: out of memory\n";
 
 pub(super) const TARGET_EXISTS: &[u8] = b"cfbtool: target exists\n";
@@ -271,10 +269,15 @@ fn breaks(
     answered == Ok(ExitCode::from(1)) && world.faults.as_slice() == line
 }
 
-/// Whether it is so of each of these words, as a fault of the medium and for want of memory.
-pub(super) fn is_each_broken(rt: &HostRuntime, world: &mut World, all: &[&[&str]]) -> bool {
+/// Whether it is so of each of these words, as a fault that is told so and for want of memory.
+pub(super) fn is_each_broken(
+    rt: &HostRuntime,
+    world: &mut World,
+    all: &[&[&str]],
+    told: &[u8],
+) -> bool {
     for words in all {
-        if !breaks(rt, world, words, (ErrorKind::Other, MEDIUM_FAILED))
+        if !breaks(rt, world, words, (ErrorKind::Other, told))
             || !breaks(rt, world, words, (ErrorKind::OutOfMemory, OUT_OF_MEMORY))
         {
             return false;

@@ -24,6 +24,28 @@ const ODD_NAMES: &[Run<'static>] = &[
     (&["put", "@f", "/t"], b"t\tu\n\xc3\xa4", 0, b"", b""),
 ];
 
+/// A carriage return, an escape, the last control of ASCII and one behind it, half a letter, and
+/// nothing.
+#[rattlefmt::skip]
+const TEXTS: &[Run<'static>] = &[
+    (&["create", "3", "@g"], b"", 0, b"", b""),
+    (&["run", "@g"], b"put\t/r\t610d0a\nput\t/e\t1b5b33316d\nput\t/d\t7f\nput\t/c\tc285\nput\t/h\tc3\nput\t/0\t00\nput\t/n\t\n", 0, b"ok\nok\nok\nok\nok\nok\nok\n", b""),
+    (&["cat", "@g", "/r"], b"", 0, b"a\r\n", b""),
+    (&["cat", "@g", "/e"], b"", 0, b"\x1b[31m", b""),
+];
+
+#[rattlefmt::skip]
+const TEXTS_SHOWN: &[Run<'static>] = &[
+    (&["cat", "@g", "/r"], b"", 1, b"", b"cfbtool: @g: /r: not text; send it to a file or through '| cat'\n"),
+    (&["cat", "@g", "/e"], b"", 1, b"", b"cfbtool: @g: /e: not text; send it to a file or through '| cat'\n"),
+    (&["cat", "@g", "/d"], b"", 1, b"", b"cfbtool: @g: /d: not text; send it to a file or through '| cat'\n"),
+    (&["cat", "@g", "/c"], b"", 1, b"", b"cfbtool: @g: /c: not text; send it to a file or through '| cat'\n"),
+    (&["cat", "@g", "/h"], b"", 1, b"", b"cfbtool: @g: /h: not text; send it to a file or through '| cat'\n"),
+    (&["cat", "@g", "/0"], b"", 1, b"", b"cfbtool: @g: /0: not text; send it to a file or through '| cat'\n"),
+    (&["cat", "@g", "/n"], b"", 0, b"", b""),
+    (&["cat", "@g", "/x"], b"", 1, b"", b"cfbtool: @g: /x: nothing is at this path\n"),
+];
+
 #[rattlefmt::skip]
 const SHOWN: &[Run<'static>] = &[
     (&["ls", "@f", "/t"], b"", 0, b"f 6 /t\n", b""),
@@ -61,7 +83,9 @@ const FREE: &[Run<'static>] = &[
 ];
 
 #[rattlefmt::skip]
-static NAMES: &[Step<'static>] = &[Runs(ODD_NAMES), OnScreen(SHOWN)];
+static NAMES: &[Step<'static>] = &[
+    Runs(ODD_NAMES), OnScreen(SHOWN), Runs(TEXTS), OnScreen(TEXTS_SHOWN),
+];
 
 /// Names are printed as they are, but for terminals and standard error; and a path may have escapes.
 #[test]

@@ -22,7 +22,7 @@ pub(super) fn read_input<R: Read>(alloc: Global, input: &mut R) -> Result<Vec<u8
     let mut bytes = Vec::new(alloc);
     match input.read_to_end(&mut bytes) {
         Ok(_) => Ok(bytes),
-        Err(e) => Err(Refusal::of_standard(&e)),
+        Err(e) => Err(Refusal::of_input(e)),
     }
 }
 

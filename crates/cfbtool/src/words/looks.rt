@@ -41,6 +41,7 @@ fn opened_for<F: ReadMedium>(
     }
 }
 
+/// Opens the file in the medium, and shows what is asked of it.
 fn look_into<F: ReadMedium, W: Output>(
     alloc: Global,
     asked: Asked<'_>,
@@ -48,15 +49,38 @@ fn look_into<F: ReadMedium, W: Output>(
     out: &mut W,
 ) -> Result<(), Refusal> {
     let mut file = opened_for(alloc, asked, medium)?;
-    let given = About::of(asked).path;
-    let path = meant(alloc, given.unwrap_or(""))?;
-    let at = given.map(|_| path.as_str());
+    look_at(alloc, asked, &mut file, out)
+}
+
+/// Shows what is asked of a file, at the path that is meant.
+fn look_at<F: ReadMedium, W: Output>(
+    alloc: Global,
+    asked: Asked<'_>,
+    file: &mut CompoundFile<F>,
+    out: &mut W,
+) -> Result<(), Refusal> {
+    match About::of(asked).path {
+        Some(given) => {
+            let path = meant(alloc, given)?;
+            show(alloc, asked, file, Some(path.as_str()), out)
+        }
+        None => show(alloc, asked, file, None, out),
+    }
+}
+
+fn show<F: ReadMedium, W: Output>(
+    alloc: Global,
+    asked: Asked<'_>,
+    file: &mut CompoundFile<F>,
+    at: Option<&str>,
+    out: &mut W,
+) -> Result<(), Refusal> {
     match asked {
-        Asked::ListAll(_) | Asked::ListAt(..) => list(alloc, &file, at, out),
-        Asked::DetailsAll(_) | Asked::DetailsAt(..) => details(alloc, &file, at, out),
-        Asked::TreeAll(_) | Asked::TreeAt(..) => tree(alloc, &file, at, out),
-        Asked::Check(_) | Asked::CheckStrict(_) => print_soundness(alloc, &file, out),
-        Asked::Cat(..) => cat(alloc, &mut file, path.as_str(), out),
+        Asked::ListAll(_) | Asked::ListAt(..) => list(alloc, file, at, out),
+        Asked::DetailsAll(_) | Asked::DetailsAt(..) => details(alloc, file, at, out),
+        Asked::TreeAll(_) | Asked::TreeAt(..) => tree(alloc, file, at, out),
+        Asked::Check(_) | Asked::CheckStrict(_) => print_soundness(alloc, file, out),
+        Asked::Cat(..) => cat(alloc, file, at.unwrap_or(""), out),
         _ => Err(Refusal::WrongWords),
     }
 }
