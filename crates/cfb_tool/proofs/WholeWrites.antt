@@ -8,7 +8,7 @@ use Rattle.cfb_rules.specs.Calls.{create_stream, refused}
 use Rattle.cfb_rules.specs.Refusal.{Refusal, invalid_input, not_sound}
 use Rattle.cfb_rules.specs.Runs.{Causes, IsStreamBroken, StreamCallRuns, StreamOnFailed, StreamRun, is_served}
 use Rattle.cfb_rules.specs.StreamCalls.{Moves, StreamCall, StreamReply, StreamSetting, StreamState, StreamStep, Write, Wrote, count, not_done, write}
-use Rattle.cfb_tool.specs.cfb_agreement.Files.{FileState, SameSetting}
+use Rattle.cfb_tool.specs.cfb_agreement.Files.{Agrees, FileState, SameSetting}
 use Rattle.cfb_tool.specs.cfb_stream_buffer.Contents.{stream_setting_of}
 use Rattle.cfb_tool.specs.cfb_stream_window.Windows.{Runs}
 use Rattle.cfb_tool.specs.cfb_path_changes.Answers.{causes_of}
@@ -73,14 +73,14 @@ module _ (can_give : MediumFault → Bool) where
   }
 
   module _ (old : OpenStream) (bytes rest : List ℕ) (now next : OpenStream) (b : IsBegun old bytes rest now) where
-    works_more : (reply : StreamReply) → IsWorkedOn now (write rest) reply next
+    works_more : (reply : StreamReply) → IsWorkedOn now (write rest) reply next → Agrees next.file
         → (first opened : FileState) (path : List ℕ) (tree : Tree) → SameSetting first opened → IsOpenSince opened path old → LendsNothing old
         → Works can_give first opened path tree old (b.calls ++ write rest ∷ []) (b.replies ++ reply ∷ []) next
-    works_more reply worked first opened path tree same since nothing =
-        works_on can_give first opened path tree same old now next b.calls b.replies (write rest) reply (b.works first opened path tree same since nothing) refl worked
+    works_more reply worked agrees first opened path tree same since nothing =
+        works_on can_give first opened path tree same old now next b.calls b.replies (write rest) reply (b.works first opened path tree same since nothing) refl worked agrees
 
-    pub begun_more : (n : ℕ) → IsWorkedOn now (write rest) (count n) next → IsBegun old bytes (drop n rest) next
-    begun_more n worked = record {
+    pub begun_more : (n : ℕ) → IsWorkedOn now (write rest) (count n) next → Agrees next.file → IsBegun old bytes (drop n rest) next
+    begun_more n worked agrees = record {
       calls = b.calls ++ write rest ∷ [];
       replies = b.replies ++ count n ∷ [];
       goes = λ others later h.
@@ -88,16 +88,16 @@ module _ (can_give : MediumFault → Bool) where
           (subst (λ (rs : List StreamReply). WritesAll bytes (b.calls ++ write rest ∷ others) rs) (sym (append_assoc {A = StreamReply} b.replies (count n ∷ []) later))
           (b.goes (write rest ∷ others) (count n ∷ later) (refl, h)));
       quiet = λ later closing. ap (λ (rs : List StreamReply). first_refusal rs closing) (append_assoc {A = StreamReply} b.replies (count n ∷ []) later) ∙ b.quiet (count n ∷ later) closing;
-      works = works_more (count n) worked;
+      works = works_more (count n) worked agrees;
     }
 
-    pub begun_refused : (refusal : Refusal) → IsWorkedOn now (write rest) (not_done refusal) next → IsWrittenWhole can_give old bytes (Some refusal) next
-    begun_refused refusal worked = record {
+    pub begun_refused : (refusal : Refusal) → IsWorkedOn now (write rest) (not_done refusal) next → Agrees next.file → IsWrittenWhole can_give old bytes (Some refusal) next
+    begun_refused refusal worked agrees = record {
       calls = b.calls ++ write rest ∷ [];
       replies = b.replies ++ not_done refusal ∷ [];
       writes = b.goes (write rest ∷ []) (not_done refusal ∷ []) (refl, refl, refl);
       tells = sym (b.quiet (not_done refusal ∷ []) None);
-      works = works_more (not_done refusal) worked;
+      works = works_more (not_done refusal) worked agrees;
     }
 
   pub begun_done : (old : OpenStream) (bytes rest : List ℕ) (now : OpenStream) → IsBegun old bytes rest now → rest ≡ [] → IsWrittenWhole can_give old bytes None now
