@@ -20,16 +20,16 @@ use Rattle.cfb_tool.proofs.cfb_volume.Settings.{setting-same}
 use Rattle.cfb_commands.proofs.Runs.{some_tree}
 
 module _ (can_give : MediumFault → Bool) (old new : FileState) (path bytes : List ℕ) where
-  stored : Agrees old → Agrees new → IsPut can_give old path bytes None new → (tree : Tree) → MeansTree new tree → HasStream (cases_of new.base) tree path bytes
-  stored agrees stands put tree means =
+  stored : Agrees old → IsPut can_give old path bytes None new → (tree : Tree) → MeansTree new tree → HasStream (cases_of new.base) tree path bytes
+  stored agrees put tree means =
       let t = some_tree old agrees in
-      let a = put.answers old t.0 (setting-same old) t.1 stands in
+      let a = put.answers old t.0 (setting-same old) t.1 put.agrees in
       let stays = run_stays can_give (setting_of old) (standing_at old t.0) (standing_at new a.0) (on_stream creates path put.calls ∷ []) (put.reply ∷ []) (standing_at new a.0, a.2, refl) in
       let kept = written_is_stored seen_as (promised can_give) (setting_of old) (standing_at old t.0) (standing_at new a.0) path bytes put.calls put.reply put.writes (sym put.tells) a.2 in
       subst (λ (u : Tree). HasStream (cases_of new.base) u path bytes)
       (Means-unique (cases_of new.base) (bytes_of new.base) a.0 tree (a.1 kept.0) (means kept.0))
       (subst (λ (cases : Cases). HasStream cases a.0 path bytes) (sym stays.setting.limits.cases) kept.1)
 
-  pub put_holds : {T : Type 0} (result : Result T Error) → Agrees old → Agrees new → IsPut can_give old path bytes (refusal_of_result result) new → OnOk result (HoldsStream new path bytes)
-  put_holds (Ok x) agrees stands put = record { holds = stored agrees stands put }
-  put_holds (Err e) agrees stands put = tt
+  pub put_holds : {T : Type 0} (result : Result T Error) → Agrees old → IsPut can_give old path bytes (refusal_of_result result) new → OnOk result (HoldsStream new path bytes)
+  put_holds (Ok x) agrees put = record { holds = stored agrees put }
+  put_holds (Err e) agrees put = tt
