@@ -1,0 +1,15 @@
+pub mod Clock
+pub mod Torn
+pub mod Files
+pub mod Mediums
+pub mod Appending
+pub mod Codec
+pub mod Contents
+pub mod Tables
+pub mod Recovering
+pub mod Since
+pub mod Committing
+pub mod Gates
+pub mod Applying
+pub mod FrameLists
+pub mod Beginning

@@ -1,0 +1,44 @@
+-- What holds of a journaled medium between its calls.
+use Rattle.std.specs.Prelude.{◌≡◌, ◌≢◌, ◌≤◌, ℕ, ◌+◌, List, [], ◌∷◌, length, take, Some, Vec}
+use Rattle.std.specs.declared.alloc.Global.{Global}
+use Rattle.std.proofs.Props.{props}
+use Rattle.cfb_journal.specs.declared.medium.Phase.{Phase}
+use Rattle.cfb_journal.specs.declared.medium.Phase.TheVariants.{Quiet, Changing, Broken}
+use Rattle.cfb_journal.specs.Disk.{Image, View}
+use Rattle.cfb_journal.specs.Journal.{applied, recovered, Restores, RestoresEither}
+use Rattle.cfb_journal.specs.Overlay.{contents, frames_from, AreBlocks}
+use Rattle.cfb_journal.specs.States.{IsQuiet, IsChanging}
+
+-- how far the change has come on the disk, as the medium knows it
+pub record IsSound (phase : Phase) (base len : ℕ) (v : View) : Type 0 where
+  pub quiet : phase ≡ Quiet → IsQuiet v
+  pub still : phase ≡ Quiet → base ≡ len
+  pub changing : phase ≡ Changing → IsChanging base v
+  pub sized : phase ≢ Broken → len ≡ length v.seen.file
+
+pub IsSound-prop : (phase : Phase) (base len : ℕ) (v : View) → IsProp (IsSound phase base len v)
+IsSound-prop phase base len v = hlevel props
+
+-- The file still has, up to its old end, what the two files stood for as they were opened; and what a crash at any moment since then left, and could
+-- not have left at the opening, stands for that.
+pub record IsSince (opened : View) (base : ℕ) (v : View) : Type 0 where
+  pub later : opened.moment ≤ v.moment
+  pub first : recovered opened.seen ≡ Some (take base v.seen.file)
+  pub each : (c : Image) → v.left_since opened.moment c → (opened.may_leave c → ⊥) → Restores (take base v.seen.file) c
+
+pub IsSince-prop : (opened : View) (base : ℕ) (v : View) → IsProp (IsSince opened base v)
+IsSince-prop opened base v = hlevel props
+
+pub AreBlocks-prop : (base at : ℕ) (table : List (List ℕ)) → IsProp (AreBlocks base at table)
+AreBlocks-prop base at [] = hlevel props
+AreBlocks-prop base at (b ∷ rest) = hlevel (props, AreBlocks-prop base (at + 4096) rest)
+
+-- the bytes that were written, in the file or not
+abbrev pub logical : List (Vec ℕ Global) → List ℕ → List ℕ
+logical blocks file = applied (frames_from 0 (contents blocks)) file
+
+-- What a crash at any moment since the opening left, and could not have left then, stands for what the two files stood for as they were opened, or
+-- for these bytes.
+pub record IsAllOrNothing (opened : View) (after : List ℕ) (v : View) : Type 0 where
+  pub each : (before : List ℕ) → recovered opened.seen ≡ Some before
+      → (c : Image) → v.left_since opened.moment c → (opened.may_leave c → ⊥) → RestoresEither before after c

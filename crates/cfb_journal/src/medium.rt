@@ -1,0 +1,339 @@
+//! A compound file of which the changes between two flushes are all or nothing.
+ghost use Rattle.std.specs.Prelude.{◌≡◌, ◌≢◌, ◌+◌, ◌*◌, ◌^◌, ◌≤◌, min, ℕ, List, length, take, IsTrue, true, false, None, Some, IfOk, IsErrOf, OnOk, OnErr, MatchResult};
+ghost use Rattle.std.proofs.Props.{props};
+ghost use Rattle.cfb_format.specs.Medium.{Rises, ReadsAt, WritesAt, FailsToWriteAt, FailsBy};
+ghost use Rattle.cfb_journal.specs.Disk.{Image, IsOpened};
+ghost use Rattle.cfb_journal.specs.Journal.{Restores, RestoresEither, recovered};
+ghost use Rattle.cfb_journal.specs.Overlay.{contents, AreBlocks};
+ghost use Rattle.cfb_journal.specs.Sound.{AreBlocks-prop, IsSince, IsSince-prop, IsSound, IsSound-prop, logical};
+ghost use Rattle.cfb_journal.specs.States.{IsChanging, IsQuiet, Looks, Meanwhile};
+ghost use Rattle.cfb_journal.specs.declared.medium.Phase.TheVariants.{Quiet, Changing, Broken};
+ghost use Rattle.cfb_journal.specs.declared.recovery.RecoveryError.TheVariants.{Damaged};
+
+use crate::disk::Disk;
+use crate::overlay::{body, overlay, serve};
+use crate::recovery::{RecoveryError, recover};
+use crate::stages::{append, begin, commit};
+use cfb_format::medium::{Medium, MediumFault, ReadMedium};
+use std::alloc::Global;
+
+/// No file is longer.
+const MAX_LENGTH: u64 = 1 << 62;
+
+/// How far a change has come.
+#[derive(Clone, Copy, Debug, PartialEq, Eq)]
+enum Phase {
+    /// Nothing is in the journal.
+    Quiet,
+    /// The file's old length is in the journal, and bytes may stand behind it.
+    Changing,
+    /// A call failed: nothing more is asked of the disk. Opening again recovers.
+    Broken,
+}
+
+/// A medium over a file and its journal. What is written between two flushes is in the file
+/// either whole or not at all, whatever the disk does: `flush` is the commit, and letting the
+/// medium go without it, or any failure before, is the way back.
+#[derive(Drop)]
+pub struct JournaledMedium<D: Disk> {
+    disk: D,
+    alloc: Global,
+    blocks: Vec<Vec<u8>>,
+    /// The length at the last flush.
+    base: u64,
+    len: u64,
+    phase: Phase,
+    /// No commit was begun since the disk was opened for this medium: what a crash left since then stands for one content.
+    is_first: bool,
+    failures: u64,
+    ghost ordered: { base ≤ len },
+    ghost small: { len ≤ 2 ^ 62 },
+    ghost few: { 4096 * length blocks.items ≤ base + 4096 },
+    ghost fits: { AreBlocks base 0 (contents blocks.items) } by { AreBlocks-prop base 0 (contents blocks.items) },
+    ghost sound: { IsTrue D.Disk.tells → IsSound phase base len (D.Disk.view disk) } by { Prim.hlevel (props, IsSound-prop) },
+    ghost since: { IsTrue D.Disk.tells → is_first ≡ true → IsSince D.Disk.opened base (D.Disk.view disk) } by { Prim.hlevel (props, IsSince-prop) },
+}
+
+impl<D: Disk> JournaledMedium<D> {
+    /// Recovers the file of this disk, and opens it.
+    ///
+    /// # Errors
+    ///
+    /// `Damaged` if the journal is none that a crash could have left; else those of the disk.
+    pub fn open(alloc: Global, disk: D) -> Result<JournaledMedium<D>, RecoveryError>
+        ensures found { IsTrue D.tells → IfOk result (λ m. recovered (D.view disk).seen
+            ≡ Some (logical m.blocks.items (D.view m.disk).seen.file)) }
+        ensures damaged { IsTrue D.tells → IsErrOf result Damaged → recovered (D.view disk).seen ≡ None }
+    {
+        recovered_medium(alloc, disk, false)
+    }
+
+    /// The same of a disk that is as it was opened, so that all crashes since then are spoken of.
+    ///
+    /// # Errors
+    ///
+    /// As `open`.
+    pub(crate) fn open_first(alloc: Global, disk: D) -> Result<JournaledMedium<D>, RecoveryError>
+        requires opened { IsTrue D.tells → IsOpened D.opened (D.view disk) }
+        ensures found { IsTrue D.tells → IfOk result (λ m. recovered (D.view disk).seen
+            ≡ Some (logical m.blocks.items (D.view m.disk).seen.file)) }
+        ensures first { IfOk result (λ m. m.is_first ≡ true) }
+        ensures damaged { IsTrue D.tells → IsErrOf result Damaged → recovered (D.view disk).seen ≡ None }
+    {
+        recovered_medium(alloc, disk, true)
+    }
+
+    /// The file of this disk, of which it is known that its journal is empty.
+    #[cfg(test)]
+    pub(crate) fn assume_open(alloc: Global, disk: D, length: u64) -> JournaledMedium<D> {
+        JournaledMedium {
+            disk,
+            alloc,
+            blocks: Vec::new(alloc),
+            base: length,
+            len: length,
+            phase: Phase::Quiet,
+            is_first: false,
+            failures: 0,
+        }
+    }
+
+    /// Whether calls are still passed on. A crash now leaves the file as of the last flush.
+    pub fn is_usable(&self) -> bool
+        ensures now { IsTrue D.tells → IsTrue result → (c : Image) → (D.view self.now.disk).may_leave c
+            → Restores (take self.now.base (D.view self.now.disk).seen.file) c }
+        ensures logical { IsTrue D.tells → IsTrue result → self.now.len
+            ≡ length (logical self.now.blocks.items (D.view self.now.disk).seen.file) }
+    {
+        self.phase != Phase::Broken
+    }
+
+    /// Whether a flush could still be made; a medium that is broken counts one failure more.
+    pub(crate) fn check(&mut self) -> Result<(), MediumFault>
+        ensures same { self.new.disk ≡ self.old.disk }
+        ensures blocks { self.new.blocks ≡ self.old.blocks }
+        ensures base { self.new.base ≡ self.old.base }
+        ensures first { self.new.is_first ≡ self.old.is_first }
+        ensures honest { MatchResult result (λ _. self.new.failures ≡ self.old.failures)
+            (FailsBy (λ _. true) self.old.failures self.new.failures) }
+    {
+        if self.phase == Phase::Broken {
+            return Err(fail(&mut self.failures, MediumFault::Flush));
+        }
+        Ok(())
+    }
+
+    /// The disk, as it stands.
+    pub fn into_disk(self) -> D
+        ensures { result ≡ self.disk }
+    {
+        let JournaledMedium {
+            disk,
+            alloc: _,
+            blocks: _,
+            base: _,
+            len: _,
+            phase: _,
+            is_first: _,
+            failures: _,
+        } = self;
+        disk
+    }
+}
+
+/// A medium over the file that the two files stand for.
+fn recovered_medium<D: Disk>(
+    alloc: Global,
+    disk: D,
+    is_first: bool,
+) -> Result<JournaledMedium<D>, RecoveryError>
+    requires opened { IsTrue D.tells → is_first ≡ true → IsOpened D.opened (D.view disk) }
+    ensures found { IsTrue D.tells → IfOk result (λ m. recovered (D.view disk).seen
+        ≡ Some (logical m.blocks.items (D.view m.disk).seen.file)) }
+    ensures first { IfOk result (λ m. m.is_first ≡ is_first) }
+    ensures damaged { IsTrue D.tells → IsErrOf result Damaged → recovered (D.view disk).seen ≡ None }
+{
+    let mut disk = disk;
+    let length = recover(alloc, &mut disk)?;
+    if length > MAX_LENGTH {
+        return Err(RecoveryError::Medium(MediumFault::Length));
+    }
+    Ok(JournaledMedium {
+        disk,
+        alloc,
+        blocks: Vec::new(alloc),
+        base: length,
+        len: length,
+        phase: Phase::Quiet,
+        is_first,
+        failures: 0,
+    })
+}
+
+/// Counts a failed call.
+fn fail(failures: &mut u64, fault: MediumFault) -> MediumFault
+    ensures fault { result ≡ fault }
+    ensures rises { Rises failures.old failures.new }
+{
+    *failures = failures.saturating_add(1);
+    fault
+}
+
+/// Begins a change, if none is on the way. At `Err` nothing more is asked of the disk.
+fn ready<D: Disk>(disk: &mut D, phase: &mut Phase, base: u64) -> Result<(), MediumFault>
+    requires quiet { IsTrue D.tells → phase.old ≡ Quiet → IsQuiet (D.view disk.old) }
+    requires still { IsTrue D.tells → phase.old ≡ Quiet → base ≡ length (D.view disk.old).seen.file }
+    requires changing { IsTrue D.tells → phase.old ≡ Changing → IsChanging base (D.view disk.old) }
+    ensures ready { OnOk result (phase.new ≡ Changing) }
+    ensures broken { OnErr result (phase.new ≡ Broken) }
+    ensures changing { IsTrue D.tells → OnOk result (IsChanging base (D.view disk.new)) }
+    ensures file { IsTrue D.tells → (D.view disk.new).seen.file ≡ (D.view disk.old).seen.file }
+    ensures any_moment { IsTrue D.tells → Meanwhile (D.view disk.old) (D.view disk.new)
+        (Restores (take base (D.view disk.old).seen.file)) }
+{
+    match *phase {
+        Phase::Quiet => {
+            *phase = Phase::Broken;
+            begin(disk, base)?;
+            *phase = Phase::Changing;
+            Ok(())
+        }
+        Phase::Changing => Ok(()),
+        Phase::Broken => Err(MediumFault::Write),
+    }
+}
+
+impl<D: Disk> ReadMedium for JournaledMedium<D> {
+    ghost tells = { D.tells };
+
+    ghost bytes = { λ m. logical m.blocks.items (D.view m.disk).seen.file };
+
+    ghost failures = { λ m. m.failures };
+
+    ghost read_faults = { λ _. true };
+
+    fn length(&mut self) -> Result<u64, MediumFault>
+        ensures same { IsTrue D.tells → (logical self.new.blocks.items (D.view self.new.disk).seen.file) ≡ (logical self.old.blocks.items (D.view self.old.disk).seen.file) }
+        ensures honest { IsTrue D.tells → MatchResult result
+            (λ n. (n ≡ length (logical self.old.blocks.items (D.view self.old.disk).seen.file)) × (self.new.failures ≡ self.old.failures))
+            (FailsBy (λ _. true) self.old.failures self.new.failures) }
+        ensures first { self.new.is_first ≡ self.old.is_first }
+    {
+        if self.phase == Phase::Broken {
+            return Err(fail(&mut self.failures, MediumFault::Length));
+        }
+        Ok(self.len)
+    }
+
+    fn read_at(&mut self, at: u64, into: &mut [u8]) -> Result<usize, MediumFault>
+        ensures bound { IfOk result (λ n. n ≤ length into.new) }
+        ensures same { IsTrue D.tells → (logical self.new.blocks.items (D.view self.new.disk).seen.file) ≡ (logical self.old.blocks.items (D.view self.old.disk).seen.file) }
+        ensures honest { IsTrue D.tells → MatchResult result (ReadsAt (λ _. true)
+            (logical self.old.blocks.items (D.view self.old.disk).seen.file) self.old.failures self.new.failures at into.new)
+            (FailsBy (λ _. true) self.old.failures self.new.failures) }
+        ensures any_moment { IsTrue D.tells → self.old.phase ≢ Broken → Meanwhile (D.view self.old.disk) (D.view self.new.disk)
+            (Restores (take self.old.base (D.view self.old.disk).seen.file)) }
+        ensures kept { IsTrue D.tells → take self.new.base (D.view self.new.disk).seen.file ≡ take self.old.base (D.view self.old.disk).seen.file }
+        ensures first { self.new.is_first ≡ self.old.is_first }
+    {
+        if self.phase == Phase::Broken {
+            return Err(fail(&mut self.failures, MediumFault::Read));
+        }
+        if into.is_empty() {
+            return Ok(0);
+        }
+        if at >= self.len {
+            return Ok(0);
+        }
+        match serve(&mut self.disk, &self.blocks, self.base, self.len, at, into) {
+            Ok(count) => Ok(count),
+            Err(fault) => Err(fail(&mut self.failures, fault)),
+        }
+    }
+}
+
+impl<D: Disk> Medium for JournaledMedium<D> {
+    ghost write_faults = { λ _. true };
+
+    fn write_at(&mut self, at: u64, from: &[u8]) -> Result<usize, MediumFault>
+        ensures bound { IfOk result (λ n. n ≤ length from.now) }
+        ensures honest { IsTrue D.tells → MatchResult result (WritesAt (λ _. true)
+            (logical self.old.blocks.items (D.view self.old.disk).seen.file) (logical self.new.blocks.items (D.view self.new.disk).seen.file) self.old.failures self.new.failures at from.now)
+            (FailsToWriteAt (λ _. true) (logical self.old.blocks.items (D.view self.old.disk).seen.file) (logical self.new.blocks.items (D.view self.new.disk).seen.file) self.old.failures self.new.failures at from.now) }
+        ensures any_moment { IsTrue D.tells → self.old.phase ≢ Broken → Meanwhile (D.view self.old.disk) (D.view self.new.disk)
+            (Restores (take self.old.base (D.view self.old.disk).seen.file)) }
+        ensures kept { IsTrue D.tells → self.old.phase ≢ Broken
+            → take self.new.base (D.view self.new.disk).seen.file ≡ take self.old.base (D.view self.old.disk).seen.file }
+        ensures first { self.new.is_first ≡ self.old.is_first }
+    {
+        if self.phase == Phase::Broken {
+            return Err(fail(&mut self.failures, MediumFault::Write));
+        }
+        if from.is_empty() {
+            return Ok(0);
+        }
+        if at > MAX_LENGTH || from.len() as u64 > MAX_LENGTH - at {
+            return Err(fail(&mut self.failures, MediumFault::Write));
+        }
+        if at < self.base {
+            return match overlay(
+                self.alloc,
+                &mut self.disk,
+                &mut self.blocks,
+                self.base,
+                at,
+                from,
+            ) {
+                Ok(count) => Ok(count),
+                Err(fault) => Err(fail(&mut self.failures, fault)),
+            };
+        }
+        if let Err(fault) = ready(&mut self.disk, &mut self.phase, self.base) {
+            return Err(fail(&mut self.failures, fault));
+        }
+        if let Err(fault) = append(&mut self.disk, self.base, at, from) {
+            self.phase = Phase::Broken;
+            return Err(fail(&mut self.failures, fault));
+        }
+        self.len = self.len.max(at + from.len() as u64);
+        Ok(from.len())
+    }
+
+    fn flush(&mut self) -> Result<(), MediumFault>
+        ensures same { IsTrue D.tells → (logical self.new.blocks.items (D.view self.new.disk).seen.file) ≡ (logical self.old.blocks.items (D.view self.old.disk).seen.file) }
+        ensures honest { IsTrue D.tells → MatchResult result
+            (λ _. self.new.failures ≡ self.old.failures)
+            (FailsBy (λ _. true) self.old.failures self.new.failures) }
+        ensures any_moment { IsTrue D.tells → self.old.phase ≢ Broken → Meanwhile (D.view self.old.disk) (D.view self.new.disk)
+            (RestoresEither (take self.old.base (D.view self.old.disk).seen.file)
+            (logical self.old.blocks.items (D.view self.old.disk).seen.file)) }
+        ensures all_or_nothing { IsTrue D.tells → self.old.is_first ≡ true → (c : Image)
+            → (D.view self.new.disk).left_since D.opened.moment c → (D.opened.may_leave c → ⊥)
+            → RestoresEither (take self.old.base (D.view self.old.disk).seen.file)
+            (logical self.old.blocks.items (D.view self.old.disk).seen.file) c }
+        ensures committed { IsTrue D.tells → OnOk result ((D.view self.new.disk).seen.file ≡ (logical self.old.blocks.items (D.view self.old.disk).seen.file)) }
+        ensures durable { IsTrue D.tells → OnOk result (IsQuiet (D.view self.new.disk)) }
+    {
+        if self.phase == Phase::Broken {
+            return Err(fail(&mut self.failures, MediumFault::Flush));
+        }
+        if self.phase == Phase::Quiet && self.blocks.is_empty() {
+            return Ok(());
+        }
+        let Ok(body) = body(self.alloc, &self.blocks) else {
+            return Err(fail(&mut self.failures, MediumFault::Memory));
+        };
+        if let Err(fault) = ready(&mut self.disk, &mut self.phase, self.base) {
+            return Err(fail(&mut self.failures, fault));
+        }
+        self.is_first = false;
+        if let Err(fault) = commit(&mut self.disk, self.base, &body) {
+            self.phase = Phase::Broken;
+            return Err(fail(&mut self.failures, fault));
+        }
+        self.blocks.clear();
+        self.base = self.len;
+        self.phase = Phase::Quiet;
+        Ok(())
+    }
+}

@@ -1,0 +1,89 @@
+//! One change of a compound file: it is made whole, or not at all.
+ghost use Rattle.std.specs.Prelude.{◌≡◌, IsTrue, true, None, Some, IfOk, IsErrOf, OnOk};
+ghost use Rattle.cfb_journal.specs.Disk.{IsOpened};
+ghost use Rattle.cfb_journal.specs.Journal.{recovered};
+ghost use Rattle.cfb_journal.specs.Sound.{IsAllOrNothing, logical};
+ghost use Rattle.cfb_journal.specs.States.{IsQuiet};
+ghost use Rattle.cfb_journal.specs.declared.recovery.RecoveryError.TheVariants.{Damaged};
+
+use crate::disk::Disk;
+use crate::medium::JournaledMedium;
+use crate::recovery::RecoveryError;
+use cfb_format::medium::{Medium, MediumFault, ReadMedium};
+use std::alloc::Global;
+
+/// A medium over a file and its journal on which a flush is no commit: whatever is done with it, the
+/// file is as it was until `commit`. Letting it go without that is the way back.
+#[derive(Drop)]
+pub struct Transaction<D: Disk> {
+    medium: JournaledMedium<D>,
+    ghost first: { medium.is_first ≡ true },
+}
+
+impl<D: Disk> Transaction<D> {
+    /// Recovers the file of this disk, and begins.
+    ///
+    /// # Errors
+    ///
+    /// `Damaged` if the journal is none that a crash could have left; else those of the disk.
+    pub fn begin(alloc: Global, disk: D) -> Result<Transaction<D>, RecoveryError>
+        requires opened { IsTrue D.tells → IsOpened D.opened (D.view disk) }
+        ensures found { IsTrue D.tells → IfOk result (λ t. recovered D.opened.seen
+            ≡ Some (logical t.medium.blocks.items (D.view t.medium.disk).seen.file)) }
+        ensures damaged { IsTrue D.tells → IsErrOf result Damaged → recovered D.opened.seen ≡ None }
+    {
+        let medium = JournaledMedium::open_first(alloc, disk)?;
+        Ok(Transaction { medium })
+    }
+
+    /// Makes the change: after `Ok` the file has all of it, on the disk. After an error, and after a
+    /// crash at any moment since the disk was opened, it has all of it or nothing of it: opening it
+    /// again shows which.
+    ///
+    /// # Errors
+    ///
+    /// Those of the disk, and `Memory`.
+    pub fn commit(self) -> (Result<(), MediumFault>, D)
+        ensures committed { IsTrue D.tells → OnOk result.0 ((D.view result.1).seen.file
+            ≡ logical self.medium.blocks.items (D.view self.medium.disk).seen.file) }
+        ensures durable { IsTrue D.tells → OnOk result.0 (IsQuiet (D.view result.1)) }
+        ensures all_or_nothing { IsTrue D.tells → IsAllOrNothing D.opened
+            (logical self.medium.blocks.items (D.view self.medium.disk).seen.file) (D.view result.1) }
+    {
+        let Transaction { medium } = self;
+        let mut medium = medium;
+        let done = medium.flush();
+        (done, medium.into_disk())
+    }
+}
+
+impl<D: Disk> ReadMedium for Transaction<D> {
+    ghost tells = { D.tells };
+
+    ghost bytes = { λ t. logical t.medium.blocks.items (D.view t.medium.disk).seen.file };
+
+    ghost failures = { λ t. t.medium.failures };
+
+    ghost read_faults = { λ _. true };
+
+    fn length(&mut self) -> Result<u64, MediumFault> {
+        self.medium.length()
+    }
+
+    fn read_at(&mut self, at: u64, into: &mut [u8]) -> Result<usize, MediumFault> {
+        self.medium.read_at(at, into)
+    }
+}
+
+impl<D: Disk> Medium for Transaction<D> {
+    ghost write_faults = { λ _. true };
+
+    fn write_at(&mut self, at: u64, from: &[u8]) -> Result<usize, MediumFault> {
+        self.medium.write_at(at, from)
+    }
+
+    /// Tells whether the transaction can still be committed. Nothing is brought to the file.
+    fn flush(&mut self) -> Result<(), MediumFault> {
+        self.medium.check()
+    }
+}
