@@ -206,8 +206,7 @@ impl<A: Allocator> Window<A> {
         into: &mut [u8],
     ) -> Result<usize, Error>
         requires there { C.has content.old id }
-        ensures open { StaysOpen C.ReadContents content.old id self.old result content.new self.new
-            }
+        ensures open { StaysOpen C.ReadContents content.old id self.old result content.new self.new }
         ensures most { IfOk result (λ n. n ≤ length into.new) }
         ensures rest { IfOk result (λ n. drop n into.new ≡ drop n into.old) }
         ensures runs { IsOpen C.ReadContents content.old id self.old
@@ -257,8 +256,7 @@ impl<A: Allocator> Window<A> {
     /// It is refused as `read` is.
     pub fn fill<C: Contents>(&mut self, content: &mut C, id: u32) -> Result<(), Error>
         requires there { C.has content.old id }
-        ensures open { StaysOpen C.ReadContents content.old id self.old result content.new self.new
-            }
+        ensures open { StaysOpen C.ReadContents content.old id self.old result content.new self.new }
         ensures runs { IsOpen C.ReadContents content.old id self.old
             → OnOk result (RunsOn C.ReadContents C.Contents.own content.old id self.old fill_buf
             (got (drop self.new.cursor self.new.filled)) content.new self.new) }
@@ -302,8 +300,7 @@ impl<A: Allocator> Window<A> {
         to: SeekFrom,
     ) -> Result<u64, Error>
         requires there { C.has content.old id }
-        ensures open { StaysOpen C.ReadContents content.old id self.old result content.new self.new
-            }
+        ensures open { StaysOpen C.ReadContents content.old id self.old result content.new self.new }
         ensures runs { IsOpen C.ReadContents content.old id self.old
             → IfOk result (λ at. RunsOn C.ReadContents C.Contents.own content.old id self.old
             (seek (whence_of to)) (offset at) content.new self.new) }
@@ -481,8 +478,7 @@ impl<A: Allocator> Window<A> {
         into: &mut Vec<u8, B>,
     ) -> Result<usize, Error>
         requires there { C.has content.old id }
-        ensures open { StaysOpen C.ReadContents content.old id self.old result content.new self.new
-            }
+        ensures open { StaysOpen C.ReadContents content.old id self.old result content.new self.new }
         ensures appends { IfOk result (λ n. (length into.new.items ≡ length into.old.items + n)
             × (into.new.items ≡ into.old.items ++ drop (length into.old.items) into.new.items)) }
         ensures nothing { OnErr result (into.new.items ≡ into.old.items) }

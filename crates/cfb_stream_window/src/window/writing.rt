@@ -31,8 +31,7 @@ impl<A: Allocator> Window<A> {
         bytes: &[u8],
     ) -> Result<usize, Error>
         requires there { C.has content.old id }
-        ensures open { StaysOpen C.ReadContents content.old id self.old result content.new self.new
-            }
+        ensures open { StaysOpen C.ReadContents content.old id self.old result content.new self.new }
         ensures most { IfOk result (λ n. n ≤ length bytes.now) }
         ensures runs { IsOpen C.ReadContents content.old id self.old
             → IfOk result (λ n. RunsOn C.ReadContents C.Contents.own content.old id self.old
@@ -251,8 +250,7 @@ impl<A: Allocator> Window<A> {
     /// has changed then, or the length is longer, bytes were pending behind the end, and the file has failed.
     pub fn set_len<C: Contents>(&mut self, content: &mut C, id: u32, len: u64) -> Result<(), Error>
         requires there { C.has content.old id }
-        ensures open { StaysOpen C.ReadContents content.old id self.old result content.new self.new
-            }
+        ensures open { StaysOpen C.ReadContents content.old id self.old result content.new self.new }
         ensures runs { IsOpen C.ReadContents content.old id self.old
             → OnOk result (RunsSettingLen C.ReadContents C.Contents.own
             content.old id self.old len content.new self.new) }

@@ -5,15 +5,17 @@ use Rattle.cfb_mini_table.proofs.FreedLemmas.{cut-count, cut-listed, cut-can, cu
 use Rattle.cfb_mini_table.proofs.mini_table.MiniTable.cut_behind.Goals as goal
 
 pub returns-then-is_empty : goal.returns-then-is_empty
-returns-then-is_empty g c = record { given_back = record {
-  freed = (
-      let list = c.args.list.now in
-      let none : length list ≡ 0 = omega (arith, eqb-true (length list) 0 (sym c.is_empty.ensures ∙ c.if-is_empty.true)) in
-      cut-none c.args.self.now.minifat list c.args.last c.requires.chain none
-  );
-  prepared = first_of (search rules, grind (arith, common_steps));
-  rest = first_of (search rules, grind (arith, common_steps));
-} }
+returns-then-is_empty g c = record {
+  given_back = record {
+    freed = (
+        let list = c.args.list.now in
+        let none : length list ≡ 0 = omega (arith, eqb-true (length list) 0 (sym c.is_empty.ensures ∙ c.if-is_empty.true)) in
+        cut-none c.args.self.now.minifat list c.args.last c.requires.chain none
+        );
+    prepared = first_of (search rules, grind (arith, common_steps));
+    rest = first_of (search rules, grind (arith, common_steps));
+  };
+}
 
 pub give_back-dropped-requires-clause-listed : goal.give_back-dropped-requires-clause-listed
 give_back-dropped-requires-clause-listed g c =
@@ -34,25 +36,27 @@ invariant_of-self g c =
     b.new.minifat.items b.new.free.items b.result b.ensures.minifat b.ensures.listed b.ensures.free b.ensures.counted)
 
 pub returns : goal.returns
-returns g c = record { given_back = record {
-  freed = (
-      let s = c.self.inside in
-      let list = c.args.list.now in
-      let b = c.give_back-dropped in
-      let some : 0 < length list = omega (arith, eqb-false (length list) 0 (sym c.is_empty.ensures ∙ c.if-is_empty.false)) in
-      rw (← c.self.view_is)
-      (cut-is s.limit s.minifat.items list s.free.items c.args.last s.unused _ c.self.invariant (rw (← c.self.view_is) at c.requires.below) (rw (← c.self.view_is) at c.requires.chain)
-      b.new.minifat.items b.result some b.ensures.minifat b.ensures.counted (omega (arith, b.ensures.len, b.new.minifat.ok.0, s.minifat.ok.0)))
-  );
-  prepared = λ count p. (
-      let s = c.self.inside in
-      let b = c.give_back-dropped in
-      let q = rw (← c.self.view_is) at p in
-      let same = cut-count s.limit s.minifat.items c.args.list.now s.free.items c.args.last s.unused _ c.self.invariant (rw (← c.self.view_is) at c.requires.below) (rw (← c.self.view_is) at c.requires.chain) in
-      record {
-        held = omega (arith, q.held, same, b.ensures.counted, b.ensures.len, b.ensures.capacity, b.ensures.free_capacity, b.new.minifat.ok.0, s.minifat.ok.0);
-        enough = omega (arith, q.enough, same, b.ensures.counted, b.ensures.len, b.new.minifat.ok.0, s.minifat.ok.0);
-      }
-  );
-  rest = first_of (search rules, grind (arith, common_steps));
-} }
+returns g c = record {
+  given_back = record {
+    freed = (
+        let s = c.self.inside in
+        let list = c.args.list.now in
+        let b = c.give_back-dropped in
+        let some : 0 < length list = omega (arith, eqb-false (length list) 0 (sym c.is_empty.ensures ∙ c.if-is_empty.false)) in
+        rw (← c.self.view_is)
+        (cut-is s.limit s.minifat.items list s.free.items c.args.last s.unused _ c.self.invariant (rw (← c.self.view_is) at c.requires.below) (rw (← c.self.view_is) at c.requires.chain)
+        b.new.minifat.items b.result some b.ensures.minifat b.ensures.counted (omega (arith, b.ensures.len, b.new.minifat.ok.0, s.minifat.ok.0)))
+        );
+    prepared = λ count p. (
+        let s = c.self.inside in
+        let b = c.give_back-dropped in
+        let q = rw (← c.self.view_is) at p in
+        let same = cut-count s.limit s.minifat.items c.args.list.now s.free.items c.args.last s.unused _ c.self.invariant (rw (← c.self.view_is) at c.requires.below) (rw (← c.self.view_is) at c.requires.chain) in
+        record {
+          held = omega (arith, q.held, same, b.ensures.counted, b.ensures.len, b.ensures.capacity, b.ensures.free_capacity, b.new.minifat.ok.0, s.minifat.ok.0);
+          enough = omega (arith, q.enough, same, b.ensures.counted, b.ensures.len, b.new.minifat.ok.0, s.minifat.ok.0);
+        }
+        );
+    rest = first_of (search rules, grind (arith, common_steps));
+  };
+}

@@ -27,17 +27,19 @@ cut_behind-requires-clause-chain g c =
     subst (IsChain t (value t (slice_index list (left - 1)))) (sym (rest-is list left)) (behind-is list left some c.requires.fewer t (first_or_end list) c.requires.chain)
 
 pub returns : goal.returns
-returns g c = record { given_back = record {
-  freed = (
-      let t = c.args.self.now.minifat in
-      let list = c.args.list.now in
-      let left = c.args.left in
-      let new = c.cut_behind.new.self.minifat in
-      let some : 0 < left = omega (arith, c.if-left-eq0.false) in
-      let ends = left-ends t list left some c.requires.fewer c.requires.chain in
-      subst (λ (z : List ℕ). MiniGivesBack z (drop left list) t new) (sym ends)
-      (subst (λ (z : List ℕ). MiniGivesBack (slice_index list (left - 1) ∷ []) z t new) (rest-is list left) c.cut_behind.ensures.given_back.freed)
-  );
-  prepared = first_of (search rules, grind (arith, common_steps));
-  rest = first_of (search rules, grind (arith, common_steps));
-} }
+returns g c = record {
+  given_back = record {
+    freed = (
+        let t = c.args.self.now.minifat in
+        let list = c.args.list.now in
+        let left = c.args.left in
+        let new = c.cut_behind.new.self.minifat in
+        let some : 0 < left = omega (arith, c.if-left-eq0.false) in
+        let ends = left-ends t list left some c.requires.fewer c.requires.chain in
+        subst (λ (z : List ℕ). MiniGivesBack z (drop left list) t new) (sym ends)
+        (subst (λ (z : List ℕ). MiniGivesBack (slice_index list (left - 1) ∷ []) z t new) (rest-is list left) c.cut_behind.ensures.given_back.freed)
+        );
+    prepared = first_of (search rules, grind (arith, common_steps));
+    rest = first_of (search rules, grind (arith, common_steps));
+  };
+}

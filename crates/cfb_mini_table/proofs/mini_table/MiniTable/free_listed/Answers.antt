@@ -8,16 +8,18 @@ use Rattle.cfb_mini_table.proofs.mini_table.MiniTable.free_listed.Goals as goal
 use Rattle.cfb_format.proofs.Members.{Contains-nil}
 
 pub returns-then-is_empty : goal.returns-then-is_empty
-returns-then-is_empty g c = record { given_back = record {
-  freed = (
-      let list = c.args.list.now in
-      let old = c.args.self.now.minifat in
-      let empty : list ≡ [] = nil_from_length list (omega (arith, eqb-true (length list) 0 (sym c.is_empty.ensures ∙ c.if-is_empty.true))) in
-      subst (λ (z : List ℕ). MiniGivesBack [] z old old) (sym empty) (gives-none [] old (λ i m. absurd (Contains-nil i m)))
-  );
-  prepared = first_of (search rules, grind (arith, common_steps));
-  rest = first_of (search rules, grind (arith, common_steps));
-} }
+returns-then-is_empty g c = record {
+  given_back = record {
+    freed = (
+        let list = c.args.list.now in
+        let old = c.args.self.now.minifat in
+        let empty : list ≡ [] = nil_from_length list (omega (arith, eqb-true (length list) 0 (sym c.is_empty.ensures ∙ c.if-is_empty.true))) in
+        subst (λ (z : List ℕ). MiniGivesBack [] z old old) (sym empty) (gives-none [] old (λ i m. absurd (Contains-nil i m)))
+        );
+    prepared = first_of (search rules, grind (arith, common_steps));
+    rest = first_of (search rules, grind (arith, common_steps));
+  };
+}
 
 pub invariant_of-self : goal.invariant_of-self
 invariant_of-self g c =
@@ -29,24 +31,26 @@ invariant_of-self g c =
     m.short m.limited (rw (← c.self.view_is) at c.requires.busy) b.ensures.minifat b.ensures.listed b.ensures.free b.ensures.counted m.counted m.table_places m.free_places)
 
 pub returns : goal.returns
-returns g c = record { given_back = record {
-  freed = (
-      let s = c.self.inside in
-      let list = c.args.list.now in
-      let b = c.give_back-dropped in
-      let some : 0 < length list = omega (arith, eqb-false (length list) 0 (sym c.is_empty.ensures ∙ c.if-is_empty.false)) in
-      rw (← c.self.view_is)
-      (freed-is s.minifat.items list b.new.minifat.items b.result some (rw (← c.self.view_is) at c.requires.busy) b.ensures.minifat b.ensures.counted
-      (omega (arith, b.ensures.len, b.new.minifat.ok.0, s.minifat.ok.0)))
-  );
-  prepared = λ count p. (
-      let s = c.self.inside in
-      let b = c.give_back-dropped in
-      let q = rw (← c.self.view_is) at p in
-      record {
-        held = omega (arith, q.held, b.ensures.counted, b.ensures.len, b.ensures.capacity, b.ensures.free_capacity, b.new.minifat.ok.0, s.minifat.ok.0);
-        enough = omega (arith, q.enough, b.ensures.counted, b.ensures.len, b.new.minifat.ok.0, s.minifat.ok.0);
-      }
-  );
-  rest = first_of (search rules, grind (arith, common_steps));
-} }
+returns g c = record {
+  given_back = record {
+    freed = (
+        let s = c.self.inside in
+        let list = c.args.list.now in
+        let b = c.give_back-dropped in
+        let some : 0 < length list = omega (arith, eqb-false (length list) 0 (sym c.is_empty.ensures ∙ c.if-is_empty.false)) in
+        rw (← c.self.view_is)
+        (freed-is s.minifat.items list b.new.minifat.items b.result some (rw (← c.self.view_is) at c.requires.busy) b.ensures.minifat b.ensures.counted
+        (omega (arith, b.ensures.len, b.new.minifat.ok.0, s.minifat.ok.0)))
+        );
+    prepared = λ count p. (
+        let s = c.self.inside in
+        let b = c.give_back-dropped in
+        let q = rw (← c.self.view_is) at p in
+        record {
+          held = omega (arith, q.held, b.ensures.counted, b.ensures.len, b.ensures.capacity, b.ensures.free_capacity, b.new.minifat.ok.0, s.minifat.ok.0);
+          enough = omega (arith, q.enough, b.ensures.counted, b.ensures.len, b.new.minifat.ok.0, s.minifat.ok.0);
+        }
+        );
+    rest = first_of (search rules, grind (arith, common_steps));
+  };
+}

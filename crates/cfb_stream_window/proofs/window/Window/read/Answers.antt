@@ -75,7 +75,7 @@ returns-clause-open g c = record {
         limit = k.limit;
         sound = k.sound;
       }
-  );
+      );
   bound = first_of (search rules, grind (arith, common_steps));
 }
 

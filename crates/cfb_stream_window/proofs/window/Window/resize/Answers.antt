@@ -65,5 +65,5 @@ returns-in_err-settle-clause-writes g c = record {
         counts = subst (λ (m : ℕ). CountsError (faults_of g.C.ReadContents g.C.Contents) m (g.C.ReadContents.failures c.settle.new.content) c.in_err-settle.field-0.0) (e.counts told) out.counts;
         stays = λ calm. absurd (let w : true ≡ false = sym q.lost ∙ calm in cc);
       })
-  );
+      );
 }

@@ -110,7 +110,7 @@ returns-clause-open g c = record {
       (omega (arith, length-take {A = ℕ} n (take most bytes), length-take {A = ℕ} most bytes)) (take-take n most bytes within) c.keep.ensures.inside
       (omega (arith, k.place)) c.keep.ensures.window in
       record { is_open = record { told = (had.writes.around h.told).told; suits = λ _. a }; limit = k.limit; sound = k.sound }
-  );
+      );
   bound = first_of (search rules, grind (arith, common_steps));
 }
 
