@@ -1,0 +1,6 @@
+//! Streams that are read, written and copied whole, each by one call.
+#![tactic(auto)]
+
+pub mod copying;
+pub mod reading;
+pub mod writing;
