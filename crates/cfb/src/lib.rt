@@ -2,10 +2,11 @@
 //! storages and streams below it, a stream has bytes, and a path like `/storage/stream` leads to an object.
 //!
 //! **Where to start.** `open`, `open_rw`, `create` take a path of the system; `CompoundFile::{open, create}` any medium, as a `MemoryMedium`
-//! or a `SliceMedium`. `open_read_stream` and `create_stream` give a stream with std's `Read`, `BufRead`, `Seek` and `Write`. `walk`, `entry`
-//! and `read_storage` tell what is there. The crate `cfb_example` goes there and back.
+//! or a `SliceMedium`. `read_stream`, `write_stream` and `copy_stream` do a stream whole; `open_read_stream` and `create_stream` give one with
+//! std's `Read`, `BufRead`, `Seek` and `Write`. `walk`, `entry` and `read_storage` tell what is there. The crate `cfb_tasks` has ten short
+//! examples, and `cfb_example` one that goes there and back.
 //!
-//! **Errors.** A call answers `Error`, which `std_error` turns into an `io::Error`. What was refused by the rules has changed nothing; where the
+//! **Errors.** A call answers `Error`, which `?` turns into an `io::Error`. What was refused by the rules has changed nothing; where the
 //! medium, memory or numbers refuse in the midst of a change, `is_failed` tells whether the file takes no more changes.
 //!
 //! **What is proved** stands in the clauses of each function (`docs/CLAIMS.md`), and `laws` has what follows from them. Sizes, lengths and
@@ -36,9 +37,12 @@ pub use cfb_format::validate::Validation;
 pub use cfb_format::version::Version;
 pub use cfb_listing::entries::Entries;
 pub use cfb_listing::entry::Entry;
+pub use cfb_shown::moments::to_iso;
 pub use cfb_slices::seek::SeekMedium;
 pub use cfb_slices::slice::SliceMedium;
 pub use cfb_std_streams::kinds::{std_error, std_kind};
+pub use cfb_whole_streams::content::{read_stream, write_stream};
+pub use cfb_whole_streams::copying::copy_stream;
 
 /// What follows from what the calls promise. None of these functions does anything: each has laws as its contract.
 pub mod laws {

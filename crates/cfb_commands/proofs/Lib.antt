@@ -23,3 +23,4 @@ pub mod Calls
 pub mod Fitting
 pub mod Faults
 pub mod Failing
+pub mod Cloned

@@ -2,7 +2,7 @@
 use cfb_codecs::timestamp::Timestamp;
 use cfb_format::error::Error;
 use cfb_listing::entry::Entry as Told;
-use std::alloc::{Allocator as Heap, Global};
+use std::alloc::{AllocError, Allocator as Heap, Global};
 use std::io::SeekFrom;
 use uuid::Uuid;
 
@@ -18,7 +18,7 @@ pub enum Opening {
 }
 
 /// What is done with an open stream. Lengths and places are in bytes.
-#[derive(Drop)]
+#[derive(Debug, PartialEq, Drop)]
 pub enum StreamOp<A: Heap = Global> {
     /// At most so many bytes are read from the position on.
     Read(usize),
@@ -38,8 +38,30 @@ pub enum StreamOp<A: Heap = Global> {
     Len,
 }
 
+impl<A: Heap + Clone> Clone for StreamOp<A> {
+    ghost use Rattle.std.specs.Prelude.{◌≡◌};
+    ghost use Rattle.cfb_commands.specs.Commands.{stream_call_of};
+
+    ghost is_clone = { λ old new. stream_call_of new ≡ stream_call_of old };
+
+    /// The same operation, with memory of its own.
+    #[tactic(auto, using(std::specs::List::each_same))]
+    fn clone(&self) -> Result<StreamOp<A>, AllocError> {
+        match self {
+            StreamOp::Read(wanted) => Ok(StreamOp::Read(*wanted)),
+            StreamOp::ReadToEnd => Ok(StreamOp::ReadToEnd),
+            StreamOp::Write(bytes) => Ok(StreamOp::Write(bytes.clone()?)),
+            StreamOp::Seek(to) => Ok(StreamOp::Seek(*to)),
+            StreamOp::SetLen(len) => Ok(StreamOp::SetLen(*len)),
+            StreamOp::Flush => Ok(StreamOp::Flush),
+            StreamOp::Position => Ok(StreamOp::Position),
+            StreamOp::Len => Ok(StreamOp::Len),
+        }
+    }
+}
+
 /// A call of `CompoundFile`, by its name and with its arguments; or what is done with one stream, from its opening to its closing.
-#[derive(Drop)]
+#[derive(Debug, PartialEq, Drop)]
 pub enum Command<A: Heap = Global> {
     /// `create_storage`: the path, and the new storage's moment.
     CreateStorage(String<A>, Timestamp),
@@ -79,8 +101,59 @@ pub enum Command<A: Heap = Global> {
     Stream(Opening, String<A>, Vec<StreamOp<A>, A>),
 }
 
+impl<A: Heap + Clone> Clone for Command<A> {
+    ghost use Rattle.std.specs.Prelude.{◌≡◌};
+    ghost use Rattle.cfb_commands.specs.Commands.{command_of};
+
+    ghost is_clone = { λ old new. command_of new ≡ command_of old };
+
+    /// The same command, with memory of its own.
+    #[tactic(auto, using(crate::proofs::Cloned::same_calls))]
+    fn clone(&self) -> Result<Command<A>, AllocError> {
+        match self {
+            Command::CreateStorage(path, moment) => Ok(Command::CreateStorage(
+                path.clone()?,
+                *moment,
+            )),
+            Command::CreateStorageAll(path, moment) => Ok(Command::CreateStorageAll(
+                path.clone()?,
+                *moment,
+            )),
+            Command::RemoveStorage(path) => Ok(Command::RemoveStorage(path.clone()?)),
+            Command::RemoveStorageAll(path) => Ok(Command::RemoveStorageAll(path.clone()?)),
+            Command::RemoveStream(path) => Ok(Command::RemoveStream(path.clone()?)),
+            Command::SetStorageClsid(path, clsid) => Ok(Command::SetStorageClsid(
+                path.clone()?,
+                *clsid,
+            )),
+            Command::SetStateBits(path, bits) => Ok(Command::SetStateBits(path.clone()?, *bits)),
+            Command::SetCreatedTime(path, moment) => Ok(Command::SetCreatedTime(
+                path.clone()?,
+                *moment,
+            )),
+            Command::SetModifiedTime(path, moment) => Ok(Command::SetModifiedTime(
+                path.clone()?,
+                *moment,
+            )),
+            Command::Touch(path, moment) => Ok(Command::Touch(path.clone()?, *moment)),
+            Command::Flush => Ok(Command::Flush),
+            Command::Exists(path) => Ok(Command::Exists(path.clone()?)),
+            Command::IsStream(path) => Ok(Command::IsStream(path.clone()?)),
+            Command::IsStorage(path) => Ok(Command::IsStorage(path.clone()?)),
+            Command::Entry(path) => Ok(Command::Entry(path.clone()?)),
+            Command::ReadStorage(path) => Ok(Command::ReadStorage(path.clone()?)),
+            Command::WalkStorage(path) => Ok(Command::WalkStorage(path.clone()?)),
+            Command::Stream(how, path, ops) => Ok(Command::Stream(
+                *how,
+                path.clone()?,
+                ops.clone()?,
+            )),
+        }
+    }
+}
+
 /// What one operation on an open stream answers.
-#[derive(Drop)]
+#[derive(Debug, PartialEq, Drop)]
 pub enum StreamReply<A: Heap = Global> {
     /// To `Read` and `ReadToEnd`: the bytes.
     Bytes(Result<Vec<u8, A>, Error>),
@@ -93,7 +166,7 @@ pub enum StreamReply<A: Heap = Global> {
 }
 
 /// What one command answers.
-#[derive(Drop)]
+#[derive(Debug, Drop)]
 pub enum Reply<A: Heap = Global> {
     /// To a call that changes the file, and to `Flush`.
     Done(Result<(), Error>),

@@ -2,6 +2,7 @@
 #![tactic(auto)]
 
 pub mod laws;
+pub mod moments;
 pub mod rows;
 pub mod table;
 pub mod tree;
