@@ -10,3 +10,4 @@ pub mod PlacedBytes
 pub mod PlacedChains
 pub mod ChainRuns
 pub mod Sparing
+pub mod PutBehind

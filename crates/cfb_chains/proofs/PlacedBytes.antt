@@ -61,6 +61,21 @@ gained_member v ids more k low high =
     let right : slice_index (ids ++ more) q ≡ slice_index more (q - length ids) = get_or-append_right ids more (length ids) q 0 refl from in
     subst (Contains more) (sym right) (Contains-get_or more (q - length ids) 0 there)
 
+gained_at : (v : Version) (m j : ℕ) → ((m * sector_len v + j) / sector_len v ≡ m + j / sector_len v) × ((m * sector_len v + j) % sector_len v ≡ j % sector_len v)
+gained_at V3 m j = (omega arith, omega arith)
+gained_at V4 m j = (omega arith, omega arith)
+
+-- a byte behind those of the sectors that were there is one of the gained ones
+pub gained_place : (v : Version) (ids more : List ℕ) (j : ℕ) → place_along v (ids ++ more) (length ids * sector_len v + j) ≡ place_along v more j
+gained_place v ids more j =
+    let m = length ids in
+    let q = j / sector_len v in
+    let index = gained_at v m j in
+    let right : slice_index (ids ++ more) (m + q) ≡ slice_index more (m + q - m) = get_or-append_right ids more m (m + q) 0 refl (omega arith) in
+    let less : m + q - m ≡ q = omega arith in
+    (λ i. sector_start v (slice_index (ids ++ more) (index.0 i)) + index.1 i)
+    ∙ ap (λ x. sector_start v x + j % sector_len v) (right ∙ ap (slice_index more) less)
+
 fresh_there : (v : Version) (init : SectorInit) (b ids more : List ℕ) (k : ℕ) → ((i : ℕ) → Contains more i → IsAsFilled v init b i)
     → length ids * sector_len v ≤ k → k < length (ids ++ more) * sector_len v
     → (place_along v (ids ++ more) k < length b) × (slice_index b (place_along v (ids ++ more) k) ≡ slice_index (init_bytes v init) (k % sector_len v))

@@ -6,6 +6,8 @@ ghost use Rattle.cfb_format.specs.Chain.{IsChain, chain_from, value};
 ghost use Rattle.cfb_format.specs.Content.{place_in_chain, placed_from};
 ghost use Rattle.cfb_format.specs.Medium.{ChangesOnlyBytes, part, written};
 ghost use Rattle.cfb_format.specs.Refused.{AfterMedium, CountsFailure, IsInvalidData, IsInvalidInput};
+ghost use Rattle.cfb_runs.specs.cfb_table_words.Along.{AreFilledFrom};
+ghost use Rattle.cfb_chains.specs.cfb_alloc.Agreement.{KeepsSectors};
 ghost use Rattle.cfb_chains.specs.cfb_alloc.Alloc.{ChangesSectors, HoldsTables, IsAsFilled, IsUsable, OthersStay, OthersStayBut};
 ghost use Rattle.cfb_chains.specs.cfb_tables.Clean.{IsUnnamed};
 ghost use Rattle.cfb_sectors.specs.Sectors.{copies, init_bytes, IsMediumError, IsRaised, SectorStays};
@@ -349,7 +351,7 @@ impl<'a, F: Medium, A: Heap> Chain<'a, F, A> {
 }
 
 impl<'a, F: Medium, A: Heap + Clone> Chain<'a, F, A> {
-    ghost use Rattle.cfb_chains.specs.LentChain.{allocator_of, start_sector_of, ids_of, init_of, version_of, len_of, position_of, missing_of, wanted_of, HasGained, HasTurned, IsAsBefore, HasAllSectors, content_of, HasBytes, HoldsWanted, HasWritten, HasResized};
+    ghost use Rattle.cfb_chains.specs.LentChain.{allocator_of, start_sector_of, ids_of, init_of, version_of, len_of, position_of, missing_of, wanted_of, HasGained, HasTurned, IsAsBefore, HasAllSectors, content_of, HasBytes, HoldsWanted, HasWritten, HasResized, left_of};
 
     /// Frees its sectors: then it has none. Where it had none nothing changes.
     ///
@@ -397,7 +399,7 @@ impl<'a, F: Medium, A: Heap + Clone> Chain<'a, F, A> {
     /// Where sectors are missing: `InvalidData` where the FAT sectors do not cover the file, `Full` where fewer numbers are left than
     /// the missing sectors and the table sectors that they need, and `Memory`: nothing has changed then. `Medium` where the medium
     /// fails: then it has gained the sectors in memory, and no byte has changed but in the sectors where `from` was to stand, in table
-    /// sectors and in sectors that were free.
+    /// sectors and in sectors that were free; and the gained sectors hold what was to stand there, or no FAT sector has changed.
     pub fn write(&mut self, from: &[u8]) -> Result<usize, Error>
         ensures same_allocator { (allocator_of self.new).ghost_name
             ≡ (allocator_of self.old).ghost_name }
@@ -440,7 +442,7 @@ impl<'a, F: Medium, A: Heap + Clone> Chain<'a, F, A> {
             (ids_of self.old) (allocator_of self.old).now (allocator_of self.new).now }
         ensures spares { IsTrue F.tells
             → Spares (ids_of self.old) (allocator_of self.old).now (allocator_of self.new).now }
-        ensures there { IsTrue F.tells → IfOk result (λ n. 0 < n → part
+        ensures there { IsTrue F.tells → IfOk result (λ n. 0 < n → n ≤ left_of self.old → part
             (allocator_of self.new).now.file.bytes (sector_start (version_of self.old) (slice_index
             (ids_of self.new) (position_of self.old / sector_len (version_of self.old)))
             + position_of self.old % sector_len (version_of self.old)) n ≡ take n from.now) }
@@ -454,6 +456,13 @@ impl<'a, F: Medium, A: Heap + Clone> Chain<'a, F, A> {
             → ⊥) (IsTooFew
             (allocator_of self.old).now.tables (missing_of self.old (length from.now))) Unit) }
         ensures needed { missing_of self.old (length from.now) ≡ 0 → IfErr result IsMediumError }
+        ensures ordered { IsTrue F.tells
+            → (validation : Validation) → HoldsTables validation (allocator_of self.old).now
+            → IfErr result (λ _. AreFilledFrom (version_of self.old) (init_of self.old)
+            (drop (left_of self.old) from.now) (allocator_of self.new).now.file.bytes
+            (gained (ids_of self.old) (ids_of self.new))
+            ⊎ KeepsSectors (version_of self.old) (allocator_of self.old).now.tables.fat_sectors
+            (allocator_of self.old).now.file.bytes (allocator_of self.new).now.file.bytes) }
         ensures counts { IsTrue F.tells → CountsFailure F.write_faults result
             (allocator_of self.old).now.file.failures (allocator_of self.new).now.file.failures }
     {
@@ -461,8 +470,12 @@ impl<'a, F: Medium, A: Heap + Clone> Chain<'a, F, A> {
         if missing == 0 {
             return self.write_within(from);
         }
-        self.grow(missing)?;
-        self.write_within(from)
+        let left = self.left() as usize;
+        self.grow_from(missing, &from[left..])?;
+        let written = self.write_within(&from[..left])?;
+        let count = reached(written, left, from.len());
+        self.position += (count - written) as u64;
+        Ok(count)
     }
 
     /// Lets the chain have the sectors that so many bytes need: it gains those that are missing, or those behind are freed. Where it
@@ -601,12 +614,60 @@ impl<'a, F: Medium, A: Heap + Clone> Chain<'a, F, A> {
         ensures counts { IsTrue F.tells → CountsFailure F.write_faults result
             (allocator_of self.old).now.file.failures (allocator_of self.new).now.file.failures }
     {
+        self.grow_from(count, &[])
+    }
+
+    /// Adds so many sectors at its end, which hold these bytes, and behind them what fresh ones do: all of them or none. After `Medium`
+    /// it has them in memory, and either they hold all of it or the FAT sectors have not changed; after any other error nothing has
+    /// changed.
+    fn grow_from(&mut self, count: usize, from: &[u8]) -> Result<(), Error>
+        requires fits { length from.now ≤ count * sector_len (version_of self.old) }
+        ensures same_allocator { (allocator_of self.new).ghost_name
+            ≡ (allocator_of self.old).ghost_name }
+        ensures init { init_of self.new ≡ init_of self.old }
+        ensures version { version_of self.new ≡ version_of self.old }
+        ensures ids { OnOk result (ids_of self.new
+            ≡ ids_of self.old ++ gained (ids_of self.old) (ids_of self.new)) }
+        ensures count { OnOk result (length (gained (ids_of self.old) (ids_of self.new)) ≡ count) }
+        ensures position { position_of self.new ≡ position_of self.old }
+        ensures taken { OnOk result
+            (HasTaken (allocator_of self.old).now.tables (allocator_of self.new).now.tables
+            (ending (last_or_end (ids_of self.old))) (gained (ids_of self.old) (ids_of self.new))) }
+        ensures put { IsTrue F.tells
+            → (validation : Validation) → HoldsTables validation (allocator_of self.old).now
+            → OnOk result (AreFilledFrom (version_of self.new) (init_of self.old) from.now
+            (allocator_of self.new).now.file.bytes (gained (ids_of self.old) (ids_of self.new))) }
+        ensures ordered { IsTrue F.tells
+            → (validation : Validation) → HoldsTables validation (allocator_of self.old).now
+            → IfErr result (λ _. AreFilledFrom (version_of self.new) (init_of self.old) from.now
+            (allocator_of self.new).now.file.bytes (gained (ids_of self.old) (ids_of self.new))
+            ⊎ KeepsSectors (version_of self.old) (allocator_of self.old).now.tables.fat_sectors
+            (allocator_of self.old).now.file.bytes (allocator_of self.new).now.file.bytes) }
+        ensures holds { IsTrue F.tells
+            → (validation : Validation) → HoldsTables validation (allocator_of self.old).now
+            → OnOk result (HoldsTables validation (allocator_of self.new).now) }
+        ensures others { IsTrue F.tells
+            → OthersStay (allocator_of self.old).now (allocator_of self.new).now }
+        ensures enough { OnOk result (IsTooFew (allocator_of self.old).now.tables count → ⊥) }
+        ensures refused { IfErr result (ListBreaksOff (Lengthens count) (ids_of self.old)
+            (ids_of self.new) (allocator_of self.old).now (allocator_of self.new).now) }
+        ensures spares { IsTrue F.tells
+            → Spares (ids_of self.old) (allocator_of self.old).now (allocator_of self.new).now }
+        ensures err { IfErr result (ChangeRefused (IsUsable (allocator_of self.old).now.tables
+            → ⊥) (IsTooFew (allocator_of self.old).now.tables count
+            → ⊥) (IsTooFew (allocator_of self.old).now.tables count) Unit) }
+        ensures begun { OnOk result (IsRaised (0
+            < count) (allocator_of self.old).now.file (allocator_of self.new).now.file) }
+        ensures counts { IsTrue F.tells → CountsFailure F.write_faults result
+            (allocator_of self.old).now.file.failures (allocator_of self.new).now.file.failures }
+    {
         extend_list(
             self.allocator,
             &mut self.ids,
             &mut self.start,
             count,
             self.init,
+            from,
         )
     }
 
@@ -665,15 +726,18 @@ impl<'a, F: Medium, A: Heap + Clone> Chain<'a, F, A> {
     }
 }
 
-/// Adds so many sectors at the end of a chain, and appends them to its list: all of them or none.
+/// Adds so many sectors at the end of a chain, which hold these bytes and behind them what fresh ones do, and appends them to its list: all
+/// of them or none.
 fn extend_list<F: Medium, A: Heap + Clone>(
     allocator: &mut Allocator<F, A>,
     ids: &mut Vec<u32, A>,
     start: &mut u32,
     count: usize,
     init: SectorInit,
+    from: &[u8],
 ) -> Result<(), Error>
-    requires { chain_from allocator.old.tables.fat start.old ≡ Some ids.old.items }
+    requires chained { chain_from allocator.old.tables.fat start.old ≡ Some ids.old.items }
+    requires fits { length from.now ≤ count * sector_len allocator.old.tables.version }
     ensures chained { chain_from allocator.new.tables.fat start.new ≡ Some ids.new.items }
     ensures few { length ids.new.items ≤ max_regular_sector + 1 }
     ensures longer { length ids.old.items ≤ length ids.new.items }
@@ -685,10 +749,15 @@ fn extend_list<F: Medium, A: Heap + Clone>(
     ensures count { OnOk result (length (gained ids.old.items ids.new.items) ≡ count) }
     ensures taken { OnOk result (HasTaken allocator.old.tables allocator.new.tables
         (ending (last_or_end ids.old.items)) (gained ids.old.items ids.new.items)) }
-    ensures filled { IsTrue F.tells
+    ensures put { IsTrue F.tells → (validation : Validation) → HoldsTables validation allocator.old
+        → OnOk result (AreFilledFrom allocator.new.tables.version
+        init from.now allocator.new.file.bytes (gained ids.old.items ids.new.items)) }
+    ensures ordered { IsTrue F.tells
         → (validation : Validation) → HoldsTables validation allocator.old
-        → OnOk result ((i : ℕ) → Contains (gained ids.old.items ids.new.items) i
-        → IsAsFilled allocator.new.tables.version init allocator.new.file.bytes i) }
+        → IfErr result (λ _. AreFilledFrom allocator.new.tables.version
+        init from.now allocator.new.file.bytes (gained ids.old.items ids.new.items)
+        ⊎ KeepsSectors allocator.old.tables.version
+        allocator.old.tables.fat_sectors allocator.old.file.bytes allocator.new.file.bytes) }
     ensures holds { IsTrue F.tells
         → (validation : Validation) → HoldsTables validation allocator.old
         → OnOk result (HoldsTables validation allocator.new) }
@@ -703,7 +772,7 @@ fn extend_list<F: Medium, A: Heap + Clone>(
     ensures counts { IsTrue F.tells → CountsFailure
         F.write_faults result allocator.old.file.failures allocator.new.file.failures }
 {
-    let extended = allocator.extend_listed(ids, count, init);
+    let extended = allocator.extend_listed_from(ids, count, init, from);
     *start = first_number(ids);
     extended
 }
@@ -740,6 +809,17 @@ fn shorten_list<F: Medium, A: Heap + Clone>(
     let cut = allocator.cut_listed(ids, count);
     *start = first_number(ids);
     cut
+}
+
+/// How many of all bytes are written once so many of the first ones are, where those behind the first ones are written already.
+fn reached(written: usize, first: usize, all: usize) -> usize
+    requires few { written ≤ first }
+    requires within { first ≤ all }
+    ensures few { result ≤ all }
+    ensures reached { ((written < first) × (result ≡ written))
+        ⊎ ((written ≡ first) × (result ≡ all)) }
+{
+    if written < first { written } else { all }
 }
 
 /// A refusal of a place past the end of a chain.

@@ -23,7 +23,7 @@ use Rattle.cfb_content.specs.cfb_alloc.ListedChain.{Lengthens}
 use Rattle.cfb_content.proofs.cfb_alloc.Spared.{start_past}
 use Rattle.cfb_chains.specs.ChainPlaces.{place_along}
 use Rattle.cfb_chains.proofs.ChainContent.{rest_short}
-use Rattle.cfb_chains.proofs.PlacedBytes.{grown_len, grown_place, kept_there, no_shorter_chain}
+use Rattle.cfb_chains.proofs.PlacedBytes.{gained_place, grown_len, grown_place, kept_there, no_shorter_chain}
 use Rattle.cfb_content.proofs.cfb_mini_sectors.HeldMini.{no-tables}
 use Rattle.cfb_content.specs.Parts.{AreZerosAlong, ChangesOnlyPlaces, StandAlong, StaysAlong}
 use Rattle.cfb_content.proofs.PlacedOnce.{placed-once}
@@ -53,22 +53,7 @@ pub rest-fits : (v : Version) (m count at n first : ℕ) → at ≤ m * sector_l
 rest-fits V3 m count at n first behind fits is = omega (arith, behind, fits, is)
 rest-fits V4 m count at n first behind fits is = omega (arith, behind, fits, is)
 
-gained-index : (v : Version) (m j : ℕ) → ((m * sector_len v + j) / sector_len v ≡ m + j / sector_len v) × ((m * sector_len v + j) % sector_len v ≡ j % sector_len v)
-gained-index V3 m j = (omega arith, omega arith)
-gained-index V4 m j = (omega arith, omega arith)
-
 -- ---- places
-
--- a byte behind those of the sectors that were there is one of the fresh ones
-gained-place : (v : Version) (ids more : List ℕ) (j : ℕ) → place_along v (ids ++ more) (length ids * sector_len v + j) ≡ place_along v more j
-gained-place v ids more j =
-    let m = length ids in
-    let q = j / sector_len v in
-    let index = gained-index v m j in
-    let right : slice_index (ids ++ more) (m + q) ≡ slice_index more (m + q - m) = get_or-append_right ids more m (m + q) 0 refl (omega arith) in
-    let less : m + q - m ≡ q = omega arith in
-    (λ i. sector_start v (slice_index (ids ++ more) (index.0 i)) + index.1 i)
-    ∙ ap (λ x. sector_start v x + j % sector_len v) (right ∙ ap (slice_index more) less)
 
 pub zero-in : (v : Version) (r : ℕ) → r < sector_len v → slice_index (init_bytes v Zero) r ≡ 0
 zero-in v r lt = ap (λ (xs : List ℕ). slice_index xs r) (init_zero v Zero refl) ∙ get_or-replicate (sector_len v) r 0 0 lt
@@ -113,7 +98,7 @@ module _ (v : Version) (ids ids' more bytes a b c : List ℕ) (at first : ℕ) (
   fresh-byte : (j : ℕ) → j < length more * sector_len v → (place_along v ids' (p + j) < length c)
       × (slice_index c (place_along v ids' (p + j)) ≡ slice_index b (place_along v more j))
   fresh-byte j lt =
-      let here : place_along v ids' (p + j) ≡ place_along v more j = ap (λ (l : List ℕ). place_along v l (p + j)) listed ∙ gained-place v ids more j in
+      let here : place_along v ids' (p + j) ≡ place_along v more j = ap (λ (l : List ℕ). place_along v l (p + j)) listed ∙ gained_place v ids more j in
       let there = (filled j lt).0 in
       let at-b : place_along v ids' (p + j) < length b = omega (arith, here, there) in (
         omega (arith, at-b, others.no_shorter),
