@@ -85,7 +85,10 @@ impl<D: Disk> JournaledMedium<D> {
 
     /// The file of this disk, of which it is known that its journal is empty.
     #[cfg(test)]
-    pub(crate) fn assume_open(alloc: Global, disk: D, length: u64) -> JournaledMedium<D> {
+    pub(crate) fn assume_open(alloc: Global, disk: D, length: u64) -> JournaledMedium<D>
+        requires untold { IsTrue D.tells → ⊥ }
+        requires small { length ≤ 2 ^ 62 }
+    {
         JournaledMedium {
             disk,
             alloc,

@@ -302,17 +302,20 @@ fn make_run(alloc: Global, start: &[u8], calls: u64) -> Result<Option<Run>, Allo
     let Ok(medium) = JournaledMedium::open(alloc, disk) else {
         return Ok(None);
     };
+    if start.len() > 1_000_000 {
+        return Ok(None);
+    }
     let mut disk = medium.into_disk();
     disk.calls_left = calls;
     disk.calls = 0;
     let mut medium = JournaledMedium::assume_open(alloc, disk, start.len() as u64);
     let mut flushes = 0usize;
     let mut model = start.to_vec(alloc)?;
-    let mut seed = 1;
+    let mut seed = 1_u64;
     let mut right = true;
     let mut stopped_in_flush = false;
     for (at, len) in SCRIPT {
-        seed += 1;
+        seed = seed.wrapping_add(1);
         if len == 0 {
             if medium.flush().is_err() {
                 stopped_in_flush = true;
@@ -347,10 +350,10 @@ fn make_run(alloc: Global, start: &[u8], calls: u64) -> Result<Option<Run>, Allo
 /// What the file holds after so many flushes.
 fn state(alloc: Global, start: &[u8], flushes: usize) -> Result<Vec<u8>, AllocError> {
     let mut model = start.to_vec(alloc)?;
-    let mut seed = 1;
+    let mut seed = 1_u64;
     let mut done = 0usize;
     for (at, len) in SCRIPT {
-        seed += 1;
+        seed = seed.wrapping_add(1);
         if done >= flushes {
             break;
         }
