@@ -45,7 +45,7 @@ impl<A: Heap + Clone> Clone for StreamOp<A> {
     ghost is_clone = { λ old new. stream_call_of new ≡ stream_call_of old };
 
     /// The same operation, with memory of its own.
-    #[tactic(auto, using(std::specs::List::each_same))]
+    #[tactic(auto, using(crate::proofs::Cloned::same_bytes))]
     fn clone(&self) -> Result<StreamOp<A>, AllocError> {
         match self {
             StreamOp::Read(wanted) => Ok(StreamOp::Read(*wanted)),

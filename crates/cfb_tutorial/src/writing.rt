@@ -16,7 +16,9 @@ pub fn append<F: Medium>(
 ) -> Result<(), Error> {
     let mut stream = file.open_stream(path)?;
     let written = write_at_end(&mut stream, bytes);
-    stream.finish(written)
+    let closed = stream.close();
+    written?;
+    closed
 }
 
 fn write_at_end<F: Medium>(stream: &mut Stream<'_, F>, bytes: &[u8]) -> Result<(), Error> {

@@ -93,7 +93,7 @@ fn write_all<F: Medium, A: Heap + Clone>(
 }
 
 /// What is left behind so many bytes.
-#[tactic(auto, using(std::proofs::lemmas::List::drop_all))]
+#[tactic(auto, using(crate::proofs::Behind::past_end))]
 pub fn behind(bytes: &[u8], count: usize) -> &[u8]
     ensures { result.now ≡ drop count bytes.now }
 {
