@@ -24,6 +24,7 @@ mod lists;
 mod opening;
 mod puts;
 mod runs;
+mod salvages;
 mod shows;
 mod trees;
 
