@@ -3,24 +3,20 @@ use Rattle.std.proofs.Common.{◌≡◌, ◌<◌, ◌≤◌, ℕ, suc, ◌+◌, 
 use Rattle.std.specs.Prelude.{◌⊎◌, Bool, true, false, Option, Some, None, slice_get, option_and_then, if◌then◌else◌}
 use Rattle.std.specs.Option.{option_map}
 use Rattle.std.specs.List.{All, Contains}
-use Rattle.std.proofs.lemmas.List.Elements.{All-nil, All-push, Contains-get_or}
+use Rattle.std.proofs.lemmas.List.Elements.{All-push, All-same, All-weaker}
 use Rattle.std.proofs.lemmas.Option.{get_or_from_slice_get, option_and_then_some, slice_get_within}
 use Rattle.cfb_format.specs.declared.version.Version.{Version}
 use Rattle.cfb_format.specs.declared.version.Version.TheVariants.{V3, V4}
-use Rattle.cfb_format.specs.Bytes.{word_at, sector_start, sector_len, words_per_sector, is_regular, end_of_chain, free_sector}
+use Rattle.cfb_format.specs.Bytes.{word_at, sector_start, sector_len, words_per_sector, is_regular}
 use Rattle.cfb_format.specs.Medium.{part}
 use Rattle.cfb_format.proofs.HeaderStart.{u32-same}
 use Rattle.cfb_format.proofs.Words.{four-words}
 use Rattle.cfb_mending.specs.declared.patches.Patch.{Patch}
-use Rattle.cfb_mending.specs.Tables.{AreInTables, IsAmongWords, IsChainLink, IsDifatEntry, IsDifatLink, IsDifatSector, IsEntryIn, IsInHeader, IsInSector, IsInTable, IsInTables, IsTablePlace, IsTableSector, chain_link, difat_link, directory_start, fat_place, link_in, minifat_start}
+use Rattle.cfb_mending.specs.Tables.{AreInTables, IsAmongWords, IsChainLink, IsDifatEntry, IsDifatLink, IsDifatSector, IsEntryIn, IsFatSector, IsInHeader, IsInSector, IsInTable, IsInTables, IsMark, IsOnChain, IsTablePlace, IsTableSector, chain_link, difat_link, directory_start, fat_place, link_in, minifat_start}
 
 -- the four bytes from this place on are of tables
 abbrev pub IsWordOfTable : Version → List ℕ → List ℕ → ℕ → Type 0
 IsWordOfTable version bytes fat at = (place : ℕ) → at ≤ place → place < at + 4 → IsTablePlace version bytes fat place
-
--- the word that is one end of a chain
-abbrev IsMark : ℕ → Type 0
-IsMark word = (word ≡ end_of_chain) ⊎ (word ≡ free_sector)
 
 -- a word that was read is the one that stands there
 pub word_of_part : (bytes : List ℕ) (at : ℕ) → word_at (part bytes at 4) 0 ≡ word_at bytes at
@@ -91,8 +87,8 @@ pub entries-patch : (version : Version) (bytes fat : List ℕ) (from count index
     → at ≡ from + 4 * index → upto ≡ from + 4 * count → IsMark word → IsInTables version bytes fat (record { at = at; «end» = upto; word = word })
 entries-patch version bytes fat from count index at upto word entries is ends mark = record {
   places = λ place low high.
-    let k = (place - from) / 4 in
-    entry-word version bytes fat (from + 4 * k) (entries k (omega (arith, is, ends, low, high))) place (omega (arith, is, low)) (omega (arith, is, low));
+      let k = (place - from) / 4 in
+      entry-word version bytes fat (from + 4 * k) (entries k (omega (arith, is, ends, low, high))) place (omega (arith, is, low)) (omega (arith, is, low));
   mark = mark;
 }
 
@@ -124,10 +120,10 @@ unfolding difat_link
 link-word version bytes fat zero at is = header-word version bytes fat at (let e : 68 ≡ at = cc in omega (arith, e)) (let e : 68 ≡ at = cc in omega (arith, e))
 link-word version bytes fat (suc n) at is =
     option_and_then_some (λ (a : ℕ). link_in version (word_at bytes a)) (difat_link version bytes n) at is (λ a before next.
-        let s = word_at bytes a in
-        let e = if-some (is_regular s) (sector_start version s + 4 * (words_per_sector version - 1)) at next in
-        difat-sector-word version bytes fat s (words_per_sector version - 1) at (record { at = a; link = (n, before); named = refl; regular = e.0 })
-        (omega (arith, some-words version)) e.1)
+    let s = word_at bytes a in
+    let e = if-some (is_regular s) (sector_start version s + 4 * (words_per_sector version - 1)) at next in
+    difat-sector-word version bytes fat s (words_per_sector version - 1) at (record { at = a; link = (n, before); named = refl; regular = e.0 })
+    (omega (arith, some-words version)) e.1)
 
 pub difat-link-word : (version : Version) (bytes fat : List ℕ) (at : ℕ) → IsDifatLink version bytes at → IsWordOfTable version bytes fat at
 difat-link-word version bytes fat at (n, is) = link-word version bytes fat n at is
@@ -160,3 +156,57 @@ fat-word version bytes fat s at is =
     let holder = m.0 in
     let there : Contains fat holder = (k, slice_get_within fat k holder m.1, get_or_from_slice_get fat k holder holder m.1) in
     sector-word version bytes fat holder (s % words_per_sector version) at (inl there) (omega (arith, some-words version)) m.2
+
+pub start-bound : (start : ℕ) → (start ≡ directory_start) ⊎ (start ≡ minifat_start) → start < 2 ^ 63
+start-bound start (inl e) = omega (arith, e)
+start-bound start (inr e) = omega (arith, e)
+
+-- one more sector of the chain
+pub chain-more : (version : Version) (bytes fat : List ℕ) (start at s : ℕ) (old new : List ℕ) → new ≡ old ++ s ∷ [] → IsChainLink version bytes fat start at
+    → word_at bytes at ≡ s → All (IsOnChain version bytes fat start) old → All (IsOnChain version bytes fat start) new
+chain-more version bytes fat start at s old new is link named before =
+    subst (λ (l : List ℕ). All (IsOnChain version bytes fat start) l) (sym is)
+    (All-push (IsOnChain version bytes fat start) old s before (record { at = at; link = link; named = named }))
+
+-- one more FAT sector
+pub fat-more : (version : Version) (bytes : List ℕ) (at s : ℕ) (old new : List ℕ) → new ≡ old ++ s ∷ [] → IsDifatEntry version bytes at → word_at bytes at ≡ s
+    → All (IsFatSector version bytes) old → All (IsFatSector version bytes) new
+fat-more version bytes at s old new is entry named before =
+    subst (λ (l : List ℕ). All (IsFatSector version bytes) l) (sym is) (All-push (IsFatSector version bytes) old s before (record { at = at; entry = entry; named = named }))
+
+-- an entry in the DIFAT sector whose number stands at a link
+pub difat-entry : (version : Version) (bytes : List ℕ) (link s index at : ℕ) → IsDifatLink version bytes link → word_at bytes link ≡ s → is_regular s ≡ true
+    → index < words_per_sector version - 1 → at ≡ sector_start version s + 4 * index → IsDifatEntry version bytes at
+difat-entry version bytes link s index at linked named regular below is = inr (record {
+  sector = s;
+  difat = record { at = link; link = linked; named = named; regular = regular };
+  among = record { index = index; below = below; place = is };
+})
+
+-- a step over the same bytes
+pub fat-moved : (version : Version) (b b' old new : List ℕ) → b ≡ b' → (All (IsFatSector version b) old → All (IsFatSector version b) new)
+    → All (IsFatSector version b') old → All (IsFatSector version b') new
+fat-moved version b b' old new same step = subst (λ (x : List ℕ). All (IsFatSector version x) old → All (IsFatSector version x) new) same step
+
+-- ---- the sectors of a chain
+
+chain-tables : (version : Version) (bytes fat : List ℕ) (start : ℕ) → ((s : ℕ) → IsOnChain version bytes fat start s → IsTableSector version bytes fat s) → (b items now : List ℕ)
+    → b ≡ bytes → now ≡ items → All (IsOnChain version b fat start) items → All (IsTableSector version bytes fat) now
+chain-tables version bytes fat start is b items now same e all =
+    let there = subst (λ (x : List ℕ). All (IsOnChain version x fat start) items) same all in
+    All-same (IsTableSector version bytes fat) now items e (All-weaker (IsOnChain version bytes fat start) (IsTableSector version bytes fat) is items there)
+
+pub directory-tables : (version : Version) (b bytes fat items now : List ℕ) → b ≡ bytes → now ≡ items → All (IsOnChain version b fat directory_start) items
+    → All (IsTableSector version bytes fat) now
+directory-tables version b bytes fat items now = chain-tables version bytes fat directory_start (λ s on. inr (inr (inl on))) b items now
+
+pub minifat-tables : (version : Version) (b bytes fat items now : List ℕ) → b ≡ bytes → now ≡ items → All (IsOnChain version b fat minifat_start) items
+    → All (IsTableSector version bytes fat) now
+minifat-tables version b bytes fat items now = chain-tables version bytes fat minifat_start (λ s on. inr (inr (inr on))) b items now
+
+-- a step over the same bytes, along sectors of tables
+pub sectors-moved : (version : Version) (b b' fat now : List ℕ) (old new : List Patch) → b ≡ b'
+    → (All (IsTableSector version b fat) now → AreInTables version b fat old → AreInTables version b fat new)
+    → All (IsTableSector version b' fat) now → AreInTables version b' fat old → AreInTables version b' fat new
+sectors-moved version b b' fat now old new same step =
+    subst (λ (x : List ℕ). All (IsTableSector version x fat) now → AreInTables version x fat old → AreInTables version x fat new) same step

@@ -105,10 +105,14 @@ IsTablePlace version bytes fat place = IsInHeader place ⊎ IsInTable version by
 
 -- ---- patches
 
--- only bytes of tables are read otherwise, and as marks: the end of a chain, or free, which is also no entry
+-- a mark: the end of a chain, or free, which is also no entry
+abbrev pub IsMark : ℕ → Type 0
+IsMark word = (word ≡ end_of_chain) ⊎ (word ≡ free_sector)
+
+-- only bytes of tables are read otherwise, and as marks
 pub record IsInTables (version : Version) (bytes fat : List ℕ) (p : Patch) : Type 0 where
   pub places : (place : ℕ) → p.at ≤ place → place < p.«end» → IsTablePlace version bytes fat place
-  pub mark : (p.word ≡ end_of_chain) ⊎ (p.word ≡ free_sector)
+  pub mark : IsMark p.word
 
 abbrev pub AreInTables : Version → List ℕ → List ℕ → List Patch → Type 0
 AreInTables version bytes fat patches = All (IsInTables version bytes fat) patches

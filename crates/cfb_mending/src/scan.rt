@@ -1,7 +1,8 @@
 //! Looks through the tables of a file, and sets the words that lead to nothing.
-ghost use Rattle.std.specs.Prelude.{◌≡◌, ◌++◌, ◌∷◌, ◌⊎◌, [], IsTrue, IfOk, OnOk};
+ghost use Rattle.std.specs.Prelude.{◌≡◌, ◌<◌, ◌++◌, ◌∷◌, ◌⊎◌, [], ℕ, List, IsTrue, IfOk, IfSome, OnOk};
 ghost use Rattle.std.specs.List.{All, Contains};
-ghost use Rattle.cfb_mending.specs.Tables.{AreInTables, IsOnChain, IsTableSector, directory_start, minifat_start};
+ghost use Rattle.cfb_format.specs.Bytes.{words_per_sector};
+ghost use Rattle.cfb_mending.specs.Tables.{AreInTables, IsMark, IsOnChain, IsTableSector, directory_start, minifat_start};
 
 use crate::bounds::{place_in, words_in};
 use crate::loaded::{Loaded, SLOT_WORDS, load, word_at};
@@ -12,6 +13,7 @@ use cfb_format::consts::{
 };
 use cfb_format::error::Error;
 use cfb_format::medium::ReadMedium;
+use cfb_format::version::Version;
 use std::alloc::Allocator as Heap;
 
 // Which words of a slot have its three links (MS-CFB 2.6.1).
@@ -36,6 +38,30 @@ impl<F: ReadMedium, A: Heap + Clone> Scan<F, A> {
         Ok(())
     }
 
+    /// From now on a word of a sector is read as this mark, if there is one. `Memory`.
+    fn mark(
+        &mut self,
+        version: Version,
+        sector: u32,
+        index: usize,
+        mark: Option<u32>,
+    ) -> Result<(), Error>
+        requires below { index < words_per_sector version }
+        requires mark { IfSome mark IsMark }
+        ensures same { self.new.medium ≡ self.old.medium }
+        ensures mends { (bytes fat : List ℕ) → IsTableSector version bytes fat sector
+            → AreInTables version bytes fat self.old.patches.items
+            → OnOk result (AreInTables version bytes fat self.new.patches.items) }
+    {
+        let _words = words_in(version);
+        let Some(mark) = mark else {
+            return Ok(());
+        };
+        let at = place_in(version, sector, index);
+        self.set(at, at + 4, mark)?;
+        Ok(())
+    }
+
     /// Frees what the FAT says of sectors past the end, and ends chains that go on where it says nothing.
     pub(crate) fn mend_fat(&mut self, tables: &Tables<A>) -> Result<(), Error>
         ensures same { IsTrue F.tells → F.bytes self.new.medium ≡ F.bytes self.old.medium }
@@ -54,12 +80,7 @@ impl<F: ReadMedium, A: Heap + Clone> Scan<F, A> {
     }
 
     /// The same of one FAT sector, whose first word is that of sector `first`.
-    fn mend_fat_sector(
-        &mut self,
-        tables: &Tables<A>,
-        sector: u32,
-        first: u64,
-    ) -> Result<(), Error>
+    fn mend_fat_sector(&mut self, tables: &Tables<A>, sector: u32, first: u64) -> Result<(), Error>
         requires { Contains tables.now.fat.items sector }
         ensures same { IsTrue F.tells → F.bytes self.new.medium ≡ F.bytes self.old.medium }
         ensures mends { IsTrue F.tells
@@ -164,9 +185,10 @@ impl<F: ReadMedium, A: Heap + Clone> Scan<F, A> {
             → OnOk result (AreInTables tables.now.bounds.version (F.bytes self.old.medium)
             tables.now.fat.items self.new.patches.items) }
     {
+        let version = tables.bounds.version;
         for sector in directory {
-            let loaded = load(&mut self.medium, tables.bounds.version, *sector)?;
-            self.mend_links(tables, *sector, &loaded, kinds)?;
+            let loaded = load(&mut self.medium, version, *sector)?;
+            self.mend_links(version, *sector, &loaded, kinds)?;
         }
         Ok(())
     }
@@ -174,40 +196,24 @@ impl<F: ReadMedium, A: Heap + Clone> Scan<F, A> {
     /// The same of the slots in one sector.
     fn mend_links(
         &mut self,
-        tables: &Tables<A>,
+        version: Version,
         sector: u32,
         loaded: &Loaded,
         kinds: &[u8],
     ) -> Result<(), Error>
         ensures same { self.new.medium ≡ self.old.medium }
-        ensures mends { IsTrue F.tells
-            → IsTableSector tables.now.bounds.version (F.bytes self.old.medium)
-            tables.now.fat.items sector
-            → AreInTables tables.now.bounds.version (F.bytes self.old.medium)
-            tables.now.fat.items self.old.patches.items
-            → OnOk result (AreInTables tables.now.bounds.version (F.bytes self.old.medium)
-            tables.now.fat.items self.new.patches.items) }
+        ensures mends { (bytes fat : List ℕ) → IsTableSector version bytes fat sector
+            → AreInTables version bytes fat self.old.patches.items
+            → OnOk result (AreInTables version bytes fat self.new.patches.items) }
     {
-        let version = tables.bounds.version;
         for index in 0..words_in(version) {
-            let slot = index / SLOT_WORDS;
-            let link = loaded.word(index);
-            let is_link = LINK_WORDS.contains(&(index % SLOT_WORDS)) && loaded.kind(slot) != 0;
-            let is_object = matches!(kinds.get(link as usize), Some(1 | 2));
-            if is_link && link != NO_STREAM && !is_object {
-                let at = place_in(version, sector, index);
-                self.set(at, at + 4, NO_STREAM)?;
-            }
+            self.mark(version, sector, index, link_mark(loaded, index, kinds))?;
         }
         Ok(())
     }
 
     /// How many words the MiniFAT has, without the free ones at its end.
-    pub(crate) fn minifat_len(
-        &mut self,
-        tables: &Tables<A>,
-        minifat: &[u32],
-    ) -> Result<u64, Error>
+    pub(crate) fn minifat_len(&mut self, tables: &Tables<A>, minifat: &[u32]) -> Result<u64, Error>
         ensures same { IsTrue F.tells → F.bytes self.new.medium ≡ F.bytes self.old.medium }
         ensures stays { self.new.patches.items ≡ self.old.patches.items }
     {
@@ -242,39 +248,58 @@ impl<F: ReadMedium, A: Heap + Clone> Scan<F, A> {
             → OnOk result (AreInTables tables.now.bounds.version (F.bytes self.old.medium)
             tables.now.fat.items self.new.patches.items) }
     {
+        let version = tables.bounds.version;
         for sector in minifat {
-            let loaded = load(&mut self.medium, tables.bounds.version, *sector)?;
-            self.end_mini_chains(tables, *sector, &loaded, len)?;
+            let loaded = load(&mut self.medium, version, *sector)?;
+            self.mend_mini_chains(version, *sector, &loaded, len)?;
         }
         Ok(())
     }
 
     /// The same of the words in one sector.
-    fn end_mini_chains(
+    fn mend_mini_chains(
         &mut self,
-        tables: &Tables<A>,
+        version: Version,
         sector: u32,
         loaded: &Loaded,
         len: u64,
     ) -> Result<(), Error>
         ensures same { self.new.medium ≡ self.old.medium }
-        ensures mends { IsTrue F.tells
-            → IsTableSector tables.now.bounds.version (F.bytes self.old.medium)
-            tables.now.fat.items sector
-            → AreInTables tables.now.bounds.version (F.bytes self.old.medium)
-            tables.now.fat.items self.old.patches.items
-            → OnOk result (AreInTables tables.now.bounds.version (F.bytes self.old.medium)
-            tables.now.fat.items self.new.patches.items) }
+        ensures mends { (bytes fat : List ℕ) → IsTableSector version bytes fat sector
+            → AreInTables version bytes fat self.old.patches.items
+            → OnOk result (AreInTables version bytes fat self.new.patches.items) }
     {
-        let version = tables.bounds.version;
         for index in 0..words_in(version) {
-            let word = loaded.word(index);
-            if word <= MAX_REGULAR_SECTOR && len <= u64::from(word) {
-                let at = place_in(version, sector, index);
-                self.set(at, at + 4, END_OF_CHAIN)?;
-            }
+            self.mark(version, sector, index, mini_mark(loaded, index, len))?;
         }
         Ok(())
+    }
+}
+
+/// What a word of the directory is read as: a link of an object that leads to none is no link.
+fn link_mark(loaded: &Loaded, index: usize, kinds: &[u8]) -> Option<u32>
+    ensures { IfSome result IsMark }
+{
+    let link = loaded.word(index);
+    let is_link = LINK_WORDS.contains(&(index % SLOT_WORDS));
+    if !is_link || link == NO_STREAM || loaded.kind(index / SLOT_WORDS) == 0 {
+        return None;
+    }
+    match kinds.get(link as usize) {
+        Some(1 | 2) => None,
+        _ => Some(NO_STREAM),
+    }
+}
+
+/// What a word of the MiniFAT is read as: a chain ends that goes on past its end.
+fn mini_mark(loaded: &Loaded, index: usize, len: u64) -> Option<u32>
+    ensures { IfSome result IsMark }
+{
+    let word = loaded.word(index);
+    if word <= MAX_REGULAR_SECTOR && len <= u64::from(word) {
+        Some(END_OF_CHAIN)
+    } else {
+        None
     }
 }
 

@@ -53,8 +53,8 @@ impl<A: Heap> Tables<A> {
 }
 
 impl<F: ReadMedium, A: Heap + Clone> Scan<F, A> {
-    /// Adds the FAT sectors that so many words name, the first of which stands at `at`. Where one is missing the list ends with it: whether
-    /// that is so.
+    /// Adds the FAT sectors that so many words name, the first of which stands at `at`, up to one that is no number. Where a sector is
+    /// missing the list ends with it: whether that is so.
     fn list_in(
         &mut self,
         bounds: Bounds,
@@ -78,13 +78,14 @@ impl<F: ReadMedium, A: Heap + Clone> Scan<F, A> {
         for index in 0..count {
             let place = at + 4 * index as u64;
             let word = word_at(&mut self.medium, place)?;
-            if word <= MAX_REGULAR_SECTOR {
-                if !bounds.has_whole(word) {
-                    self.set(place, at + 4 * count as u64, FREE_SECTOR)?;
-                    return Ok(true);
-                }
-                fat.push(word)?;
+            if word > MAX_REGULAR_SECTOR {
+                return Ok(false);
             }
+            if !bounds.has_whole(word) {
+                self.set(place, at + 4 * count as u64, FREE_SECTOR)?;
+                return Ok(true);
+            }
+            fat.push(word)?;
         }
         Ok(false)
     }
@@ -100,19 +101,39 @@ impl<F: ReadMedium, A: Heap + Clone> Scan<F, A> {
             self.new.patches.items) }
     {
         let mut fat = Vec::new(self.heap.clone()?);
-        let mut is_cut = self.list_in(bounds, DIFAT_AT, NUM_DIFAT_ENTRIES_IN_HEADER, &mut fat)?;
-        let mut link = FIRST_DIFAT_AT;
-        for _turn in 0..bounds.sectors {
-            match self.list_behind(bounds, link, is_cut, &mut fat)? {
-                Some((next, ends)) => {
-                    link = next;
-                    is_cut = ends;
-                }
-                None => break,
-            }
-        }
+        let is_cut = self.list_in(bounds, DIFAT_AT, NUM_DIFAT_ENTRIES_IN_HEADER, &mut fat)?;
+        self.list_in_sectors(bounds, is_cut, &mut fat)?;
         drop_padding(&mut fat, header);
         Ok(fat)
+    }
+
+    /// Adds those that the DIFAT's sectors list, unless the list has ended.
+    fn list_in_sectors(
+        &mut self,
+        bounds: Bounds,
+        is_cut: bool,
+        fat: &mut Vec<u32, A>,
+    ) -> Result<(), Error>
+        ensures same { IsTrue F.tells → F.bytes self.new.medium ≡ F.bytes self.old.medium }
+        ensures listed { IsTrue F.tells
+            → All (IsFatSector bounds.version (F.bytes self.old.medium)) fat.old.items
+            → OnOk result (All (IsFatSector bounds.version (F.bytes self.old.medium))
+            fat.new.items) }
+        ensures mends { IsTrue F.tells → (table : List ℕ)
+            → AreInTables bounds.version (F.bytes self.old.medium) table self.old.patches.items
+            → OnOk result (AreInTables bounds.version (F.bytes self.old.medium) table
+            self.new.patches.items) }
+    {
+        let mut link = FIRST_DIFAT_AT;
+        let mut is_cut = is_cut;
+        for _turn in 0..bounds.sectors {
+            let Some((next, ends)) = self.list_behind(bounds, link, is_cut, fat)? else {
+                return Ok(());
+            };
+            link = next;
+            is_cut = ends;
+        }
+        Ok(())
     }
 
     /// Adds the FAT sectors that the DIFAT sector lists whose number stands at `link`, and tells where that of the next one stands, and whether

@@ -17,7 +17,7 @@ const WHOLE: &[Run<'static>] = &[
 #[rattlefmt::skip]
 const ENDED: &[Run<'static>] = &[
     (&["salvage", "@f", "@h"], b"", 1, b"cut\t1024\t5000\t/a\nkept\t0 of 1 streams\t1024 of 5000 bytes\n", b""),
-    (&["ls", "@h"], b"", 0, b"d 0 /\nf 1024 /a\n", b""),
+    (&["ls", "@h"], b"", 0, b"d 1024 /\nf 1024 /a\n", b""),
     (&["check", "@h", "strict"], b"", 0, SOUND_3, b""),
 ];
 
@@ -53,7 +53,7 @@ fn damaged_files_are_salvaged(rt: HostRuntime) -> Result<(), Fail> {
 const CUT_IN_SECTOR: &[Run<'static>] = &[
     (&["ls", "@f"], b"", 1, b"", b"cfbtool: @f: "),
     (&["salvage", "@f", "@g"], b"", 1, b"cut\t2148\t5000\t/a\nkept\t0 of 1 streams\t2148 of 5000 bytes\n", b""),
-    (&["ls", "@g"], b"", 0, b"d 0 /\nf 2148 /a\n", b""),
+    (&["ls", "@g"], b"", 0, b"d 2176 /\nf 2148 /a\n", b""),
     (&["check", "@g", "strict"], b"", 0, SOUND_3, b""),
 ];
 

@@ -19,4 +19,4 @@ returns c = all-set c.args.self c.args.place c.args.bytes.now c.loop-index.bytes
 pub returns-then-self-place : goal.returns-then-self-place
 returns-then-self-place c =
     sym (with-none c.args.self c.args.place c.args.bytes.now (λ i low high from upto.
-        elim c.then-self-place.branch [ then-self-place-via-then-self-place w ↦ omega arith | then-self-place-via-else-self-place+then-last-self w ↦ omega arith ]))
+    elim c.then-self-place.branch [ then-self-place-via-then-self-place w ↦ omega arith | then-self-place-via-else-self-place+then-last-self w ↦ omega arith ]))

@@ -1,7 +1,7 @@
 use Rattle.std.proofs.Common.{◌≡◌, ℕ, List, IsTrue}
 use Rattle.std.specs.List.{All}
 use Rattle.cfb_mending.specs.Tables.{AreInTables, IsFatSector}
-use Rattle.cfb_mending.proofs.tables.Scan.list_in.Given as goal
+use Rattle.cfb_mending.proofs.scan.Scan.list_in.Given as goal
 
 abbrev pub invariant-loop-index : goal.invariant-loop-index
 invariant-loop-index g l =
