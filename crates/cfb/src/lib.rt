@@ -26,6 +26,7 @@ pub use cfb_commands::run::run;
 pub use cfb_compound_file::compound_file::CompoundFile;
 pub use cfb_compound_file::options::OpenOptions;
 pub use cfb_compound_file::read_stream::ReadStream;
+pub use cfb_compound_file::salvaging::{Extent, Salvaged};
 pub use cfb_compound_file::stream::Stream;
 pub use cfb_files::file::{FileMedium, FileReadMedium};
 pub use cfb_files::locking;

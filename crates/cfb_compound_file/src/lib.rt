@@ -13,6 +13,7 @@ pub mod opening_streams;
 pub mod options;
 pub mod queries;
 pub mod read_stream;
+pub mod salvaging;
 pub mod std_read_stream;
 pub mod std_stream;
 pub mod stream;

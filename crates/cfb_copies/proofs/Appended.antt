@@ -26,11 +26,14 @@ none : (xs : List ℕ) → length xs ≤ 0 → xs ≡ []
 none [] h = refl
 none (x ∷ xs) h = absurd (omega (arith, h))
 
+-- no more can be read than the length
+pub content_most : (file : FileState) (k : ℕ) → length (content_at file k) ≤ len_of file.base k
+content_most file k = placed-most (bytes_of file.base) (place_in_stream (bytes_of file.base) (parts_of file.base) (entry_at (entries_of file.base) k)) 0 (len_of file.base k)
+
 -- of an empty stream nothing can be read
 pub nothing_yet : (file : FileState) (k : ℕ) → len_of file.base k ≡ 0 → content_at file k ≡ []
 nothing_yet file k empty = none (content_at file k)
-    (subst (λ (n : ℕ). length (content_at file k) ≤ n) empty
-    (placed-most (bytes_of file.base) (place_in_stream (bytes_of file.base) (parts_of file.base) (entry_at (entries_of file.base) k)) 0 (len_of file.base k)))
+    (subst (λ (n : ℕ). length (content_at file k) ≤ n) empty (content_most file k))
 
 -- the bytes that were read join them
 pub next_joins : (content before now into : List ℕ) (at n : ℕ) → at ≤ length content → before ≡ take at content → now ≡ written before at (take n into)

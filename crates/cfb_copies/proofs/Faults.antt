@@ -7,7 +7,8 @@ use Rattle.cfb_format.specs.declared.medium.MediumFault.{MediumFault}
 use Rattle.cfb_format.specs.Refused.{CountsError, IsBreak, IsMediumAnd}
 use Rattle.cfb_copies.specs.cfb_tables.Refused.{ChangeRefused}
 use Rattle.cfb_copies.specs.cfb_agreement.Files.{FileState, is_failed}
-use Rattle.cfb_copies.specs.Copies.{CopyRefused, IsNotPrepared, error_counted}
+use Rattle.cfb_copies.specs.Copies.{CopyRefused, IsKindOrMemory, IsNotPrepared, error_counted}
+use Rattle.cfb_copies.specs.Salvaged.{IsFullOrMemory, SalvageRefused}
 use Rattle.cfb_copies.specs.Steps.{GivesFault, IsFaultOfEither, IsNoFault}
 
 -- a counted failure is by a fault that can be given
@@ -155,3 +156,44 @@ unprepared_refused file Memory calm h = calm
 unprepared_refused file Full calm h = (calm, h)
 unprepared_refused file Unsound calm h = absurd h
 unprepared_refused file Failed calm h = absurd h
+
+-- ---- the answer of salvaging
+
+-- want of memory is a reason before anything is made
+pub memory_unprepared : (file : FileState) (e : Error) → e ≡ Memory → IsFullOrMemory file e
+memory_unprepared file e is = subst (λ (x : Error). IsFullOrMemory file x) (sym is) tt
+
+-- what was not prepared is refused so
+pub unprepared_cut : (file : FileState) (e : Error) → is_failed file ≡ false → IsFullOrMemory file e → SalvageRefused file e
+unprepared_cut file (NotFound d) calm h = absurd h
+unprepared_cut file (AlreadyExists d) calm h = absurd h
+unprepared_cut file (InvalidInput d) calm h = absurd h
+unprepared_cut file (InvalidData d) calm h = absurd h
+unprepared_cut file (Medium f) calm h = absurd h
+unprepared_cut file Memory calm h = calm
+unprepared_cut file Full calm h = (calm, h)
+unprepared_cut file Unsound calm h = absurd h
+unprepared_cut file Failed calm h = absurd h
+
+-- by the kind of what is too large, or by memory
+pub refused_cut : (file : FileState) (e : Error) → IsFullOrMemory file e → IsKindOrMemory 7 e
+refused_cut file (NotFound d) h = absurd h
+refused_cut file (AlreadyExists d) h = absurd h
+refused_cut file (InvalidInput d) h = absurd h
+refused_cut file (InvalidData d) h = absurd h
+refused_cut file (Medium f) h = absurd h
+refused_cut file Memory h = inr refl
+refused_cut file Full h = inl refl
+refused_cut file Unsound h = absurd h
+refused_cut file Failed h = absurd h
+
+pub counted_cut : (file : FileState) (e : Error) → is_failed file ≡ false → IsBreak (Unit {0}) e → SalvageRefused file (error_counted e)
+counted_cut file (NotFound d) calm h = absurd h
+counted_cut file (AlreadyExists d) calm h = absurd h
+counted_cut file (InvalidInput d) calm h = absurd h
+counted_cut file (InvalidData d) calm h = absurd h
+counted_cut file (Medium f) calm h = calm
+counted_cut file Memory calm h = calm
+counted_cut file Full calm h = calm
+counted_cut file Unsound calm h = absurd h
+counted_cut file Failed calm h = absurd h

@@ -15,6 +15,8 @@ pub mod Likes
 pub mod Next
 pub mod Stored
 pub mod Prepared
+pub mod Cutting
+pub mod Extents
 pub mod Filled
 pub mod Emptied
 pub mod Headers

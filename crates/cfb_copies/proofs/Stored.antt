@@ -23,6 +23,14 @@ valid_name name short free = go (nat_le (length (utf16_units name)) max_name_len
     go true e = ap (λ (a : Bool). a && not (list_any is_forbidden_character name)) e ∙ ap (λ (c : Bool). not c) free
     go false e = absurd (omega (arith, short, leb-false (length (utf16_units name)) max_name_len e))
 
+-- a test that passes
+pub le_true : (a b : ℕ) → a ≤ b → nat_le a b ≡ true
+le_true a b h = go (nat_le a b) refl
+  where
+    go : (r : Bool) → nat_le a b ≡ r → nat_le a b ≡ true
+    go true e = e
+    go false e = absurd (omega (arith, h, leb-false a b e))
+
 -- ---- one slot
 
 slot_free : (v : Version) (slot : List ℕ) (e : Entry) → IsEntry v slot e → IsObject e → list_any is_forbidden_character e.name ≡ false

@@ -14,7 +14,7 @@ use Rattle.cfb_built.specs.Copied.{Part, names_of, part_copied}
 use Rattle.cfb_siblings.specs.Paths.{HasOutline}
 use Rattle.cfb_copies.specs.cfb_objects.Laws.{BecomesTree}
 use Rattle.cfb_places.specs.declared.walk.Place.{Place}
-use Rattle.cfb_places.specs.Laws.{IsWholeAt, PartsStandAtPlaces}
+use Rattle.cfb_places.specs.Laws.{PartsStandAtPlaces}
 use Rattle.cfb_places.specs.Parts.{IsPartOf, part_at}
 use Rattle.cfb_places.specs.Places.{number_at, parent_at, placed_in, places_of}
 use Rattle.cfb_copies.specs.cfb_mini_sectors.State.{bytes_of, cases_of, content_of, entries_of, version_of}
@@ -22,8 +22,9 @@ use Rattle.cfb_copies.specs.cfb_content.Contents.{len_of}
 use Rattle.cfb_copies.specs.cfb_entry_changes.Kept.{KeepsFound}
 use Rattle.cfb_copies.specs.cfb_agreement.Files.{FileState, Holds}
 use Rattle.cfb_copies.proofs.cfb_agreement.Flags.{as-before-same}
+use Rattle.cfb_copies.specs.declared.keeping.Keep.{Keep}
 use Rattle.cfb_copies.specs.Copies.{AreNumbered, IsOnTheWay, ListsObjects, parts_in_file}
-use Rattle.cfb_copies.specs.Steps.{CanBeLike, IsCopyable, IsNewIn, IsPart, IsReadOnly, LeadToEntry, TakesName}
+use Rattle.cfb_copies.specs.Steps.{CanBeLike, IsCopyable, IsKeptAt, IsNewIn, IsPart, IsReadOnly, LeadToEntry, TakesName}
 use Rattle.cfb_copies.proofs.Joining.{new_leads}
 use Rattle.cfb_copies.proofs.Next.{is_part, parent_leads, root_leads, step_numbered, takes_next, way_allows, way_next}
 use Rattle.cfb_copies.proofs.Prepared.{listed_stands}
@@ -44,9 +45,9 @@ copyable_still tells old new k r c = record {
       (subst (λ (v : Version). (entry_at (entries_of old.base) k).obj_type ≡ Stream → len_of old.base k ≤ max_stream_len v) (sym r.setting.limits.version) c.len);
 }
 
-pub whole_still : (tells : Bool) (told : IsTrue tells) (old new : FileState) (k : ℕ) → IsReadOnly tells old new → IsWholeAt (entries_of old.base) (content_of old.base) k
-    → IsWholeAt (entries_of new.base) (content_of new.base) k
-whole_still tells told old new k r whole = subst (λ (f : FileState). IsWholeAt (entries_of f.base) (content_of f.base) k) (sym (as-before-same old new (r.same told))) whole
+pub kept_still : (keep : Keep) (tells : Bool) (told : IsTrue tells) (old new : FileState) (k : ℕ) → IsReadOnly tells old new → IsKeptAt keep (entries_of old.base) (content_of old.base) k
+    → IsKeptAt keep (entries_of new.base) (content_of new.base) k
+kept_still keep tells told old new k r kept = subst (λ (f : FileState). IsKeptAt keep (entries_of f.base) (content_of f.base) k) (sym (as-before-same old new (r.same told))) kept
 
 pub part_still : (tells : Bool) (told : IsTrue tells) (old new : FileState) (k : ℕ) (part : Part) → IsReadOnly tells old new → IsPart (content_of old.base) (entry_at (entries_of old.base) k) part
     → IsPart (content_of new.base) (entry_at (entries_of new.base) k) part

@@ -9,6 +9,7 @@ use Rattle.cfb_format.specs.Meaning.{Means}
 use Rattle.cfb_format.specs.Reading.{IsOutline, Outline}
 use Rattle.cfb_format.specs.Refused.{HasReason, no_error, number_of}
 use Rattle.cfb_format.specs.Tree.{AreWhole, Tree, nothing}
+use Rattle.cfb_copy_sizes.specs.Cut.{cut_tree}
 use Rattle.cfb_built.specs.Copied.{CanAllBeCopied, Part, names_of, parts_copied}
 use Rattle.cfb_places.specs.declared.walk.Place.{Place}
 use Rattle.cfb_places.specs.Laws.{IsWholeAt}
@@ -18,7 +19,8 @@ use Rattle.cfb_copies.specs.cfb_tables.Changes.{NoneFree}
 use Rattle.cfb_copies.specs.cfb_alloc.Frame.{IsFixedHeaderByte}
 use Rattle.cfb_copies.specs.cfb_mini_sectors.State.{bytes_of, cases_of, content_of, entries_of, tables_in, version_of}
 use Rattle.cfb_copies.specs.cfb_agreement.Files.{FileState, Holds, IsAsMade, failures_of, is_failed}
-use Rattle.cfb_copies.specs.Steps.{IsCopyable, LeadToEntry}
+use Rattle.cfb_copies.specs.declared.keeping.Keep.{Keep}
+use Rattle.cfb_copies.specs.Steps.{IsCopyable, IsKeptAt, LeadToEntry}
 
 -- ---- what is copied
 
@@ -33,6 +35,10 @@ AreCopyable file list = All (λ (p : Place). IsCopyable file p.entry) list
 -- and read to its end
 abbrev pub AreReadable : FileState → List Place → Type 0
 AreReadable file list = All (λ (p : Place). IsWholeAt (entries_of file.base) (content_of file.base) p.entry) list
+
+-- and, of streams that are taken whole, read to its end
+abbrev pub AreKept : Keep → FileState → List Place → Type 0
+AreKept keep file list = All (λ (p : Place). IsKeptAt keep (entries_of file.base) (content_of file.base) p.entry) list
 
 -- the parts of the file's tree, in the order of a walk
 abbrev pub parts_in_file : FileState → Outline → List Part
@@ -51,11 +57,11 @@ pub record IsOnTheWay (target : FileState) (parts : List Part) (goal : Tree) : T
   pub allowed : CanAllBeCopied (cases_of target.base) parts tree
   pub becomes : parts_copied (cases_of target.base) parts tree ≡ goal
 
--- the source can be read as its list says, and the target's bytes mean this tree, to which all its parts can be added
-pub record AreReady (source target : FileState) (list : List Place) (tree : Tree) : Type 0 where
+-- of the source can be read what is taken, and the target's bytes mean this tree, to which all its parts can be added
+pub record AreReady (keep : Keep) (source target : FileState) (list : List Place) (tree : Tree) : Type 0 where
   pub held : Holds source
   pub target_held : Holds target
-  pub readable : AreReadable source list
+  pub kept : AreKept keep source list
   pub means : Means (cases_of target.base) (bytes_of target.base) tree
   pub allowed : (o : Outline) → IsOutline (cases_of source.base) (entries_of source.base) o
       → CanAllBeCopied (cases_of target.base) (parts_in_file source o) tree
@@ -87,6 +93,10 @@ pub record IsMadeCopy (failures : ℕ) (copy : FileState) : Type 0 where
 -- its bytes mean the tree that those of the file mean
 abbrev pub MeansTheSame : FileState → FileState → Type 0
 MeansTheSame source copy = (tree : Tree) → Means (cases_of source.base) (bytes_of source.base) tree → Means (cases_of copy.base) (bytes_of copy.base) tree
+
+-- its bytes mean that tree with each stream cut to what can be read of it
+abbrev pub MeansCut : FileState → FileState → Type 0
+MeansCut source copy = (tree : Tree) → Means (cases_of source.base) (bytes_of source.base) tree → Means (cases_of copy.base) (bytes_of copy.base) (cut_tree tree)
 
 -- nothing is in the file
 abbrev pub HasNoObjects : FileState → Type 0

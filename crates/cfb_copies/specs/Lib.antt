@@ -14,3 +14,4 @@ pub use Rattle.cfb_volume.specs.cfb_agreement
 pub use Rattle.cfb_volume.specs.cfb_entry_changes
 pub mod Steps
 pub mod Copies
+pub mod Salvaged

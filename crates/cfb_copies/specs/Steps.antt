@@ -23,6 +23,9 @@ use Rattle.cfb_copies.specs.cfb_entries.declared.fields.Fields.{Fields}
 use Rattle.cfb_copies.specs.cfb_mini_sectors.State.{cases_of, entries_of, tables_in, version_of}
 use Rattle.cfb_copies.specs.cfb_content.Contents.{IsStreamOf, KeepsFixedHeader, KeepsOthers, MovesContent, len_of}
 use Rattle.cfb_copies.specs.cfb_entry_changes.Kept.{KeepsFound}
+use Rattle.cfb_places.specs.Laws.{IsWholeAt}
+use Rattle.cfb_copies.specs.declared.keeping.Keep.{Keep}
+use Rattle.cfb_copies.specs.declared.keeping.Keep.TheVariants.{Readable, Whole}
 use Rattle.cfb_copies.specs.cfb_agreement.Files.{FileState, Holds, IsAsBefore, IsAsMade, SameSetting, failures_of, is_failed}
 
 -- ---- the source
@@ -93,6 +96,11 @@ pub record CanBeLike (entries : List Entry) (entry : ℕ) : Type 0 where
   pub within : entry < length entries
   pub object : IsObject (entry_at entries entry)
   pub name : is_valid_name (entry_at entries entry).name ≡ true
+
+-- of a stream that is taken whole all bytes can be read
+abbrev pub IsKeptAt : Keep → List Entry → (Entry → List ℕ) → ℕ → Type 0
+IsKeptAt Whole entries content number = IsWholeAt entries content number
+IsKeptAt Readable entries content number = ⊤
 
 -- and a stream's length is one of the file's version
 pub record IsCopyable (file : FileState) (entry : ℕ) : Type 0 where

@@ -58,10 +58,33 @@ pub(crate) fn name_of<A: Heap>(entries: &[DirEntry<A>], number: u32) -> &str
     &entries[number as usize].name
 }
 
-/// Whether the object of that entry can be given to another file: all of a stream can be read. `Memory`.
+/// Whether the object of that entry has a name and a length that a file of this version may have.
 ///
 /// A name that no object may be given, and a length that the version doesn't have, are in no file that opening accepts; a medium that
 /// changes its bytes may show them.
+pub(crate) fn is_allowed<F: ReadMedium, A: Heap>(source: &Volume<F, A>, entry: u32) -> bool
+    requires inside { entry < length (entries_of source.now.base) }
+    requires object { IsObject (entry_at (entries_of source.now.base) entry) }
+    ensures copyable { result ≡ true → IsCopyable source.now entry }
+    ensures always { IsTrue F.tells → Holds source.now → result ≡ true }
+{
+    let entries = source.entries();
+    let name = name_of(entries, entry);
+    if has_forbidden(name) {
+        return false;
+    }
+    match kind_of(entries, entry) {
+        ObjType::Stream => source.len(entry) <= source.version().stream_len_mask(),
+        _ => true,
+    }
+}
+
+/// What is told of an object that can't be copied.
+pub(crate) fn not_copied(entry: u32) -> Detail {
+    Detail::number("object that can't be copied", u64::from(entry))
+}
+
+/// Whether the object of that entry can be given to another file whole: all of a stream can be read. `Memory`.
 fn is_copyable<F: ReadMedium, A: Heap + Clone>(
     source: &Volume<F, A>,
     entry: u32,
@@ -73,16 +96,15 @@ fn is_copyable<F: ReadMedium, A: Heap + Clone>(
         ↔ IsWholeAt (entries_of source.now.base) (content_of source.now.base) entry) }
     ensures err { IfErr result IsMemory }
 {
-    let entries = source.entries();
-    let name = name_of(entries, entry);
-    if has_forbidden(name) {
+    if !is_allowed(source, entry) {
         return Ok(false);
     }
+    let entries = source.entries();
     match kind_of(entries, entry) {
         ObjType::Stream => {
             let len = source.len(entry);
             let readable = source.readable(entry)?;
-            Ok(len <= source.version().stream_len_mask() && readable == len)
+            Ok(readable == len)
         }
         _ => Ok(true),
     }
@@ -106,10 +128,7 @@ pub(crate) fn check_objects<F: ReadMedium, A: Heap + Clone>(
     for place in list {
         let copyable = is_copyable(source, place.entry)?;
         if !copyable {
-            return Err(Error::InvalidData(Detail::number(
-                "object that can't be copied",
-                u64::from(place.entry),
-            )));
+            return Err(Error::InvalidData(not_copied(place.entry)));
         }
     }
     Ok(())

@@ -9,10 +9,11 @@ ghost use Rattle.cfb_format.specs.Tree.{Tree};
 ghost use Rattle.cfb_built.specs.Copied.{parts_copied};
 ghost use Rattle.cfb_copies.specs.cfb_mini_sectors.State.{bytes_of, cases_of, entries_of, version_of};
 ghost use Rattle.cfb_copies.specs.cfb_agreement.Files.{Agrees, Holds, failures_of, is_failed};
-ghost use Rattle.cfb_copies.specs.Copies.{AreCopyable, AreReadable, AreReady, CanBeCopied, CopyRefused, HasNoObjects, IsMadeCopy, IsNotPrepared, ListsObjects, MeansTheSame, RefusesUnless, TakesAfter, error_counted, parts_in_file};
+ghost use Rattle.cfb_copies.specs.Copies.{AreCopyable, AreKept, AreReadable, AreReady, CanBeCopied, CopyRefused, HasNoObjects, IsMadeCopy, IsNotPrepared, ListsObjects, MeansCut, MeansTheSame, RefusesUnless, TakesAfter, error_counted, parts_in_file};
 ghost use Rattle.cfb_copies.specs.Steps.{CountsEither, GivesFault, GrowsTree, IsNoFault, IsReadOnly};
 
 use crate::checking::{check_objects, listed_entry};
+use crate::keeping::Keep;
 use crate::parts::{copy_object, fields_like};
 use cfb_built::copied_objects_are_the_tree;
 use cfb_copy_sizes::needs::is_too_large;
@@ -49,6 +50,7 @@ fn copy_listed<F: ReadMedium, W: Medium, A: Heap + Clone>(
     target: &mut Volume<W, A>,
     numbers: &mut Vec<u32, A>,
     piece: &mut [u8],
+    keep: Keep,
 ) -> Result<(), Error>
     requires room { mini_stream_cutoff ≤ length piece.old }
     requires none { numbers.old.items ≡ [] }
@@ -62,11 +64,11 @@ fn copy_listed<F: ReadMedium, W: Medium, A: Heap + Clone>(
     ensures grows { OnOk result (GrowsTree W.tells target.old target.new) }
     ensures tree { IsTrue F.tells → IsTrue W.tells → (tree : Tree) (o : Outline)
         → IsOutline (cases_of source.old.base) (entries_of source.old.base) o
-        → AreReady source.old target.old list.now tree
+        → AreReady keep source.old target.old list.now tree
         → OnOk result (Means (cases_of target.new.base) (bytes_of target.new.base)
         (parts_copied (cases_of target.old.base) (parts_in_file source.old o) tree)) }
     ensures err { IsTrue F.tells → IsTrue W.tells → (tree : Tree)
-        → AreReady source.old target.old list.now tree → IfErr result (IsBreak Unit) }
+        → AreReady keep source.old target.old list.now tree → IfErr result (IsBreak Unit) }
     ensures counts { IsTrue F.tells → CountsEither F.read_faults W.tells
         (λ f. W.read_faults f || W.write_faults f) result
         (failures_of source.old) (failures_of source.new) }
@@ -77,17 +79,18 @@ fn copy_listed<F: ReadMedium, W: Medium, A: Heap + Clone>(
     for place in list {
         let known = numbers.as_slice();
         let parent = number_above(place.parent, known);
-        let number = copy_object(source, place.entry, parent, target, piece)?;
+        let number = copy_object(source, place.entry, parent, target, piece, keep)?;
         numbers.push(number)?;
     }
     Ok(())
 }
 
-/// Gives an empty file the fields of the source's root, and all of its objects.
-fn fill<F: ReadMedium, W: Medium, A: Heap + Clone>(
+/// Gives an empty file the fields of the source's root, and all of its objects, each stream with the bytes that are kept of it.
+pub(crate) fn fill<F: ReadMedium, W: Medium, A: Heap + Clone>(
     source: &mut Volume<F, A>,
     list: &[Place],
     target: &mut Volume<W, A>,
+    keep: Keep,
 ) -> Result<(), Error>
     requires listed { ListsObjects source.old list.now }
     requires copyable { AreCopyable source.old list.now }
@@ -98,10 +101,10 @@ fn fill<F: ReadMedium, W: Medium, A: Heap + Clone>(
     ensures reads { IsReadOnly F.tells source.old source.new }
     ensures grows { OnOk result (GrowsTree W.tells target.old target.new) }
     ensures tree { IsTrue F.tells → IsTrue W.tells → Holds source.old → Holds target.old
-        → AreReadable source.old list.now → HasNoObjects target.old
-        → OnOk result (MeansTheSame source.old target.new) }
+        → AreKept keep source.old list.now → HasNoObjects target.old
+        → OnOk result (MeansCut source.old target.new) }
     ensures err { IsTrue F.tells → IsTrue W.tells → Holds source.old → Holds target.old
-        → AreReadable source.old list.now → HasNoObjects target.old
+        → AreKept keep source.old list.now → HasNoObjects target.old
         → IfErr result (IsBreak Unit) }
     ensures counts { IsTrue F.tells → CountsEither F.read_faults W.tells
         (λ f. W.read_faults f || W.write_faults f) result
@@ -116,7 +119,7 @@ fn fill<F: ReadMedium, W: Medium, A: Heap + Clone>(
     let _behind = target.entries();
     let mut piece = vec![in source.heap().clone()?; 0; PIECE_LEN]?;
     let mut numbers = Vec::with_capacity(source.heap().clone()?, list.len())?;
-    copy_listed(source, list, target, &mut numbers, &mut piece)
+    copy_listed(source, list, target, &mut numbers, &mut piece, keep)
 }
 
 /// The list of all objects of a file that can be copied.
@@ -147,7 +150,7 @@ fn prepare<F: ReadMedium, A: Heap + Clone>(source: &Volume<F, A>) -> Result<Vec<
 }
 
 /// An empty file on that medium, of the version and with the letters of the source.
-fn make_empty<F: ReadMedium, W: Medium, A: Heap + Clone>(
+pub(crate) fn make_empty<F: ReadMedium, W: Medium, A: Heap + Clone>(
     source: &Volume<F, A>,
     dest: W,
     buffer_limit: usize,
@@ -173,7 +176,7 @@ fn make_empty<F: ReadMedium, W: Medium, A: Heap + Clone>(
 
 /// Why a step of a copy was refused. Numbers can't lack on the way, since they were counted before: that is not proved yet, and should
 /// they lack, it is told as want of memory.
-fn counted(error: Error) -> Error
+pub(crate) fn counted(error: Error) -> Error
     ensures { result ≡ error_counted error }
 {
     match error {
@@ -216,7 +219,7 @@ pub fn copy_volume<F: ReadMedium, W: Medium, A: Heap + Clone>(
     let list = prepare(source)?;
     let mut target = make_empty(source, dest, buffer_limit)?;
     let listed = list.as_slice();
-    match fill(source, listed, &mut target) {
+    match fill(source, listed, &mut target, Keep::Whole) {
         Ok(()) => Ok(target),
         Err(error) => Err(counted(error)),
     }

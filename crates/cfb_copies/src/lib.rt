@@ -3,8 +3,10 @@
 
 mod checking;
 pub mod copying;
+mod keeping;
 mod parts;
 mod pieces;
+pub mod salvaging;
 
 // What crates above name of those below.
 pub use cfb_creating::creating::create_file;

@@ -10,10 +10,10 @@ ghost use Rattle.cfb_built.specs.Copied.{Part, names_of, part_copied};
 ghost use Rattle.cfb_copies.specs.cfb_objects.Laws.{BecomesTree};
 ghost use Rattle.cfb_copies.specs.cfb_mini_sectors.State.{bytes_of, cases_of, content_of, entries_of, version_of};
 ghost use Rattle.cfb_copies.specs.cfb_agreement.Files.{Holds, SameSetting, failures_of, is_failed};
-ghost use Rattle.cfb_places.specs.Laws.{IsWholeAt};
-ghost use Rattle.cfb_copies.specs.Steps.{CanBeLike, CountsEither, GivesFault, GrowsTree, IsCopyable, IsLikeIn, IsNewIn, IsPart, IsReachedIn, IsReadOnly, LeadToEntry, TakesName, fields_like, like_added};
+ghost use Rattle.cfb_copies.specs.Steps.{CanBeLike, CountsEither, GivesFault, GrowsTree, IsCopyable, IsKeptAt, IsLikeIn, IsNewIn, IsPart, IsReachedIn, IsReadOnly, LeadToEntry, TakesName, fields_like, like_added};
 
 use crate::checking::{kind_of, listed_entry, name_of};
+use crate::keeping::{Keep, kept_len};
 use crate::pieces::copy_bytes;
 use cfb_codecs::direntry::DirEntry;
 use cfb_creating::Fields;
@@ -106,9 +106,9 @@ fn insert_like<W: Medium, A: Heap + Clone>(
 }
 
 /// Copies the object of an entry into the storage `parent` of the target, without what is in it, and answers its number there. The bytes
-/// of a stream go through `piece`.
+/// of a stream that are kept go through `piece`.
 ///
-/// `InvalidData` where the stream can't be read to its end, `Full` where numbers lack, `Memory`, and `Medium` where one of the two media
+/// `InvalidData` where these can't be read, `Full` where numbers lack, `Memory`, and `Medium` where one of the two media
 /// fails.
 pub(crate) fn copy_object<F: ReadMedium, W: Medium, A: Heap + Clone>(
     source: &mut Volume<F, A>,
@@ -116,6 +116,7 @@ pub(crate) fn copy_object<F: ReadMedium, W: Medium, A: Heap + Clone>(
     parent: u32,
     target: &mut Volume<W, A>,
     piece: &mut [u8],
+    keep: Keep,
 ) -> Result<u32, Error>
     requires room { mini_stream_cutoff ≤ length piece.old }
     requires copyable { IsCopyable source.old entry }
@@ -128,14 +129,14 @@ pub(crate) fn copy_object<F: ReadMedium, W: Medium, A: Heap + Clone>(
     ensures is_new { IfOk result (λ n. IsNewIn target.old target.new parent n
         (entry_at (entries_of source.old.base) entry).name) }
     ensures tree { IsTrue F.tells → IsTrue W.tells → Holds source.old → Holds target.old
-        → IsWholeAt (entries_of source.old.base) (content_of source.old.base) entry
+        → IsKeptAt keep (entries_of source.old.base) (content_of source.old.base) entry
         → OnOk result ((part : Part)
         → IsPart (content_of source.old.base) (entry_at (entries_of source.old.base) entry) part
         → LeadToEntry target.old (parent_names (names_of part)) parent
         → BecomesTree (cases_of target.old.base) (bytes_of target.old.base)
         (bytes_of target.new.base) (part_copied (cases_of target.old.base) part)) }
     ensures err { IsTrue F.tells → IsTrue W.tells → Holds source.old → Holds target.old
-        → IsWholeAt (entries_of source.old.base) (content_of source.old.base) entry
+        → IsKeptAt keep (entries_of source.old.base) (content_of source.old.base) entry
         → TakesName target.old parent (entry_at (entries_of source.old.base) entry).name
         → IfErr result (IsBreak Unit) }
     ensures counts { IsTrue F.tells → CountsEither F.read_faults W.tells
@@ -147,7 +148,8 @@ pub(crate) fn copy_object<F: ReadMedium, W: Medium, A: Heap + Clone>(
     let number = insert_like(entries, entry, parent, target)?;
     match kind {
         ObjType::Stream => {
-            copy_bytes(source, entry, target, number, piece)?;
+            let len = kept_len(source, entry, keep)?;
+            copy_bytes(source, entry, len, target, number, piece)?;
             Ok(number)
         }
         _ => Ok(number),

@@ -32,7 +32,7 @@ fn read_piece<F: ReadMedium, A: Heap + Clone>(
     ensures ok { IsTrue F.tells → Holds source.old → OnOk result
         (into.new ≡ part (content_at source.old from) at (length into.old)) }
     ensures err { IsTrue F.tells → Holds source.old
-        → length (content_at source.old from) ≡ len_of source.old.base from
+        → at + length into.old ≤ length (content_at source.old from)
         → IfErr result (IsBreak Unit) }
     ensures counts { IsTrue F.tells → CountsFailure F.read_faults result
         (failures_of source.old) (failures_of source.new) }
@@ -45,21 +45,23 @@ fn read_piece<F: ReadMedium, A: Heap + Clone>(
     Ok(())
 }
 
-/// Gives an empty stream of the target all bytes of a stream of the source, as many at a time as `piece` has room for: so the first piece
-/// puts the stream where it is to lie, and it never moves (MS-CFB 2.6.3).
+/// Gives an empty stream of the target the first `len` bytes of a stream of the source, as many at a time as `piece` has room for: so the
+/// first piece puts the stream where it is to lie, and it never moves (MS-CFB 2.6.3).
 ///
-/// `InvalidData` where the source's stream can't be read to its end, `Full` where numbers lack, `Memory`, and `Medium` where one of the
+/// `InvalidData` where not so many of the source's stream can be read, `Full` where numbers lack, `Memory`, and `Medium` where one of the
 /// two media fails.
 pub(crate) fn copy_bytes<F: ReadMedium, W: Medium, A: Heap + Clone>(
     source: &mut Volume<F, A>,
     from: u32,
+    len: u64,
     target: &mut Volume<W, A>,
     to: u32,
     piece: &mut [u8],
 ) -> Result<(), Error>
     requires room { mini_stream_cutoff ≤ length piece.old }
     requires from { from < length (entries_of source.old.base) }
-    requires fits { len_of source.old.base from ≤ max_stream_len (version_of target.old.base) }
+    requires within { len ≤ len_of source.old.base from }
+    requires fits { len ≤ max_stream_len (version_of target.old.base) }
     requires sound { target.old.is_sound ≡ true }
     requires unfailed { is_failed target.old ≡ false }
     requires stream { IsStreamOf target.old.base to }
@@ -67,16 +69,15 @@ pub(crate) fn copy_bytes<F: ReadMedium, W: Medium, A: Heap + Clone>(
     ensures reads { IsReadOnly F.tells source.old source.new }
     ensures fills { OnOk result (FillsStream W.tells to target.old target.new) }
     ensures content { IsTrue F.tells → IsTrue W.tells → Holds source.old → Holds target.old
-        → length (content_at source.old from) ≡ len_of source.old.base from
+        → len ≡ length (content_at source.old from)
         → OnOk result (content_at target.new to ≡ content_at source.old from) }
     ensures err { IsTrue F.tells → IsTrue W.tells → Holds source.old → Holds target.old
-        → length (content_at source.old from) ≡ len_of source.old.base from
+        → len ≡ length (content_at source.old from)
         → IfErr result (IsBreak Unit) }
     ensures counts { IsTrue F.tells → CountsEither F.read_faults W.tells
         (λ f. W.read_faults f || W.write_faults f) result
         (failures_of source.old) (failures_of source.new) }
 {
-    let len = source.len(from);
     let mut at: u64 = 0;
     while at < len {
         let count = (len - at).min(piece.len() as u64) as usize;

@@ -7,3 +7,4 @@ pub mod TooMuch
 pub mod Growth
 pub mod Having
 pub mod Created
+pub mod Cuts

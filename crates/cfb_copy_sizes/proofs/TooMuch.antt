@@ -10,7 +10,7 @@ use Rattle.cfb_format.specs.Meaning.{objects_from}
 use Rattle.cfb_copy_sizes.specs.Needs.{IsTooMuch, TellsTooLarge, at_most_u64, mini_sectors_listed, sectors_listed, sectors_needed}
 use Rattle.cfb_copy_sizes.proofs.Counts.{counts-are-the-trees}
 
-moved : (v : Version) (limit limit' s s' m m' n n' : ℕ) → limit ≡ limit' → s ≡ s' → m ≡ m' → n ≡ n' → IsTooMuch v limit s m n → IsTooMuch v limit' s' m' n'
+pub moved : (v : Version) (limit limit' s s' m m' n n' : ℕ) → limit ≡ limit' → s ≡ s' → m ≡ m' → n ≡ n' → IsTooMuch v limit s m n → IsTooMuch v limit' s' m' n'
 moved v limit limit' s s' m m' n n' l-is s-is m-is n-is t =
     subst (λ k. IsTooMuch v limit' s' m' k) n-is
     (subst (λ k. IsTooMuch v limit' s' k n) m-is

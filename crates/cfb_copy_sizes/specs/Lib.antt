@@ -4,3 +4,4 @@ pub use Rattle.cfb_objects.specs as cfb_objects
 pub mod Needs
 pub mod Laws
 pub mod Growth
+pub mod Cut

@@ -2,5 +2,6 @@
 //! more than the format gives, which a copy knows before it writes.
 #![tactic(auto)]
 
+pub mod cut;
 pub mod laws;
 pub mod needs;

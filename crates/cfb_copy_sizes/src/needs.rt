@@ -21,9 +21,9 @@ const MAX_ENTRIES: u64 = 0xffff_fffb;
 /// What some objects need: sectors of long streams, and mini sectors of short ones. A count that is
 /// too great for its type stops at the greatest one, which is more than any file has.
 #[derive(Clone, Copy)]
-struct Needs {
-    sectors: u64,
-    mini_sectors: u64,
+pub(crate) struct Needs {
+    pub sectors: u64,
+    pub mini_sectors: u64,
 }
 
 /// How many mini sectors the lengths of a version have room for (MS-CFB 2.4 and 2.6.3).
@@ -37,7 +37,7 @@ fn max_mini_sectors(version: Version) -> u64
 }
 
 /// How many sectors a stream of this length has.
-fn sectors_for(version: Version, len: u64) -> u64
+pub(crate) fn sectors_for(version: Version, len: u64) -> u64
     ensures { result ≡ sectors_for version len }
 {
     if len < u64::from(MINI_STREAM_CUTOFF) {
@@ -47,7 +47,7 @@ fn sectors_for(version: Version, len: u64) -> u64
 }
 
 /// How many mini sectors a stream of this length has.
-fn mini_sectors_for(len: u64) -> u64
+pub(crate) fn mini_sectors_for(len: u64) -> u64
     ensures { result ≡ mini_sectors_for len }
 {
     if len >= u64::from(MINI_STREAM_CUTOFF) {
@@ -116,7 +116,7 @@ fn lacks_sectors(version: Version, max_sectors: u32, sectors: u64) -> bool
 }
 
 /// Whether a file has no room for what so many objects need.
-fn is_too_much(version: Version, max_sectors: u32, needs: Needs, objects: u64) -> bool
+pub(crate) fn is_too_much(version: Version, max_sectors: u32, needs: Needs, objects: u64) -> bool
     requires limit { max_sectors ≤ max_regular_sector }
     requires objects { objects < 2 ^ 63 }
     ensures { IsTrue result

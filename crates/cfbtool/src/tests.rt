@@ -26,6 +26,7 @@ mod puts;
 mod refusals;
 mod runs;
 mod samples;
+mod salvages;
 mod shows;
 mod trees;
 

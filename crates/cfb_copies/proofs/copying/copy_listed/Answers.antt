@@ -13,7 +13,7 @@ use Rattle.cfb_copies.proofs.Growing.{grows_none, grows_then, lead_reached, orde
 use Rattle.cfb_copies.proofs.Next.{way_ends, way_starts}
 use Rattle.cfb_copies.proofs.Prepared.{listed_stands}
 use Rattle.cfb_copies.proofs.Reading.{read_holds, read_none, read_then}
-use Rattle.cfb_copies.proofs.Turns.{copyable_still, next_numbered, next_takes, next_way, parent_below, parent_is, part_here, part_still, whole_still}
+use Rattle.cfb_copies.proofs.Turns.{copyable_still, next_numbered, next_takes, next_way, parent_below, parent_is, part_here, part_still, kept_still}
 use Rattle.cfb_copies.proofs.copying.copy_listed.Goals as goal
 
 pub loop-place-init : goal.loop-place-init
@@ -80,7 +80,7 @@ returns-in_err-number-clause-err g c told tells tree ready =
     let takes = next_takes start list law c.requires.listed order.outline order.is at inside target (parts_copied (cases_of c.args.target.now.base) (parts_in_file start order.outline) tree)
     c.number_above-parent.result held (i.way told tells tree order.outline order.is ready) to in
     rw (p.1, p.2) (c.in_err-number.ensures.err told tells (read_holds g.F.ReadMedium.tells start mid i.reads told ready.held) held
-    (whole_still g.F.ReadMedium.tells told start mid (number_at list at) i.reads (ready.readable at (placed_in None 0) inside))
+    (kept_still c.args.keep g.F.ReadMedium.tells told start mid (number_at list at) i.reads (ready.kept at (placed_in None 0) inside))
     (subst (λ (es : List Entry). TakesName target c.number_above-parent.result (entry_at es (number_at list at)).name) (sym i.reads.entries) takes))
 
 pub returns-in_err-number-clause-counts : goal.returns-in_err-number-clause-counts
@@ -128,7 +128,7 @@ loop-place-preserved g c =
           next_way start list law c.requires.listed o is at inside target after (parts_copied (cases_of c.args.target.now.base) (parts_in_file start o) tree) w.grows.setting.limits.cases
           (i.way told tells tree o is ready)
           (w.tree told tells (read_holds g.F.ReadMedium.tells start mid i.reads told ready.held) held
-          (whole_still g.F.ReadMedium.tells told start mid (number_at list at) i.reads (ready.readable at (placed_in None 0) inside)) _ part to);
+          (kept_still c.args.keep g.F.ReadMedium.tells told start mid (number_at list at) i.reads (ready.kept at (placed_in None 0) inside)) _ part to);
     }
 
 pub returns-clause-tree : goal.returns-clause-tree

@@ -17,6 +17,6 @@ invariant-loop-place g l = record {
   so_far : length l.numbers.items ≡ l.place-index;
   numbered : (o : Outline) → IsOutline (cases_of l.fn.source.base) (entries_of l.fn.source.base) o → AreNumbered l.target (parts_in_file l.fn.source o) l.numbers.items;
   way : IsTrue g.F.ReadMedium.tells → IsTrue g.W.ReadMedium.tells → (tree : Tree) (o : Outline) → IsOutline (cases_of l.fn.source.base) (entries_of l.fn.source.base) o
-      → AreReady l.fn.source l.fn.target l.list tree
+      → AreReady l.keep l.fn.source l.fn.target l.list tree
       → IsOnTheWay l.target (drop l.place-index (parts_in_file l.fn.source o)) (parts_copied (cases_of l.fn.target.base) (parts_in_file l.fn.source o) tree);
 }

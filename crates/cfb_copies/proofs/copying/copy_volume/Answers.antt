@@ -8,6 +8,7 @@ use Rattle.cfb_copies.specs.cfb_agreement.Files.{failures_of}
 use Rattle.cfb_copies.specs.Copies.{AreCopyable, AreReadable, CopyRefused, ListsObjects}
 use Rattle.cfb_copies.specs.Steps.{IsFaultOfEither}
 use Rattle.cfb_copies.proofs.Faults.{counted_counts, counted_refused, no_fault_counts, unprepared_refused}
+use Rattle.cfb_copies.proofs.Filled.{means_same}
 use Rattle.cfb_copies.proofs.Headers.{header_as_created}
 use Rattle.cfb_copies.proofs.Prepared.{refused_early}
 use Rattle.cfb_copies.proofs.copying.copy_volume.Goals as goal
@@ -76,7 +77,7 @@ returns-in-Ok-clause-tree g c told tells agrees =
     let calm = sym c.is_failed.ensures ∙ c.if-is_failed.false in
     let m = c.in_ok-target.ensures in
     let readable = subst (λ (l : List Place). AreReadable c.args.source.now l) (sym c.as_slice-listed.ensures.value) (c.in_ok-list.ensures.readable told (agrees calm)) in
-    c.in-Ok.ensures.tree told tells (agrees calm) (m.made tells).holds readable (m.empty tells)
+    means_same c.args.source.now c.fill.new.target (c.in-Ok.ensures.tree told tells (agrees calm) (m.made tells).holds readable (m.empty tells)) (c.in_ok-list.ensures.allowed told (agrees calm))
 
 pub returns-in-Ok-clause-allowed : goal.returns-in-Ok-clause-allowed
 returns-in-Ok-clause-allowed g c told agrees =

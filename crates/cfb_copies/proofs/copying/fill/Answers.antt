@@ -16,7 +16,7 @@ use Rattle.cfb_copies.specs.cfb_mini_sectors.State.{bytes_of, cases_of, entries_
 use Rattle.cfb_copies.specs.Copies.{AreReady}
 use Rattle.cfb_copies.specs.Steps.{fields_like}
 use Rattle.cfb_copies.proofs.Faults.{medium_breaks}
-use Rattle.cfb_copies.proofs.Filled.{ends, means_same, root_alone, starts, starts_allowed}
+use Rattle.cfb_copies.proofs.Filled.{ends, means_cut, root_alone, starts, starts_allowed}
 use Rattle.cfb_copies.proofs.Growing.{grows_by, grows_then, ordered, same_tables}
 use Rattle.cfb_copies.proofs.Likes.{gives_all, like_len, like_start, like_valid}
 use Rattle.cfb_copies.proofs.copying.fill.Goals as goal
@@ -44,7 +44,7 @@ set_fields-requires-clause-valid g c = λ f post valid.
     (like_valid like old (version_of c.args.target.now.base) (λ s. absurd (let w : Root ≡ Stream = sym c.entries-before.ensures.in_order.is.root ∙ s in cc)) valid)
 
 pub returns-in_err-set_fields-clause-err : goal.returns-in_err-set_fields-clause-err
-returns-in_err-set_fields-clause-err g c told tells holds target readable none =
+returns-in_err-set_fields-clause-err g c told tells holds target kept none =
     let p = err_from_is_err_and c.from_residual.result c.from_residual.ensures.1 in
     rw (p.1, p.2) (medium_breaks _ c.in_err-set_fields.field-0.0 (c.in_err-set_fields.ensures.err tells target))
 
@@ -59,7 +59,7 @@ returns-clause-grows g c =
     on_ok_weaker c.copy_listed.result (λ more. grows_then tells old mid c.copy_listed.new.target first more) c.copy_listed.ensures.grows
 
 pub returns-clause-tree : goal.returns-clause-tree
-returns-clause-tree g c told tells holds target readable none =
+returns-clause-tree g c told tells holds target kept none =
     let source = c.args.source.now in
     let old = c.args.target.now in
     let mid = c.set_fields.new.self in
@@ -76,23 +76,23 @@ returns-clause-tree g c told tells holds target readable none =
     (subst (λ (e : Entry). BecomesTree (cases_of old.base) (bytes_of old.base) (bytes_of mid.base) (fields_changed_at (cases_of old.base) (λ (info : StorageInfo). storage_info e) same_stream [])) is_root becomes) in
     let cases = s.setting.limits.cases ∙ c.requires.letters in
     let laws = c.parts_stand_at_places.ensures in
-    let ready : AreReady source mid c.args.list.now (root_alone source) = record {
+    let ready : AreReady c.args.keep source mid c.args.list.now (root_alone source) = record {
       held = holds;
       target_held = s.agrees tells target s.ended;
-      readable = readable;
+      kept = kept;
       means = subst (λ (cs : Cases). Means cs (bytes_of mid.base) (root_alone source)) (sym s.setting.limits.cases) means;
-      allowed = λ o is. starts_allowed source holds c.args.list.now c.requires.listed readable laws.ordered laws.whole o is c.copied_objects_are_the_tree.ensures.allowed (cases_of mid.base) cases;
+      allowed = λ o is. starts_allowed source laws.ordered o is c.copied_objects_are_the_tree.ensures.allowed (cases_of mid.base) cases;
     } in
     let o = holds.outline in
     let is = holds.reads.outline in
     on_ok_weaker c.copy_listed.result
-    (λ meant. means_same source c.copy_listed.new.target holds
+    (λ meant. means_cut source c.copy_listed.new.target holds
     (subst (λ (t : Tree). Means (cases_of c.copy_listed.new.target.base) (bytes_of c.copy_listed.new.target.base) t)
-    (ends source holds c.args.list.now c.requires.listed readable laws.ordered laws.whole o is c.copied_objects_are_the_tree.ensures.tree (cases_of mid.base) cases) meant))
+    (ends source laws.ordered o is c.copied_objects_are_the_tree.ensures.tree (cases_of mid.base) cases) meant))
     (c.copy_listed.ensures.tree told tells (root_alone source) o is ready)
 
 pub returns-clause-err : goal.returns-clause-err
-returns-clause-err g c told tells holds target readable none =
+returns-clause-err g c told tells holds target kept none =
     let source = c.args.source.now in
     let old = c.args.target.now in
     let mid = c.set_fields.new.self in
@@ -112,7 +112,7 @@ returns-clause-err g c told tells holds target readable none =
     c.copy_listed.ensures.err told tells (root_alone source) (record {
       held = holds;
       target_held = s.agrees tells target s.ended;
-      readable = readable;
+      kept = kept;
       means = subst (λ (cs : Cases). Means cs (bytes_of mid.base) (root_alone source)) (sym s.setting.limits.cases) means;
-      allowed = λ o is. starts_allowed source holds c.args.list.now c.requires.listed readable laws.ordered laws.whole o is c.copied_objects_are_the_tree.ensures.allowed (cases_of mid.base) cases;
+      allowed = λ o is. starts_allowed source laws.ordered o is c.copied_objects_are_the_tree.ensures.allowed (cases_of mid.base) cases;
     })

@@ -1,4 +1,4 @@
-use Rattle.std.proofs.Common.{◌≡◌, ◌≢◌, ◌≤◌, ◌∷◌, ℕ, List, refl, sym, ◌∙◌, ap, subst}
+use Rattle.std.proofs.Common.{◌≡◌, ◌≢◌, ◌≤◌, ◌∷◌, ℕ, List, refl, sym, ◌∙◌, ap, subst, arith}
 use Rattle.std.proofs.lemmas.Result.{err_from_is_err_and}
 use Rattle.cfb_format.specs.declared.objtype.ObjType.TheVariants.{Stream}
 use Rattle.cfb_format.specs.declared.version.Version.{Version}
@@ -29,7 +29,8 @@ returns-in_err-number-clause-err g c told tells holds target whole takes =
 pub copy_bytes-requires-clause-fits : goal.copy_bytes-requires-clause-fits
 copy_bytes-requires-clause-fits g c =
     let kind = sym (ap (λ (es : List Entry). (entry_at es c.args.entry).obj_type) c.entries-entries.ensures.entries) ∙ sym c.kind_of-kind.ensures ∙ c.in-Stream.is in
-    subst (λ (v : Version). len_of c.args.source.now.base c.args.entry ≤ max_stream_len v) (sym (c.in_ok-number.ensures.grows.setting.limits.version ∙ c.requires.in_version)) (c.requires.copyable.len kind)
+    let most = subst (λ (v : Version). len_of c.args.source.now.base c.args.entry ≤ max_stream_len v) (sym (c.in_ok-number.ensures.grows.setting.limits.version ∙ c.requires.in_version)) (c.requires.copyable.len kind) in
+    omega (arith, most, c.in_ok-len-in-Stream.ensures.within)
 
 pub copy_bytes-requires-clause-stream : goal.copy_bytes-requires-clause-stream
 copy_bytes-requires-clause-stream g c =
@@ -40,7 +41,7 @@ pub returns-in_err-copy_bytes-in-Stream-clause-err : goal.returns-in_err-copy_by
 returns-in_err-copy_bytes-in-Stream-clause-err g c told tells holds target whole takes =
     let p = err_from_is_err_and c.from_residual-in_err-copy_bytes-in-Stream.result c.from_residual-in_err-copy_bytes-in-Stream.ensures.1 in
     let kind = sym (ap (λ (es : List Entry). (entry_at es c.args.entry).obj_type) c.entries-entries.ensures.entries) ∙ sym c.kind_of-kind.ensures ∙ c.in-Stream.is in
-    rw (p.1, p.2) (c.in_err-copy_bytes-in-Stream.ensures.err told tells holds (c.in_ok-number.ensures.grows.holds tells target) (whole kind))
+    rw (p.1, p.2) (c.in_err-copy_bytes-in-Stream.ensures.err told tells holds (c.in_ok-number.ensures.grows.holds tells target) (c.in_ok-len-in-Stream.ensures.kept told holds whole kind))
 
 pub returns-in_ok-copy_bytes-in-Stream-clause-grows : goal.returns-in_ok-copy_bytes-in-Stream-clause-grows
 returns-in_ok-copy_bytes-in-Stream-clause-grows g c =
@@ -82,7 +83,7 @@ returns-in_ok-copy_bytes-in-Stream-clause-tree g c told tells holds target whole
     let tree = subst (λ (es : List Entry). (first : List ℕ) (names : List (List ℕ)) → LeadToEntry old (parent_names (first ∷ names)) c.args.parent → last_name (first ∷ names) ≡ (entry_at es c.args.entry).name
     → BecomesTree (cases_of old.base) (bytes_of old.base) (bytes_of mid.base) (like_added (cases_of old.base) (entry_at es c.args.entry) (first ∷ names))) same (w.tree tells target) in
     stream_tree g.W.ReadMedium.tells tells old mid new n content e part is kind w.grows.setting.limits.cases held (w.grows.setting.is_sound ∙ c.requires.sound) stream b.fills
-    (b.content told tells holds held (whole kind)) (new_leads old mid c.args.parent n content e part is new_in to)
+    (b.content told tells holds held (c.in_ok-len-in-Stream.ensures.kept told holds whole kind)) (new_leads old mid c.args.parent n content e part is new_in to)
     (joined_as (cases_of old.base) (bytes_of old.base) (bytes_of mid.base) content e part is
     (tree is.first is.rest (above_as old c.args.parent content e part is to) (named_as content e part is)))
 

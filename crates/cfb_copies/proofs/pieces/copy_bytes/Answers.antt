@@ -17,7 +17,6 @@ pub loop-at-init : goal.loop-at-init
 loop-at-init g c = record {
   within = omega arith;
   settled = inl refl;
-  whole = c.len-len.ensures;
   reads = read_none g.F.ReadMedium.tells c.args.source.now;
   calm = λ told. refl;
   fills = fills_none g.W.ReadMedium.tells c.args.to c.args.target.now c.requires.unfailed c.requires.stream;
@@ -33,7 +32,7 @@ pub read_piece-requires-clause-inside : goal.read_piece-requires-clause-inside
 read_piece-requires-clause-inside g c =
     let i = c.loop-at.invariant in
     let lens : len_of c.loop-at.source.base c.args.from ≡ len_of c.args.source.now.base c.args.from = ap (λ (es : List Entry). (entry_at es c.args.from).stream_len) i.reads.entries in
-    omega (arith, lens, i.whole, i.within, c.min-count.ensures, length-take c.min-count.result c.loop-at.piece)
+    omega (arith, lens, c.requires.within, i.within, c.min-count.ensures, length-take c.min-count.result c.loop-at.piece)
 
 pub append-requires-clause-sound : goal.append-requires-clause-sound
 append-requires-clause-sound g c = c.loop-at.invariant.fills.setting.is_sound ∙ c.requires.sound
@@ -51,8 +50,8 @@ returns-in_err-read_piece-clause-err g c told tells holds target whole =
     let mid = c.loop-at.source in
     let i = c.loop-at.invariant in
     let same : length (content_at mid c.args.from) ≡ length (content_at start c.args.from) = ap (λ (xs : List ℕ). length xs) (read_content g.F.ReadMedium.tells start mid i.reads told c.args.from) in
-    let lens : len_of mid.base c.args.from ≡ len_of start.base c.args.from = ap (λ (es : List Entry). (entry_at es c.args.from).stream_len) i.reads.entries in
-    rw (p.1, p.2) (c.in_err-read_piece.ensures.err told (read_holds g.F.ReadMedium.tells start mid i.reads told holds) (same ∙ whole ∙ sym lens))
+    rw (p.1, p.2) (c.in_err-read_piece.ensures.err told (read_holds g.F.ReadMedium.tells start mid i.reads told holds)
+    (omega (arith, same, whole, i.within, c.min-count.ensures, length-take c.min-count.result c.loop-at.piece)))
 
 pub returns-in_err-append-clause-err : goal.returns-in_err-append-clause-err
 returns-in_err-append-clause-err g c told tells holds target whole =
@@ -74,7 +73,7 @@ loop-at-preserved g c =
     let into = c.read_piece.new.into in
     let least = c.min-count.ensures in
     let more = c.loop-at-test.true in
-    let upto : at + n ≤ c.len-len.result = omega (arith, least, i.within) in
+    let upto : at + n ≤ c.args.len = omega (arith, least, i.within) in
     -- what is put is what was read
     let long : length into ≡ n = omega (arith, c.read_piece.auto.into, length-take n c.loop-at.piece, least) in
     let put : take n (into ++ drop n c.loop-at.piece) ≡ take n into = take-append-le n into (drop n c.loop-at.piece) (omega (arith, long)) in
@@ -82,18 +81,17 @@ loop-at-preserved g c =
     let read : length (take n c.loop-at.piece) ≡ n = omega (arith, length-take n c.loop-at.piece, least) in
     record {
       within = upto;
-      settled = settles c.len-len.result at n (length c.loop-at.piece) least (omega (arith, c.requires.room, c.loop-at.auto.piece)) i.within;
-      whole = i.whole;
+      settled = settles c.args.len at n (length c.loop-at.piece) least (omega (arith, c.requires.room, c.loop-at.auto.piece)) i.within;
       reads = read_then g.F.ReadMedium.tells start mid c.read_piece.new.source i.reads r.reads;
       calm = λ told. r.counts told ∙ i.calm told;
       fills = fills_then g.W.ReadMedium.tells to c.args.target.now old new i.fills
           (fills_written g.W.ReadMedium.tells to old new a.setting a.ended a.stream a.entries (λ told holds. a.agrees told holds) (λ told holds. a.changes told holds)
-          (λ told holds none. a.stays_full told holds (leaves_none old to c.len-len.result at (length (take n (into ++ drop n c.loop-at.piece))) i.end i.settled more) none) (λ told. a.counts told));
+          (λ told holds none. a.stays_full told holds (leaves_none old to c.args.len at (length (take n (into ++ drop n c.loop-at.piece))) i.end i.settled more) none) (λ told. a.counts told));
       end = a.len ∙ (λ j. i.end j + count j);
       room = omega (arith, length-append into (drop n c.loop-at.piece), length-drop n c.loop-at.piece, long, least, c.loop-at.auto.piece);
       content = λ told tells holds target whole.
           let same = read_content g.F.ReadMedium.tells start mid i.reads told c.args.from in
-          next_joins (content_at start c.args.from) (content_at old to) (content_at new to) into at n (omega (arith, whole, i.whole, i.within)) (i.content told tells holds target whole)
+          next_joins (content_at start c.args.from) (content_at old to) (content_at new to) into at n (omega (arith, whole, i.within)) (i.content told tells holds target whole)
           (a.content tells (i.fills.holds tells target) ∙ (λ j. written (content_at old to) (i.end j) (put j)))
           (take_all n into (omega (arith, long)) ∙ r.ok told (read_holds g.F.ReadMedium.tells start mid i.reads told holds) ∙ (λ j. part (same j) at (read j)));
     }
@@ -101,5 +99,5 @@ loop-at-preserved g c =
 pub returns-clause-content : goal.returns-clause-content
 returns-clause-content g c told tells holds target whole =
     let i = c.loop-at.invariant in
-    let all : length (content_at c.args.source.now c.args.from) ≤ c.loop-at.at = omega (arith, whole, i.whole, c.loop-at-test.false) in
+    let all : length (content_at c.args.source.now c.args.from) ≤ c.loop-at.at = omega (arith, whole, c.loop-at-test.false) in
     i.content told tells holds target whole ∙ take_all c.loop-at.at (content_at c.args.source.now c.args.from) all

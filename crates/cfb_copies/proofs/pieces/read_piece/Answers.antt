@@ -21,15 +21,14 @@ pub read-requires : goal.read-requires
 read-requires g c = record { inside = subst (λ (n : ℕ). c.args.from < n) (sym (ap (λ (es : List Entry). length es) c.loop-done.invariant.reads.entries)) c.requires.from }
 
 pub returns-in_err-count-clause-err : goal.returns-in_err-count-clause-err
-returns-in_err-count-clause-err g c told holds whole =
+returns-in_err-count-clause-err g c told holds enough =
     let p = err_from_is_err_and c.from_residual.result c.from_residual.ensures.1 in
     let start = c.args.source.now in
     let mid = c.loop-done.source in
     let i = c.loop-done.invariant in
     let same : length (content_at mid c.args.from) ≡ length (content_at start c.args.from) = ap (λ (xs : List ℕ). length xs) (read_content g.F.ReadMedium.tells start mid i.reads told c.args.from) in
     let more = c.loop-done-test.true in
-    let inside = c.requires.inside in
-    rw (p.1, p.2) (read_breaks _ (λ past. absurd (omega (arith, past.0, same, whole, c.loop-done.auto.into, inside, more))) c.in_err-count.field-0.0
+    rw (p.1, p.2) (read_breaks _ (λ past. absurd (omega (arith, past.0, same, enough, c.loop-done.auto.into, more))) c.in_err-count.field-0.0
     (c.in_err-count.ensures.err told (read_holds g.F.ReadMedium.tells start mid i.reads told holds)))
 
 pub loop-done-preserved : goal.loop-done-preserved

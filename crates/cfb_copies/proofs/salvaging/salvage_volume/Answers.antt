@@ -1,0 +1,82 @@
+use Rattle.std.proofs.Common.{List, sym, ◌∙◌, subst}
+use Rattle.std.proofs.lemmas.Result.{err_from_is_err_and}
+use Rattle.std.specs.Prelude.{◌||◌}
+use Rattle.cfb_format.specs.declared.error.Error.{Error}
+use Rattle.cfb_format.specs.declared.medium.MediumFault.{MediumFault}
+use Rattle.cfb_places.specs.declared.walk.Place.{Place}
+use Rattle.cfb_copies.specs.cfb_agreement.Files.{failures_of}
+use Rattle.cfb_copies.specs.Copies.{AreCopyable, ListsObjects}
+use Rattle.cfb_copies.specs.Salvaged.{SalvageRefused}
+use Rattle.cfb_copies.specs.Steps.{IsFaultOfEither}
+use Rattle.cfb_copies.proofs.Faults.{counted_counts, counted_cut, no_fault_counts, refused_cut, unprepared_cut}
+use Rattle.cfb_copies.proofs.Headers.{header_as_created}
+use Rattle.cfb_copies.proofs.salvaging.salvage_volume.Goals as goal
+
+pub returns-in_err-prepared-clause-full : goal.returns-in_err-prepared-clause-full
+returns-in_err-prepared-clause-full g c told agrees calm tree means large =
+    let p = err_from_is_err_and c.from_residual.result c.from_residual.ensures.1 in
+    rw (p.1, p.2) (refused_cut c.args.source.now c.in_err-prepared.field-0.0 (c.in_err-prepared.ensures.err told (agrees calm)))
+
+pub returns-in_err-prepared-clause-counts : goal.returns-in_err-prepared-clause-counts
+returns-in_err-prepared-clause-counts g c told =
+    let p = err_from_is_err_and c.from_residual.result c.from_residual.ensures.1 in
+    rw (p.1, p.2) (no_fault_counts _ _ _ _ c.in_err-prepared.field-0.0 c.in_err-prepared.ensures.calm)
+
+pub returns-in_err-prepared-clause-err : goal.returns-in_err-prepared-clause-err
+returns-in_err-prepared-clause-err g c told tells agrees =
+    let p = err_from_is_err_and c.from_residual.result c.from_residual.ensures.1 in
+    let calm = sym c.is_failed.ensures ∙ c.if-is_failed.false in
+    rw (p.1, p.2) (unprepared_cut c.args.source.now c.in_err-prepared.field-0.0 calm (c.in_err-prepared.ensures.err told (agrees calm)))
+
+pub returns-in_err-volume-clause-full : goal.returns-in_err-volume-clause-full
+returns-in_err-volume-clause-full g c told agrees calm tree means large = absurd (c.in_ok-prepared.ensures.fits told (agrees calm) tree means large)
+
+pub fill-requires-clause-listed : goal.fill-requires-clause-listed
+fill-requires-clause-listed g c = subst (λ (l : List Place). ListsObjects c.args.source.now l) (sym c.as_slice-listed.ensures.value) c.in_ok-prepared.ensures.listed
+
+pub fill-requires-clause-copyable : goal.fill-requires-clause-copyable
+fill-requires-clause-copyable g c = subst (λ (l : List Place). AreCopyable c.args.source.now l) (sym c.as_slice-listed.ensures.value) c.in_ok-prepared.ensures.copyable
+
+pub returns-clause-full : goal.returns-clause-full
+returns-clause-full g c told agrees calm tree means large = absurd (c.in_ok-prepared.ensures.fits told (agrees calm) tree means large)
+
+pub returns-clause-err : goal.returns-clause-err
+returns-clause-err g c told tells agrees =
+    let calm = sym c.is_failed.ensures ∙ c.if-is_failed.false in
+    let m = c.in_ok-volume.ensures in
+    subst (λ (e : Error). SalvageRefused c.args.source.now e) (sym c.counted.ensures)
+    (counted_cut c.args.source.now c.in-Err.error calm (c.in-Err.ensures.err told tells (agrees calm) (m.made tells).holds (λ j d below. tt) (m.empty tells)))
+
+pub returns-clause-counts : goal.returns-clause-counts
+returns-clause-counts g c told =
+    let gives = g.F.ReadMedium.read_faults in
+    let can = λ (f : MediumFault). g.W.ReadMedium.read_faults f || g.W.Medium.write_faults f in
+    let was = failures_of c.args.source.now in
+    let now = failures_of c.fill.new.source in
+    subst (λ (e : Error). IsFaultOfEither gives g.W.ReadMedium.tells can was now e) (sym c.counted.ensures)
+    (counted_counts gives g.W.ReadMedium.tells can was now c.in-Err.error (c.in-Err.ensures.counts told))
+
+pub returns-in-Ok-clause-made : goal.returns-in-Ok-clause-made
+returns-in-Ok-clause-made g c tells =
+    let m = c.in_ok-volume.ensures.made tells in
+    let w = c.in-Ok.ensures.grows in
+    record {
+      holds = w.holds tells m.holds;
+      made = w.made tells m.holds m.made;
+      none_free = w.none_free tells m.holds m.none_free;
+      header = header_as_created c.in_ok-volume.volume c.fill.new.target m.holds w.setting.limits.version (w.header tells m.holds) m.header;
+      calm = w.calm tells ∙ m.calm;
+    }
+
+pub returns-in-Ok-clause-salvaged : goal.returns-in-Ok-clause-salvaged
+returns-in-Ok-clause-salvaged g c told agrees =
+    let calm = sym c.is_failed.ensures ∙ c.if-is_failed.false in
+    let m = c.in_ok-volume.ensures in
+    record {
+      tree = λ tells. c.in-Ok.ensures.tree told tells (agrees calm) (m.made tells).holds (λ j d below. tt) (m.empty tells);
+      report = c.in_ok-prepared.ensures.told told (agrees calm);
+      fits = c.in_ok-prepared.ensures.fits told (agrees calm);
+    }
+
+pub returns-in-Ok-clause-full : goal.returns-in-Ok-clause-full
+returns-in-Ok-clause-full g c told agrees calm tree means large = absurd (c.in_ok-prepared.ensures.fits told (agrees calm) tree means large)

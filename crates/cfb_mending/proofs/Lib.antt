@@ -1,0 +1,2 @@
+pub mod InTables
+pub mod Patching

@@ -1,0 +1,309 @@
+//! Looks through the tables of a file, and sets the words that lead to nothing.
+ghost use Rattle.std.specs.Prelude.{◌≡◌, ◌<◌, ◌++◌, ◌∷◌, ◌⊎◌, [], ℕ, List, IsTrue, IfOk, IfSome, OnOk};
+ghost use Rattle.std.specs.List.{All, Contains};
+ghost use Rattle.cfb_format.specs.Bytes.{words_per_sector};
+ghost use Rattle.cfb_mending.specs.Tables.{AreInTables, IsMark, IsOnChain, IsTableSector, directory_start, minifat_start};
+
+use crate::bounds::{place_in, words_in};
+use crate::loaded::{Loaded, SLOT_WORDS, load, word_at};
+use crate::patches::Patch;
+use crate::tables::Tables;
+use cfb_format::consts::{
+    DIFAT_SECTOR, END_OF_CHAIN, FAT_SECTOR, FREE_SECTOR, MAX_REGULAR_SECTOR, NO_STREAM,
+};
+use cfb_format::error::Error;
+use cfb_format::medium::ReadMedium;
+use cfb_format::version::Version;
+use std::alloc::Allocator as Heap;
+
+// Which words of a slot have its three links (MS-CFB 2.6.1).
+const LINK_WORDS: [usize; 3] = [17, 18, 19];
+
+/// A file that is looked through.
+#[derive(Drop)]
+pub(crate) struct Scan<F: ReadMedium, A: Heap + Clone> {
+    pub(crate) medium: F,
+    pub(crate) patches: Vec<Patch, A>,
+    pub(crate) heap: A,
+}
+
+impl<F: ReadMedium, A: Heap + Clone> Scan<F, A> {
+    /// From now on the words of this range are read so. `Memory`.
+    pub(crate) fn set(&mut self, at: u64, end: u64, word: u32) -> Result<(), Error>
+        ensures same { self.new.medium ≡ self.old.medium }
+        ensures added { OnOk result (self.new.patches.items ≡ self.old.patches.items
+            ++ record { at = at; «end» = end; word = word } ∷ []) }
+    {
+        self.patches.push(Patch { at, end, word })?;
+        Ok(())
+    }
+
+    /// From now on a word of a sector is read as this mark, if there is one. `Memory`.
+    fn mark(
+        &mut self,
+        version: Version,
+        sector: u32,
+        index: usize,
+        mark: Option<u32>,
+    ) -> Result<(), Error>
+        requires below { index < words_per_sector version }
+        requires mark { IfSome mark IsMark }
+        ensures same { self.new.medium ≡ self.old.medium }
+        ensures mends { (bytes fat : List ℕ) → IsTableSector version bytes fat sector
+            → AreInTables version bytes fat self.old.patches.items
+            → OnOk result (AreInTables version bytes fat self.new.patches.items) }
+    {
+        let _words = words_in(version);
+        let Some(mark) = mark else {
+            return Ok(());
+        };
+        let at = place_in(version, sector, index);
+        self.set(at, at + 4, mark)?;
+        Ok(())
+    }
+
+    /// Frees what the FAT says of sectors past the end, and ends chains that go on where it says nothing.
+    pub(crate) fn mend_fat(&mut self, tables: &Tables<A>) -> Result<(), Error>
+        ensures same { IsTrue F.tells → F.bytes self.new.medium ≡ F.bytes self.old.medium }
+        ensures mends { IsTrue F.tells
+            → AreInTables tables.now.bounds.version (F.bytes self.old.medium)
+            tables.now.fat.items self.old.patches.items
+            → OnOk result (AreInTables tables.now.bounds.version (F.bytes self.old.medium)
+            tables.now.fat.items self.new.patches.items) }
+    {
+        let mut first = 0u64;
+        for sector in &tables.fat {
+            self.mend_fat_sector(tables, *sector, first)?;
+            first = first.saturating_add(words_in(tables.bounds.version) as u64);
+        }
+        Ok(())
+    }
+
+    /// The same of one FAT sector, whose first word is that of sector `first`.
+    fn mend_fat_sector(&mut self, tables: &Tables<A>, sector: u32, first: u64) -> Result<(), Error>
+        requires { Contains tables.now.fat.items sector }
+        ensures same { IsTrue F.tells → F.bytes self.new.medium ≡ F.bytes self.old.medium }
+        ensures mends { IsTrue F.tells
+            → AreInTables tables.now.bounds.version (F.bytes self.old.medium)
+            tables.now.fat.items self.old.patches.items
+            → OnOk result (AreInTables tables.now.bounds.version (F.bytes self.old.medium)
+            tables.now.fat.items self.new.patches.items) }
+    {
+        let version = tables.bounds.version;
+        let words = words_in(version);
+        let loaded = load(&mut self.medium, version, sector)?;
+        for index in 0..words {
+            let word = loaded.word(index);
+            let at = place_in(version, sector, index);
+            let is_past_end = tables.bounds.sectors <= first.saturating_add(index as u64);
+            let goes_past_end = word <= MAX_REGULAR_SECTOR && tables.known() <= u64::from(word);
+            if is_past_end && !is_padding(word) {
+                self.set(at, place_in(version, sector, words), FREE_SECTOR)?;
+                break;
+            }
+            if !is_past_end && goes_past_end {
+                self.set(at, at + 4, END_OF_CHAIN)?;
+            }
+        }
+        Ok(())
+    }
+
+    /// The sectors of the chain whose start stands at this place: it ends before the first that is missing.
+    pub(crate) fn mend_chain(
+        &mut self,
+        tables: &Tables<A>,
+        start_at: u64,
+    ) -> Result<Vec<u32, A>, Error>
+        requires { (start_at ≡ directory_start) ⊎ (start_at ≡ minifat_start) }
+        ensures same { IsTrue F.tells → F.bytes self.new.medium ≡ F.bytes self.old.medium }
+        ensures chain { IsTrue F.tells → IfOk result (λ chain.
+            All (IsOnChain tables.now.bounds.version (F.bytes self.old.medium)
+            tables.now.fat.items start_at) chain.items) }
+        ensures mends { IsTrue F.tells
+            → AreInTables tables.now.bounds.version (F.bytes self.old.medium)
+            tables.now.fat.items self.old.patches.items
+            → OnOk result (AreInTables tables.now.bounds.version (F.bytes self.old.medium)
+            tables.now.fat.items self.new.patches.items) }
+    {
+        let mut chain = Vec::new(self.heap.clone()?);
+        let mut at = start_at;
+        for _turn in 0..tables.bounds.sectors {
+            let word = word_at(&mut self.medium, at)?;
+            if word > MAX_REGULAR_SECTOR {
+                return Ok(chain);
+            }
+            if tables.is_missing(word) {
+                self.set(at, at + 4, END_OF_CHAIN)?;
+                return Ok(chain);
+            }
+            chain.push(word)?;
+            let Some(place) = tables.fat_place(word) else {
+                return Ok(chain);
+            };
+            at = place;
+        }
+        Ok(chain)
+    }
+
+    /// The types in the slots of the directory's sectors, and the length in the first slot.
+    pub(crate) fn kinds(
+        &mut self,
+        tables: &Tables<A>,
+        directory: &[u32],
+    ) -> Result<(Vec<u8, A>, u64), Error>
+        ensures same { IsTrue F.tells → F.bytes self.new.medium ≡ F.bytes self.old.medium }
+        ensures stays { self.new.patches.items ≡ self.old.patches.items }
+    {
+        let version = tables.bounds.version;
+        let mut kinds = Vec::new(self.heap.clone()?);
+        let mut root_len = 0;
+        for sector in directory {
+            let loaded = load(&mut self.medium, version, *sector)?;
+            if kinds.is_empty() {
+                root_len = loaded.len(0);
+            }
+            for slot in 0..version.dir_entries_per_sector() {
+                kinds.push(loaded.kind(slot))?;
+            }
+        }
+        Ok((kinds, root_len & version.stream_len_mask()))
+    }
+
+    /// Takes away the links of objects that lead to none.
+    pub(crate) fn mend_slots(
+        &mut self,
+        tables: &Tables<A>,
+        directory: &[u32],
+        kinds: &[u8],
+    ) -> Result<(), Error>
+        ensures same { IsTrue F.tells → F.bytes self.new.medium ≡ F.bytes self.old.medium }
+        ensures mends { IsTrue F.tells
+            → All (IsTableSector tables.now.bounds.version (F.bytes self.old.medium)
+            tables.now.fat.items) directory.now
+            → AreInTables tables.now.bounds.version (F.bytes self.old.medium)
+            tables.now.fat.items self.old.patches.items
+            → OnOk result (AreInTables tables.now.bounds.version (F.bytes self.old.medium)
+            tables.now.fat.items self.new.patches.items) }
+    {
+        let version = tables.bounds.version;
+        for sector in directory {
+            let loaded = load(&mut self.medium, version, *sector)?;
+            self.mend_links(version, *sector, &loaded, kinds)?;
+        }
+        Ok(())
+    }
+
+    /// The same of the slots in one sector.
+    fn mend_links(
+        &mut self,
+        version: Version,
+        sector: u32,
+        loaded: &Loaded,
+        kinds: &[u8],
+    ) -> Result<(), Error>
+        ensures same { self.new.medium ≡ self.old.medium }
+        ensures mends { (bytes fat : List ℕ) → IsTableSector version bytes fat sector
+            → AreInTables version bytes fat self.old.patches.items
+            → OnOk result (AreInTables version bytes fat self.new.patches.items) }
+    {
+        for index in 0..words_in(version) {
+            self.mark(version, sector, index, link_mark(loaded, index, kinds))?;
+        }
+        Ok(())
+    }
+
+    /// How many words the MiniFAT has, without the free ones at its end.
+    pub(crate) fn minifat_len(&mut self, tables: &Tables<A>, minifat: &[u32]) -> Result<u64, Error>
+        ensures same { IsTrue F.tells → F.bytes self.new.medium ≡ F.bytes self.old.medium }
+        ensures stays { self.new.patches.items ≡ self.old.patches.items }
+    {
+        let version = tables.bounds.version;
+        let mut len = 0u64;
+        let mut used = 0u64;
+        for sector in minifat {
+            let loaded = load(&mut self.medium, version, *sector)?;
+            for index in 0..words_in(version) {
+                len = len.saturating_add(1);
+                if loaded.word(index) != FREE_SECTOR {
+                    used = len;
+                }
+            }
+        }
+        Ok(used)
+    }
+
+    /// Ends the chains of mini sectors that go on past the end of the MiniFAT, which has so many words.
+    pub(crate) fn mend_minifat(
+        &mut self,
+        tables: &Tables<A>,
+        minifat: &[u32],
+        len: u64,
+    ) -> Result<(), Error>
+        ensures same { IsTrue F.tells → F.bytes self.new.medium ≡ F.bytes self.old.medium }
+        ensures mends { IsTrue F.tells
+            → All (IsTableSector tables.now.bounds.version (F.bytes self.old.medium)
+            tables.now.fat.items) minifat.now
+            → AreInTables tables.now.bounds.version (F.bytes self.old.medium)
+            tables.now.fat.items self.old.patches.items
+            → OnOk result (AreInTables tables.now.bounds.version (F.bytes self.old.medium)
+            tables.now.fat.items self.new.patches.items) }
+    {
+        let version = tables.bounds.version;
+        for sector in minifat {
+            let loaded = load(&mut self.medium, version, *sector)?;
+            self.mend_mini_chains(version, *sector, &loaded, len)?;
+        }
+        Ok(())
+    }
+
+    /// The same of the words in one sector.
+    fn mend_mini_chains(
+        &mut self,
+        version: Version,
+        sector: u32,
+        loaded: &Loaded,
+        len: u64,
+    ) -> Result<(), Error>
+        ensures same { self.new.medium ≡ self.old.medium }
+        ensures mends { (bytes fat : List ℕ) → IsTableSector version bytes fat sector
+            → AreInTables version bytes fat self.old.patches.items
+            → OnOk result (AreInTables version bytes fat self.new.patches.items) }
+    {
+        for index in 0..words_in(version) {
+            self.mark(version, sector, index, mini_mark(loaded, index, len))?;
+        }
+        Ok(())
+    }
+}
+
+/// What a word of the directory is read as: a link of an object that leads to none is no link.
+fn link_mark(loaded: &Loaded, index: usize, kinds: &[u8]) -> Option<u32>
+    ensures { IfSome result IsMark }
+{
+    let link = loaded.word(index);
+    let is_link = LINK_WORDS.contains(&(index % SLOT_WORDS));
+    if !is_link || link == NO_STREAM || loaded.kind(index / SLOT_WORDS) == 0 {
+        return None;
+    }
+    match kinds.get(link as usize) {
+        Some(1 | 2) => None,
+        _ => Some(NO_STREAM),
+    }
+}
+
+/// What a word of the MiniFAT is read as: a chain ends that goes on past its end.
+fn mini_mark(loaded: &Loaded, index: usize, len: u64) -> Option<u32>
+    ensures { IfSome result IsMark }
+{
+    let word = loaded.word(index);
+    if word <= MAX_REGULAR_SECTOR && len <= u64::from(word) {
+        Some(END_OF_CHAIN)
+    } else {
+        None
+    }
+}
+
+/// Whether the word may stand in the FAT behind its last sector (MS-CFB 2.3).
+fn is_padding(word: u32) -> bool {
+    matches!(word, 0 | FREE_SECTOR | FAT_SECTOR | DIFAT_SECTOR)
+}

@@ -1,0 +1,186 @@
+//! Where a file has its tables, and of which sectors these say something.
+ghost use Rattle.std.specs.Prelude.{◌≡◌, ◌<◌, ◌*◌, ◌+◌, ◌^◌, ℕ, List, length, take, IsTrue, IfOk, IfSome, OnOk};
+ghost use Rattle.std.specs.List.{All};
+ghost use Rattle.cfb_mending.specs.Tables.{IsDifatEntry, IsDifatLink, IsFatSector, AreInTables, fat_place};
+
+use crate::bounds::{Bounds, holder_of, index_of, place_in, words_in};
+use crate::loaded::word_at;
+use crate::scan::Scan;
+use cfb_format::consts::{
+    END_OF_CHAIN, FREE_SECTOR, MAX_REGULAR_SECTOR, NUM_DIFAT_ENTRIES_IN_HEADER,
+};
+use cfb_format::error::Error;
+use cfb_format::header::Header;
+use cfb_format::medium::ReadMedium;
+use std::alloc::Allocator as Heap;
+
+// Where the header has the first DIFAT sector, and its entries of the DIFAT (MS-CFB 2.2).
+const FIRST_DIFAT_AT: u64 = 68;
+
+const DIFAT_AT: u64 = 76;
+
+/// Where a file has its tables.
+#[derive(Drop)]
+pub(crate) struct Tables<A: Heap> {
+    pub(crate) bounds: Bounds,
+    /// The FAT sectors, up to the first that is missing.
+    pub(crate) fat: Vec<u32, A>,
+}
+
+impl<A: Heap> Tables<A> {
+    /// For how many sectors the FAT has words.
+    pub(crate) fn known(&self) -> u64 {
+        let words = words_in(self.bounds.version) as u64;
+        let covered = (self.fat.len() as u64).saturating_mul(words);
+        self.bounds.sectors.min(covered)
+    }
+
+    /// Whether the word names a sector that the file has not whole, or of which the FAT says nothing.
+    pub(crate) fn is_missing(&self, word: u32) -> bool {
+        let is_known = self.bounds.has_whole(word) && u64::from(word) < self.known();
+        word <= MAX_REGULAR_SECTOR && !is_known
+    }
+
+    /// Where the FAT has the word of a sector, if it has one.
+    pub(crate) fn fat_place(&self, sector: u32) -> Option<u64>
+        ensures is { result ≡ fat_place self.now.bounds.version self.now.fat.items sector }
+        ensures bound { IfSome result (λ place. place < 2 ^ 63) }
+    {
+        let version = self.bounds.version;
+        let holder = self.fat.get(holder_of(version, sector))?;
+        Some(place_in(version, *holder, index_of(version, sector)))
+    }
+}
+
+impl<F: ReadMedium, A: Heap + Clone> Scan<F, A> {
+    /// Adds the FAT sectors that so many words name, the first of which stands at `at`, up to one that is no number. Where a sector is
+    /// missing the list ends with it: whether that is so.
+    fn list_in(
+        &mut self,
+        bounds: Bounds,
+        at: u64,
+        count: usize,
+        fat: &mut Vec<u32, A>,
+    ) -> Result<bool, Error>
+        requires bound { at + 4 * count < 2 ^ 63 }
+        requires entries { IsTrue F.tells → (index : ℕ) → index < count
+            → IsDifatEntry bounds.version (F.bytes self.old.medium) (at + 4 * index) }
+        ensures same { IsTrue F.tells → F.bytes self.new.medium ≡ F.bytes self.old.medium }
+        ensures listed { IsTrue F.tells
+            → All (IsFatSector bounds.version (F.bytes self.old.medium)) fat.old.items
+            → OnOk result (All (IsFatSector bounds.version (F.bytes self.old.medium))
+            fat.new.items) }
+        ensures mends { IsTrue F.tells → (table : List ℕ)
+            → AreInTables bounds.version (F.bytes self.old.medium) table self.old.patches.items
+            → OnOk result (AreInTables bounds.version (F.bytes self.old.medium) table
+            self.new.patches.items) }
+    {
+        for index in 0..count {
+            let place = at + 4 * index as u64;
+            let word = word_at(&mut self.medium, place)?;
+            if word > MAX_REGULAR_SECTOR {
+                return Ok(false);
+            }
+            if !bounds.has_whole(word) {
+                self.set(place, at + 4 * count as u64, FREE_SECTOR)?;
+                return Ok(true);
+            }
+            fat.push(word)?;
+        }
+        Ok(false)
+    }
+
+    /// The FAT sectors up to the first that is missing, with which the DIFAT ends.
+    pub(crate) fn list_fat(&mut self, bounds: Bounds, header: &Header) -> Result<Vec<u32, A>, Error>
+        ensures same { IsTrue F.tells → F.bytes self.new.medium ≡ F.bytes self.old.medium }
+        ensures listed { IsTrue F.tells → IfOk result (λ fat.
+            All (IsFatSector bounds.version (F.bytes self.old.medium)) fat.items) }
+        ensures mends { IsTrue F.tells → (table : List ℕ)
+            → AreInTables bounds.version (F.bytes self.old.medium) table self.old.patches.items
+            → OnOk result (AreInTables bounds.version (F.bytes self.old.medium) table
+            self.new.patches.items) }
+    {
+        let mut fat = Vec::new(self.heap.clone()?);
+        let is_cut = self.list_in(bounds, DIFAT_AT, NUM_DIFAT_ENTRIES_IN_HEADER, &mut fat)?;
+        self.list_in_sectors(bounds, is_cut, &mut fat)?;
+        drop_padding(&mut fat, header);
+        Ok(fat)
+    }
+
+    /// Adds those that the DIFAT's sectors list, unless the list has ended.
+    fn list_in_sectors(
+        &mut self,
+        bounds: Bounds,
+        is_cut: bool,
+        fat: &mut Vec<u32, A>,
+    ) -> Result<(), Error>
+        ensures same { IsTrue F.tells → F.bytes self.new.medium ≡ F.bytes self.old.medium }
+        ensures listed { IsTrue F.tells
+            → All (IsFatSector bounds.version (F.bytes self.old.medium)) fat.old.items
+            → OnOk result (All (IsFatSector bounds.version (F.bytes self.old.medium))
+            fat.new.items) }
+        ensures mends { IsTrue F.tells → (table : List ℕ)
+            → AreInTables bounds.version (F.bytes self.old.medium) table self.old.patches.items
+            → OnOk result (AreInTables bounds.version (F.bytes self.old.medium) table
+            self.new.patches.items) }
+    {
+        let mut link = FIRST_DIFAT_AT;
+        let mut is_cut = is_cut;
+        for _turn in 0..bounds.sectors {
+            let Some((next, ends)) = self.list_behind(bounds, link, is_cut, fat)? else {
+                return Ok(());
+            };
+            link = next;
+            is_cut = ends;
+        }
+        Ok(())
+    }
+
+    /// Adds the FAT sectors that the DIFAT sector lists whose number stands at `link`, and tells where that of the next one stands, and whether
+    /// the list ends with a missing one. None where there is no such sector; where it is missing, or the list has ended, so does the DIFAT.
+    fn list_behind(
+        &mut self,
+        bounds: Bounds,
+        link: u64,
+        is_cut: bool,
+        fat: &mut Vec<u32, A>,
+    ) -> Result<Option<(u64, bool)>, Error>
+        requires bound { link < 2 ^ 63 }
+        requires link { IsTrue F.tells
+            → IsDifatLink bounds.version (F.bytes self.old.medium) link }
+        ensures same { IsTrue F.tells → F.bytes self.new.medium ≡ F.bytes self.old.medium }
+        ensures next { IfOk result (λ r. IfSome r (λ next. next.0 < 2 ^ 63)) }
+        ensures link { IsTrue F.tells → IfOk result (λ r. IfSome r (λ next.
+            IsDifatLink bounds.version (F.bytes self.old.medium) next.0)) }
+        ensures listed { IsTrue F.tells
+            → All (IsFatSector bounds.version (F.bytes self.old.medium)) fat.old.items
+            → OnOk result (All (IsFatSector bounds.version (F.bytes self.old.medium))
+            fat.new.items) }
+        ensures mends { IsTrue F.tells → (table : List ℕ)
+            → AreInTables bounds.version (F.bytes self.old.medium) table self.old.patches.items
+            → OnOk result (AreInTables bounds.version (F.bytes self.old.medium) table
+            self.new.patches.items) }
+    {
+        let next = word_at(&mut self.medium, link)?;
+        if next > MAX_REGULAR_SECTOR {
+            return Ok(None);
+        }
+        if is_cut || !bounds.has_whole(next) {
+            self.set(link, link + 4, END_OF_CHAIN)?;
+            return Ok(None);
+        }
+        let count = words_in(bounds.version) - 1;
+        let ends = self.list_in(bounds, place_in(bounds.version, next, 0), count, fat)?;
+        Ok(Some((place_in(bounds.version, next, count), ends)))
+    }
+}
+
+/// Zeros at the end of the list pad it (MS-CFB 2.5).
+fn drop_padding<A: Heap>(fat: &mut Vec<u32, A>, header: &Header)
+    ensures { fat.new.items ≡ take (length fat.new.items) fat.old.items }
+{
+    let least = NUM_DIFAT_ENTRIES_IN_HEADER.max(header.num_fat_sectors as usize);
+    let last = fat.iter().rposition(|sector| *sector != 0);
+    let used = last.map_or(0, |last| last.saturating_add(1));
+    fat.truncate(least.max(used));
+}
