@@ -1,0 +1,4 @@
+pub mod Owners
+pub mod Claims
+pub mod Flaws
+pub mod Telling

@@ -1,0 +1,34 @@
+-- What searches for flaws know, and what they tell.
+use Rattle.std.specs.Prelude.{ℕ, ◌≡◌, ◌<◌, List, Contains, All}
+use Rattle.cfb_format.specs.Names.{Cases}
+use Rattle.cfb_format.specs.Reading.{Reading, Reads}
+use Rattle.cfb_format.specs.Soundness.{owner, mini_owner, mini_stream_sectors}
+use Rattle.cfb_flaws.specs.declared.flaw.Flaw.{Flaw}
+use Rattle.cfb_flaws.specs.declared.known.Known.{Known}
+use Rattle.cfb_flaws.specs.declared.owner.Owner.{Owner}
+use Rattle.cfb_flaws.specs.declared.owner.Table.{Table}
+use Rattle.cfb_flaws.specs.declared.owner.Table.TheVariants.{Fat, Minifat}
+use Rattle.cfb_flaws.specs.Flaws.{Has, Holds}
+use Rattle.cfb_flaws.specs.Owners.{AreKept, AreOwners}
+
+-- what is known is so in the file with these bytes
+pub record KnowsFile {A : Type 0} (known : Known A) (bytes : List ℕ) (r : Reading) : Type 0 where
+  pub parts : AreKept known.parts.now bytes r
+  pub sectors : AreOwners r.fat (owner r) known.sectors.now
+  pub mini_sectors : AreOwners r.minifat (mini_owner r) known.mini_sectors.now
+  pub root : known.root.now ≡ mini_stream_sectors r
+
+-- where the reasons told so far are true, those told now are too
+abbrev pub TellsTruth : {A : Type 0} → Known A → List Flaw → List Flaw → Type 0
+TellsTruth known old new = (cases : Cases) (bytes : List ℕ) (r : Reading) → Reads cases bytes r → KnowsFile known bytes r
+    → All (Holds bytes r) old → All (Holds bytes r) new
+
+-- the same where these numbers are the owner's
+abbrev pub TellsTruthOf : {A : Type 0} → Known A → Table → Owner → List ℕ → List Flaw → List Flaw → Type 0
+TellsTruthOf known t o list old new = (cases : Cases) (bytes : List ℕ) (r : Reading) → Reads cases bytes r → KnowsFile known bytes r
+    → ((i : ℕ) → Contains list i → Has t r o i) → All (Holds bytes r) old → All (Holds bytes r) new
+
+-- the owners of the numbers of that table
+abbrev pub owners_of : {A : Type 0} → Table → Known A → List Owner
+owners_of Fat known = known.sectors.now
+owners_of Minifat known = known.mini_sectors.now
