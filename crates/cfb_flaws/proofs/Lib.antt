@@ -5,4 +5,15 @@ pub mod Claiming
 pub mod Assembling
 pub mod Lying
 pub mod Truths
+pub mod Tellings
+pub mod Searching
+pub mod Sharing
+pub mod Streaming
+pub mod Loosing
+pub mod Apart
+pub mod Ends
+pub mod Counting
 pub mod Reaching
+pub mod Covering
+pub mod Filling
+pub mod Growing

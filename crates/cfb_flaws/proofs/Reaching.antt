@@ -23,7 +23,10 @@ past bytes o = ap (λ b. if b then Some (length bytes + o) else None) (le-ltb (l
 
 mini_at : (v : Version) (bytes : List ℕ) (root : Option (List ℕ)) (m o : ℕ) → o < 64
     → option_and_then (λ l. place_in_chain v bytes l (64 * m + o)) root ≡ in_file bytes (start_by v (length bytes) (unwrap_or root []) m + o)
-mini_at v bytes None m o h = sym (past bytes o)
+mini_at v bytes None m o h = sym (past bytes o) ∙ ap (λ (s : ℕ). in_file bytes (s + o)) (sym none_room)
+  where
+    none_room : start_by v (length bytes) [] m ≡ length bytes
+    none_room = ap (λ (b : Bool). if b then mini_start v [] m else length bytes) (le-ltb (64 * m / sector_len v) 0 (omega arith))
 mini_at v bytes (Some root) m o h = (λ j. option_and_then (λ i. in_file bytes (sector_start v i + mini_rest v m o h j)) (slice_get root (mini_quotient v m o h j)))
     ∙ go (nat_lt (64 * m / sector_len v) (length root)) refl
   where

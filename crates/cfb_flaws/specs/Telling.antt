@@ -8,7 +8,7 @@ use Rattle.cfb_flaws.specs.declared.known.Known.{Known}
 use Rattle.cfb_flaws.specs.declared.owner.Owner.{Owner}
 use Rattle.cfb_flaws.specs.declared.owner.Table.{Table}
 use Rattle.cfb_flaws.specs.declared.owner.Table.TheVariants.{Fat, Minifat}
-use Rattle.cfb_flaws.specs.Flaws.{Has, Holds}
+use Rattle.cfb_flaws.specs.Flaws.{Clause, Holds, NoneOn}
 use Rattle.cfb_flaws.specs.Owners.{AreKept, AreOwners}
 
 -- what is known is so in the file with these bytes
@@ -18,15 +18,16 @@ pub record KnowsFile {A : Type 0} (known : Known A) (bytes : List ℕ) (r : Read
   pub mini_sectors : AreOwners r.minifat (mini_owner r) known.mini_sectors.now
   pub root : known.root.now ≡ mini_stream_sectors r
 
--- where the reasons told so far are true, those told now are too
-abbrev pub TellsTruth : {A : Type 0} → Known A → List Flaw → List Flaw → Type 0
-TellsTruth known old new = (cases : Cases) (bytes : List ℕ) (r : Reading) → Reads cases bytes r → KnowsFile known bytes r
-    → All (Holds bytes r) old → All (Holds bytes r) new
+-- what is told now is as true as what was, and if nothing of it breaks this clause, so much holds
+pub record Told (c : Clause) (C : Type 0) (bytes : List ℕ) (r : Reading) (old new : List Flaw) : Type 0 where
+  pub truth : All (Holds bytes r) old → All (Holds bytes r) new
+  pub kept : (d : Clause) → NoneOn d new → NoneOn d old
+  pub answers : NoneOn c new → C
 
--- the same where these numbers are the owner's
-abbrev pub TellsTruthOf : {A : Type 0} → Known A → Table → Owner → List ℕ → List Flaw → List Flaw → Type 0
-TellsTruthOf known t o list old new = (cases : Cases) (bytes : List ℕ) (r : Reading) → Reads cases bytes r → KnowsFile known bytes r
-    → ((i : ℕ) → Contains list i → Has t r o i) → All (Holds bytes r) old → All (Holds bytes r) new
+-- the same in each file where so much is known
+abbrev pub Tells : {A : Type 0} → Known A → Clause → (List ℕ → Reading → Type 0) → List Flaw → List Flaw → Type 0
+Tells known c holds old new = (cases : Cases) (bytes : List ℕ) (r : Reading) → Reads cases bytes r → KnowsFile known bytes r
+    → Told c (holds bytes r) bytes r old new
 
 -- the owners of the numbers of that table
 abbrev pub owners_of : {A : Type 0} → Table → Known A → List Owner

@@ -46,7 +46,7 @@ pub enum Flaw {
     /// Nothing uses the one number, which goes on in the other, and that is free or has an owner.
     Loose {
         table: Table,
-        number: u32,
+        number: u64,
         next: u32,
         owner: Owner,
     },
@@ -56,6 +56,6 @@ pub enum Flaw {
         readable: u64,
         len: u64,
     },
-    /// A reason whose place was not found.
-    Elsewhere,
+    /// A word of the FAT points past the file.
+    PastFile,
 }

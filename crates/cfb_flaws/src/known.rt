@@ -9,6 +9,7 @@ use std::alloc::{Allocator, Global};
 /// The parts of a file, the owners of its sectors and mini sectors, and the sectors of its mini stream.
 #[derive(Drop)]
 pub(crate) struct Known<'a, A: Allocator = Global> {
+    pub(crate) heap: &'a A,
     pub(crate) parts: &'a Parts<'a, A>,
     pub(crate) sectors: &'a [Owner],
     pub(crate) mini_sectors: &'a [Owner],

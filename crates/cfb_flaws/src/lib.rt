@@ -3,7 +3,13 @@
 
 mod claims;
 pub mod flaw;
+pub mod flaws;
 mod known;
 pub mod owner;
 pub mod owners;
+mod reach;
+mod searches;
+mod shared;
 mod starts;
+mod streams;
+mod tables;

@@ -1,5 +1,5 @@
 //! Where the chains of a file begin.
-ghost use Rattle.std.specs.Prelude.{◌≡◌, ◌≢◌, ◌<◌, ℕ, List, [], false, length, IsTrue};
+ghost use Rattle.std.specs.Prelude.{◌≡◌, ◌≢◌, ◌<◌, ◌↔◌, ℕ, List, [], false, length, IsTrue};
 ghost use Rattle.cfb_format.specs.Bytes.{end_of_chain};
 ghost use Rattle.cfb_format.specs.Chain.{IsChain, chain_from};
 ghost use Rattle.cfb_format.specs.Content.{mini_stream_chain};
@@ -54,7 +54,7 @@ pub(crate) fn start_in<A: Allocator>(table: Table, entry: &DirEntry<A>) -> u32
 
 /// Whether the stream is not empty and lies in that table.
 pub(crate) fn lies_in<A: Allocator>(table: Table, entry: &DirEntry<A>) -> bool
-    ensures lies { IsTrue result → LiesIn table (entry_of entry.now) }
+    ensures lies { IsTrue result ↔ LiesIn table (entry_of entry.now) }
     ensures else_none { result ≡ false → (r : Reading) → members_in table r (entry_of entry.now) ≡ [] }
 {
     let is_large = entry.stream_len >= MINI_STREAM_CUTOFF as u64;

@@ -7,7 +7,7 @@ use Rattle.cfb_flaws.proofs.Lying.{lies-members}
 use Rattle.cfb_flaws.proofs.starts.start_in.Goals as goal
 
 pub returns-then-lies_in : goal.returns-then-lies_in
-returns-then-lies_in g c = λ r. lies-members c.args.table r (entry_of c.args.entry.now) (c.lies_in.ensures.lies c.if-lies_in.true)
+returns-then-lies_in g c = λ r. lies-members c.args.table r (entry_of c.args.entry.now) (c.lies_in.ensures.lies.0 c.if-lies_in.true)
 
 pub returns : goal.returns
 returns g c = λ r. c.lies_in.ensures.else_none c.if-lies_in.false r ∙ sym (chain-is (words_of c.args.table r) end_of_chain [] refl)
