@@ -30,3 +30,4 @@ pub mod Asking
 pub mod Taken
 pub mod Writing
 pub mod Closing
+pub mod Flaws

@@ -1,0 +1,93 @@
+//! Why a compound file is not sound, and what its sectors are used for.
+ghost use Rattle.std.specs.Prelude.{◌≡◌, ◌⊎◌, IsTrue, IfErr, IfOk, length};
+ghost use Rattle.cfb_format.specs.declared.error.Error.TheVariants.{Failed};
+ghost use Rattle.cfb_compound_file.specs.cfb_mini_sectors.State.{tables_in};
+ghost use Rattle.cfb_format.specs.Refused.{IsMemory};
+ghost use Rattle.cfb_compound_file.specs.Flaws.{AreFlawsOf, AreMiniOwnersOf, AreSectorOwnersOf};
+
+use crate::compound_file::CompoundFile;
+use cfb_flaws::flaw::Flaw;
+use cfb_flaws::owner::Owner;
+use cfb_format::error::Error;
+use cfb_format::medium::ReadMedium;
+use cfb_opening::flaws::{file_flaws, file_mini_owners, file_owners, file_streams};
+use std::alloc::Allocator as Heap;
+
+impl<F: ReadMedium, A: Heap + Clone> CompoundFile<F, A> {
+    /// Why the file is not sound: no reason where it is. Streams are told by the numbers of their directory entries. It takes time and
+    /// memory for the sectors, the mini sectors and the streams.
+    ///
+    /// # Errors
+    ///
+    /// `Failed` if an earlier change broke off; `Memory`.
+    pub fn flaws(&self, alloc: &A) -> Result<Vec<Flaw, A>, Error>
+        ensures told { IsTrue F.tells → IfOk result (λ found. AreFlawsOf self.now found.items) }
+        ensures err { IfErr result (λ e. (e ≡ Failed) ⊎ IsMemory e) }
+    {
+        if self.volume.is_failed() {
+            return Err(Error::Failed);
+        }
+        file_flaws(alloc, self.volume.tables(), self.volume.is_sound())
+    }
+
+    /// The owner of each sector, the first if there are several.
+    ///
+    /// # Errors
+    ///
+    /// `Failed` if an earlier change broke off; `Memory`.
+    pub fn sector_owners(&self, alloc: &A) -> Result<Vec<Owner, A>, Error>
+        ensures told { IsTrue F.tells
+            → IfOk result (λ owners. AreSectorOwnersOf self.now owners.items) }
+        ensures err { IfErr result (λ e. (e ≡ Failed) ⊎ IsMemory e) }
+    {
+        if self.volume.is_failed() {
+            return Err(Error::Failed);
+        }
+        file_owners(alloc, self.volume.tables())
+    }
+
+    /// The owner of each mini sector, the first if there are several.
+    ///
+    /// # Errors
+    ///
+    /// `Failed` if an earlier change broke off; `Memory`.
+    pub fn mini_sector_owners(&self, alloc: &A) -> Result<Vec<Owner, A>, Error>
+        ensures told { IsTrue F.tells
+            → IfOk result (λ owners. AreMiniOwnersOf self.now owners.items) }
+        ensures err { IfErr result (λ e. (e ≡ Failed) ⊎ IsMemory e) }
+    {
+        if self.volume.is_failed() {
+            return Err(Error::Failed);
+        }
+        file_mini_owners(alloc, self.volume.tables())
+    }
+
+    /// The numbers of the directory entries of the streams, in the order of `walk`.
+    ///
+    /// # Errors
+    ///
+    /// `Memory`.
+    pub fn stream_numbers(&self, alloc: &A) -> Result<Vec<u32, A>, Error> {
+        file_streams(alloc, self.volume.tables())
+    }
+
+    /// How many directory entries there are, used or not.
+    pub fn entry_count(&self) -> usize {
+        self.volume.entries().len()
+    }
+
+    /// How many sectors there are behind the header's.
+    pub fn sector_count(&self) -> usize {
+        self.volume.tables().allocator().fat().len()
+    }
+
+    /// How many mini sectors the MiniFAT names.
+    pub fn mini_sector_count(&self) -> usize {
+        self.volume.tables().minifat().len()
+    }
+
+    /// The length of the file, in bytes.
+    pub fn file_len(&self) -> u64 {
+        self.volume.tables().allocator().file_len()
+    }
+}
