@@ -38,15 +38,15 @@ module _ {A : Type 0} (known : Known A) (cases : Cases) (bytes : List ℕ) (r : 
       lt,
     )
 
-  module _ (per room : ℕ) (e : per ≡ sector_len known.parts.now.version / 64) (w : room ≡ min (length known.root.now * per) most_words) where
+  module _ (per room : ℕ) (e : per ≡ sector_len known.parts.now.version / 64) (w : room ≡ min (length known.root.items * per) most_words) where
     pub has-room : length known.parts.now.minifat.now ≤ room → HasRoom r
     has-room le = subst (λ (p : List ℕ × List ℕ × Version). length p.0 * mini_sector_len ≤ length p.1 * sector_len p.2)
         (λ i. (knows.parts.minifat i, knows.root i, knows.parts.version i))
-        (enough-room known.parts.now.version (length known.root.now) per room (length known.parts.now.minifat.now) e w le)
+        (enough-room known.parts.now.version (length known.root.items) per room (length known.parts.now.minifat.now) e w le)
 
     pub little-left : room < length known.parts.now.minifat.now → length known.parts.now.minifat.now ≤ most_words → Holds bytes r (TooLittleRoom room (length known.parts.now.minifat.now))
     little-left lt few = (
-      little-room known.parts.now.version (length known.root.now) per room (length known.parts.now.minifat.now) e w lt few
+      little-room known.parts.now.version (length known.root.items) per room (length known.parts.now.minifat.now) e w lt few
           ∙ (λ i. length (knows.root i) * sector_len (knows.parts.version i)),
       ap length knows.parts.minifat,
       lt,

@@ -28,7 +28,7 @@ reach_along len start size (i ∷ list) = min len (size - start i) + (if nat_le 
 
 abbrev pub reach_of : {A : Type 0} → Known A → Table → List ℕ → ℕ
 reach_of known t list = reach_along (len_in known.parts.now.version t)
-    (start_in_file known.parts.now.version known.parts.now.len known.root.now t) known.parts.now.len list
+    (start_in_file known.parts.now.version known.parts.now.len known.root.items t) known.parts.now.len list
 
 -- as far as a word counts
 abbrev pub capped : ℕ → ℕ

@@ -14,9 +14,9 @@ use Rattle.cfb_flaws.specs.Owners.{AreKept, AreOwners}
 -- what is known is so in the file with these bytes
 pub record KnowsFile {A : Type 0} (known : Known A) (bytes : List ℕ) (r : Reading) : Type 0 where
   pub parts : AreKept known.parts.now bytes r
-  pub sectors : AreOwners r.fat (owner r) known.sectors.now
-  pub mini_sectors : AreOwners r.minifat (mini_owner r) known.mini_sectors.now
-  pub root : known.root.now ≡ mini_stream_sectors r
+  pub sectors : AreOwners r.fat (owner r) known.sectors.items
+  pub mini_sectors : AreOwners r.minifat (mini_owner r) known.mini_sectors.items
+  pub root : known.root.items ≡ mini_stream_sectors r
 
 -- what is told now is as true as what was, and if nothing of it breaks this clause, so much holds
 pub record Told (c : Clause) (C : Type 0) (bytes : List ℕ) (r : Reading) (old new : List Flaw) : Type 0 where
@@ -31,5 +31,5 @@ Tells known c holds old new = (cases : Cases) (bytes : List ℕ) (r : Reading) �
 
 -- the owners of the numbers of that table
 abbrev pub owners_of : {A : Type 0} → Table → Known A → List Owner
-owners_of Fat known = known.sectors.now
-owners_of Minifat known = known.mini_sectors.now
+owners_of Fat known = known.sectors.items
+owners_of Minifat known = known.mini_sectors.items

@@ -80,11 +80,11 @@ fn tell_flaws<A: Allocator + Clone>(
     let mini_sectors = mini_sector_owners(heap, parts)?;
     let root = root_of(heap, parts)?;
     let known = Known {
-        heap,
+        heap: heap.clone()?,
         parts,
-        sectors: &sectors,
-        mini_sectors: &mini_sectors,
-        root: &root,
+        sectors,
+        mini_sectors,
+        root,
     };
     tell_known(&known, found)?;
     Ok(())
@@ -98,15 +98,16 @@ fn root_of<A: Allocator + Clone>(heap: &A, parts: &Parts<'_, A>) -> Result<Vec<u
     ensures err { IfErr result (λ e. e ≡ Memory) }
 {
     let start = start_of_mini_stream(parts);
-    match short_chain(heap.clone()?, parts.fat, start, parts.fat.len())? {
-        Some(list) => Ok(list),
-        None => Ok(Vec::new(heap.clone()?)),
-    }
+    let none = Vec::new(heap.clone()?);
+    let Some(list) = short_chain(heap.clone()?, parts.fat, start, parts.fat.len())? else {
+        return Ok(none);
+    };
+    Ok(list)
 }
 
 /// Tells what is wrong with what is known, clause by clause; nothing is told yet. `Memory`.
 fn tell_known<A: Allocator + Clone>(
-    known: &Known<'_, A>,
+    known: &Known<'_, '_, A>,
     found: &mut Vec<Flaw, A>,
 ) -> Result<(), Error>
     requires { found.old.items ≡ [] }
@@ -124,7 +125,7 @@ fn tell_known<A: Allocator + Clone>(
 
 /// Tells what is used twice, and whether the FAT has too few words. `Memory`.
 fn tell_uses<A: Allocator + Clone>(
-    known: &Known<'_, A>,
+    known: &Known<'_, '_, A>,
     found: &mut Vec<Flaw, A>,
 ) -> Result<(), Error>
     ensures covers { OnOk result (Tells known.now on_covers Covers found.old.items found.new.items) }
@@ -146,7 +147,7 @@ fn tell_uses<A: Allocator + Clone>(
 
 /// Tells which chains break, and which streams can't be read to their ends. `Memory`.
 fn tell_chains<A: Allocator + Clone>(
-    known: &Known<'_, A>,
+    known: &Known<'_, '_, A>,
     found: &mut Vec<Flaw, A>,
 ) -> Result<(), Error>
     ensures mini_stream { OnOk result (Tells known.now on_mini_stream
@@ -165,7 +166,7 @@ fn tell_chains<A: Allocator + Clone>(
 }
 
 /// Tells whether the mini stream has too little room, and which loose ends can come alive. `Memory`.
-fn tell_rest<A: Allocator>(known: &Known<'_, A>, found: &mut Vec<Flaw, A>) -> Result<(), Error>
+fn tell_rest<A: Allocator>(known: &Known<'_, '_, A>, found: &mut Vec<Flaw, A>) -> Result<(), Error>
     ensures room { OnOk result (Tells known.now on_mini_room
         (λ bytes r. HasRoom r) found.old.items found.new.items) }
     ensures loose { OnOk result (Tells known.now on_loose

@@ -44,7 +44,7 @@ impl Owner {
     }
 
     /// Whether both are the same owner.
-    pub(crate) fn is_same(self, other: Owner) -> bool
+    pub fn is_same(self, other: Owner) -> bool
         ensures { IsTrue result ↔ self ≡ other }
     {
         match self {

@@ -16,7 +16,7 @@ ghost use Rattle.cfb_flaws.specs.Telling.{KnowsFile, Tells, Told};
 
 use crate::claims::{is_on_chain, walk_unseen};
 use crate::flaw::Flaw;
-use crate::known::{Known, owners_in};
+use crate::known::{Known, owners_in, root_in};
 use crate::owner::Table;
 use crate::owners::words_of;
 use crate::starts::lies_in;
@@ -26,7 +26,7 @@ use std::alloc::Allocator;
 
 /// Tells each stream in that table of which not all can be read. `Memory`.
 pub(crate) fn tell_cut_streams<A: Allocator + Clone>(
-    known: &Known<'_, A>,
+    known: &Known<'_, '_, A>,
     table: Table,
     found: &mut Vec<Flaw, A>,
 ) -> Result<(), Error>
@@ -44,7 +44,7 @@ pub(crate) fn tell_cut_streams<A: Allocator + Clone>(
 /// The same with room for what is known of each number of the table: whether a walk saw it, and how many bytes from there on the file
 /// has. None was seen yet. `Memory`.
 fn tell_cut_with<A: Allocator + Clone>(
-    known: &Known<'_, A>,
+    known: &Known<'_, '_, A>,
     table: Table,
     seen: &mut [bool],
     reach: &mut [u64],
@@ -65,7 +65,7 @@ fn tell_cut_with<A: Allocator + Clone>(
 
 /// Tells whether the stream with that entry lies in that table and can't be read to its end. `Memory`.
 fn tell_cut_stream<A: Allocator + Clone>(
-    known: &Known<'_, A>,
+    known: &Known<'_, '_, A>,
     table: Table,
     number: u32,
     seen: &mut [bool],
@@ -130,7 +130,7 @@ fn tell_cut<A: Allocator>(
 /// How many bytes of the chain from `start` on the file has, up to the first that it has not. All walks together take as many steps as
 /// the table has numbers. `Memory`.
 fn reach_from<A: Allocator + Clone>(
-    known: &Known<'_, A>,
+    known: &Known<'_, '_, A>,
     table: Table,
     start: u32,
     seen: &mut [bool],
@@ -168,7 +168,7 @@ fn reach_at(reach: &[u64], number: u32) -> u64
 /// Notes for each number of the path how many bytes from there on the file has, where so many are behind the path, and answers how many
 /// from its first on.
 fn fill<A: Allocator>(
-    known: &Known<'_, A>,
+    known: &Known<'_, '_, A>,
     table: Table,
     path: &[u32],
     behind: u64,
@@ -203,7 +203,7 @@ fn joined(there: u64, whole: u64, behind: u64) -> u64
 }
 
 /// How many bytes of a sector or of a mini sector the file has, up to the first that it has not.
-fn there_of<A: Allocator>(known: &Known<'_, A>, table: Table, number: u32) -> u64
+fn there_of<A: Allocator>(known: &Known<'_, '_, A>, table: Table, number: u32) -> u64
     ensures { result ≡ min (len_in known.now.parts.now.version table)
         (known.now.parts.now.len - start_in_file known.now.parts.now.version known.now.parts.now.len known.now.root.now table number) }
 {
@@ -216,7 +216,7 @@ fn there_of<A: Allocator>(known: &Known<'_, A>, table: Table, number: u32) -> u6
 }
 
 /// The length of a sector, or of a mini sector.
-fn len_in<A: Allocator>(known: &Known<'_, A>, table: Table) -> u64
+fn len_in<A: Allocator>(known: &Known<'_, '_, A>, table: Table) -> u64
     ensures { result ≡ len_in known.now.parts.now.version table }
 {
     match table {
@@ -226,7 +226,7 @@ fn len_in<A: Allocator>(known: &Known<'_, A>, table: Table) -> u64
 }
 
 /// Where a sector or a mini sector begins in the file: at its end where the mini stream has no room for it.
-fn start_in_file<A: Allocator>(known: &Known<'_, A>, table: Table, number: u32) -> u64
+fn start_in_file<A: Allocator>(known: &Known<'_, '_, A>, table: Table, number: u32) -> u64
     ensures { result ≡ start_in_file known.now.parts.now.version known.now.parts.now.len known.now.root.now table number }
 {
     let sector_len = known.parts.version.sector_len() as u64;
@@ -235,10 +235,11 @@ fn start_in_file<A: Allocator>(known: &Known<'_, A>, table: Table, number: u32) 
         Table::Minifat => {
             let at = MINI_SECTOR_LEN as u64 * number as u64;
             let i = (at / sector_len) as usize;
-            if i >= known.root.len() {
+            let root = root_in(known);
+            if i >= root.len() {
                 return known.parts.len;
             }
-            (known.root[i] as u64 + 1) * sector_len + at % sector_len
+            (root[i] as u64 + 1) * sector_len + at % sector_len
         }
     }
 }

@@ -25,7 +25,7 @@ use std::alloc::Allocator;
 /// Tells what the owner's chain at `start` shares with others: the first run of numbers at least, and further ones in so many steps. It
 /// answers how many it took. `Memory`.
 pub(crate) fn tell_shared_chain<A: Allocator>(
-    known: &Known<'_, A>,
+    known: &Known<'_, '_, A>,
     table: Table,
     owner: Owner,
     start: u32,
@@ -53,7 +53,7 @@ pub(crate) fn tell_shared_chain<A: Allocator>(
 
 /// Tells the runs from `next` on, which this owner has and others too. `Memory`.
 fn tell_runs<A: Allocator>(
-    known: &Known<'_, A>,
+    known: &Known<'_, '_, A>,
     table: Table,
     owner: Owner,
     next: u32,
@@ -91,7 +91,7 @@ fn tell_runs<A: Allocator>(
 
 /// Tells the run at `first`, which this owner has and another one too, and answers its last number. `Memory`.
 fn tell_run<A: Allocator>(
-    known: &Known<'_, A>,
+    known: &Known<'_, '_, A>,
     table: Table,
     owner: Owner,
     first: u32,
@@ -123,7 +123,7 @@ fn tell_run<A: Allocator>(
 
 /// Tells each DIFAT sector that is one of the FAT's too. `Memory`.
 pub(crate) fn tell_difat<A: Allocator>(
-    known: &Known<'_, A>,
+    known: &Known<'_, '_, A>,
     found: &mut Vec<Flaw, A>,
 ) -> Result<(), Error>
     ensures told { OnOk result (Tells known.now (twice_in Fat)
@@ -138,7 +138,7 @@ pub(crate) fn tell_difat<A: Allocator>(
 
 /// Tells whether the DIFAT sector is one of the FAT's too. `Memory`.
 fn tell_difat_sector<A: Allocator>(
-    known: &Known<'_, A>,
+    known: &Known<'_, '_, A>,
     number: u32,
     found: &mut Vec<Flaw, A>,
 ) -> Result<(), Error>
@@ -148,7 +148,7 @@ fn tell_difat_sector<A: Allocator>(
         bytes r found.old.items found.new.items) }
     ensures err { IfErr result (λ e. e ≡ Memory) }
 {
-    let owner = owner_at(known.sectors, number as usize);
+    let owner = owner_at(owners_in(Table::Fat, known), number as usize);
     if owner.is_same(Owner::Difat) {
         return Ok(());
     }

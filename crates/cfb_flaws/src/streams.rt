@@ -23,7 +23,7 @@ use std::alloc::Allocator;
 const MOST_WALKS: usize = 8;
 
 /// How many steps the searches along the chains of that table may take.
-pub(crate) fn steps_for<A: Allocator>(table: Table, known: &Known<'_, A>) -> usize {
+pub(crate) fn steps_for<A: Allocator>(table: Table, known: &Known<'_, '_, A>) -> usize {
     words_of(table, known.parts)
         .len()
         .saturating_mul(MOST_WALKS)
@@ -31,7 +31,7 @@ pub(crate) fn steps_for<A: Allocator>(table: Table, known: &Known<'_, A>) -> usi
 
 /// Tells what streams in that table share with each other and with the tables. `Memory`.
 pub(crate) fn tell_shared_streams<A: Allocator>(
-    known: &Known<'_, A>,
+    known: &Known<'_, '_, A>,
     table: Table,
     found: &mut Vec<Flaw, A>,
 ) -> Result<(), Error>
@@ -49,7 +49,7 @@ pub(crate) fn tell_shared_streams<A: Allocator>(
 
 /// Tells what the stream with that entry shares in that table, and answers how many steps it took. `Memory`.
 fn tell_shared_stream<A: Allocator>(
-    known: &Known<'_, A>,
+    known: &Known<'_, '_, A>,
     table: Table,
     number: u32,
     most: usize,
@@ -71,7 +71,7 @@ fn tell_shared_stream<A: Allocator>(
 
 /// Tells each stream in that table that has no chain. `Memory`.
 pub(crate) fn tell_broken_streams<A: Allocator>(
-    known: &Known<'_, A>,
+    known: &Known<'_, '_, A>,
     table: Table,
     found: &mut Vec<Flaw, A>,
 ) -> Result<(), Error>
@@ -89,7 +89,7 @@ pub(crate) fn tell_broken_streams<A: Allocator>(
 
 /// Tells whether the stream with that entry lies in that table and has no chain, and answers how many steps it took. `Memory`.
 fn tell_broken_stream<A: Allocator>(
-    known: &Known<'_, A>,
+    known: &Known<'_, '_, A>,
     table: Table,
     number: u32,
     most: usize,

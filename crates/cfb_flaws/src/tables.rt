@@ -13,7 +13,7 @@ ghost use Rattle.cfb_flaws.specs.Flaws.{Covers, HasRoom, IsLoosePair, KeepsLoose
 ghost use Rattle.cfb_flaws.specs.Telling.{Tells};
 
 use crate::flaw::Flaw;
-use crate::known::{Known, owners_in};
+use crate::known::{Known, owners_in, root_in};
 use crate::owner::{Owner, Table, owner_at};
 use crate::owners::words_of;
 use crate::searches::break_of;
@@ -26,7 +26,7 @@ use std::alloc::Allocator;
 
 /// Tells whether the FAT has too few words. `Memory`.
 pub(crate) fn tell_coverage<A: Allocator>(
-    known: &Known<'_, A>,
+    known: &Known<'_, '_, A>,
     found: &mut Vec<Flaw, A>,
 ) -> Result<(), Error>
     ensures told { OnOk result (Tells known.now on_covers Covers found.old.items found.new.items) }
@@ -45,7 +45,7 @@ pub(crate) fn tell_coverage<A: Allocator>(
 
 /// Tells whether the mini stream has too little room. `Memory`.
 pub(crate) fn tell_room<A: Allocator>(
-    known: &Known<'_, A>,
+    known: &Known<'_, '_, A>,
     found: &mut Vec<Flaw, A>,
 ) -> Result<(), Error>
     ensures told { OnOk result (Tells known.now on_mini_room (λ bytes r. HasRoom r) found.old.items found.new.items) }
@@ -53,7 +53,8 @@ pub(crate) fn tell_room<A: Allocator>(
 {
     let sector_len = known.parts.version.sector_len();
     let named = known.parts.minifat.len() as u64;
-    let sectors = known.root.len() as u64;
+    let root = root_in(known);
+    let sectors = root.len() as u64;
     let room = sectors.saturating_mul((sector_len / MINI_SECTOR_LEN) as u64);
     if room >= named {
         return Ok(());
@@ -64,7 +65,7 @@ pub(crate) fn tell_room<A: Allocator>(
 
 /// Tells each sector that the FAT lists twice; none is marked as listed yet. `Memory`.
 pub(crate) fn tell_listed_twice<A: Allocator>(
-    known: &Known<'_, A>,
+    known: &Known<'_, '_, A>,
     listed: &mut [bool],
     found: &mut Vec<Flaw, A>,
 ) -> Result<(), Error>
@@ -104,7 +105,7 @@ fn tell_listed<A: Allocator>(
 
 /// Tells what the MiniFAT and the mini stream share with others. `Memory`.
 pub(crate) fn tell_roots<A: Allocator>(
-    known: &Known<'_, A>,
+    known: &Known<'_, '_, A>,
     found: &mut Vec<Flaw, A>,
 ) -> Result<(), Error>
     ensures minifat { OnOk result (Tells known.now on_sectors
@@ -123,7 +124,7 @@ pub(crate) fn tell_roots<A: Allocator>(
 
 /// Tells where the mini stream breaks. `Memory`.
 pub(crate) fn tell_mini_stream<A: Allocator>(
-    known: &Known<'_, A>,
+    known: &Known<'_, '_, A>,
     found: &mut Vec<Flaw, A>,
 ) -> Result<(), Error>
     ensures told { OnOk result (Tells known.now on_mini_stream
@@ -134,7 +135,8 @@ pub(crate) fn tell_mini_stream<A: Allocator>(
     if start == END_OF_CHAIN {
         return Ok(());
     }
-    if !known.root.is_empty() {
+    let root = root_in(known);
+    if !root.is_empty() {
         return Ok(());
     }
     let (place, _) = break_of(known.parts.fat, start, known.parts.fat.len());
@@ -148,7 +150,7 @@ pub(crate) fn tell_mini_stream<A: Allocator>(
 
 /// Tells each number of that table that nothing uses and that goes on in one that is free or has an owner. `Memory`.
 pub(crate) fn tell_loose<A: Allocator>(
-    known: &Known<'_, A>,
+    known: &Known<'_, '_, A>,
     table: Table,
     found: &mut Vec<Flaw, A>,
 ) -> Result<(), Error>
@@ -165,7 +167,7 @@ pub(crate) fn tell_loose<A: Allocator>(
 
 /// Tells whether nothing uses the number, and it goes on in one that is free or has an owner. `Memory`.
 fn tell_loose_at<A: Allocator>(
-    known: &Known<'_, A>,
+    known: &Known<'_, '_, A>,
     table: Table,
     number: usize,
     found: &mut Vec<Flaw, A>,

@@ -6,6 +6,7 @@ ghost use Rattle.cfb_format.specs.Reading.{IsOutline, Outline, Reads};
 ghost use Rattle.cfb_format.specs.Reading.{stream_numbers as streams_in};
 ghost use Rattle.cfb_format.specs.Refused.{IsMemory};
 ghost use Rattle.cfb_format.specs.Soundness.{IsSound, mini_owner, owner};
+ghost use Rattle.cfb_flaws.specs.Each.{AnswersEach};
 ghost use Rattle.cfb_flaws.specs.Flaws.{Holds};
 ghost use Rattle.cfb_flaws.specs.Owners.{AreKept, AreOwners};
 ghost use Rattle.cfb_opening.specs.cfb_mini_sectors.State.{entries_of, reading_of, table_of, version_of};
@@ -22,7 +23,7 @@ use cfb_format::medium::ReadMedium;
 use cfb_soundness::parts::Parts;
 use std::alloc::Allocator as Heap;
 
-/// Why the file is not sound, which it is as `is_sound` says: no reason where it is. `Memory`.
+/// Why the file is not sound, which it is as `is_sound` says: no reason where it is, and else one for each broken clause. `Memory`.
 pub fn file_flaws<F: ReadMedium, A: Heap + Clone>(
     heap: &A,
     mini: &MiniAllocator<F, A>,
@@ -34,6 +35,9 @@ pub fn file_flaws<F: ReadMedium, A: Heap + Clone>(
     ensures told { (cases : Cases) (bytes : List ℕ) (h : HeaderOf) (o : Outline)
         → IsRead cases bytes h mini.now o → (IsTrue is_sound ↔ IsSound bytes (reading_of h mini.now o))
         → IfOk result (λ found. All (Holds bytes (reading_of h mini.now o)) found.items) }
+    ensures each { (cases : Cases) (bytes : List ℕ) (h : HeaderOf) (o : Outline)
+        → IsRead cases bytes h mini.now o → (IsTrue is_sound ↔ IsSound bytes (reading_of h mini.now o))
+        → IfOk result (λ found. AnswersEach bytes (reading_of h mini.now o) found.items) }
     ensures err { IfErr result IsMemory }
 {
     let streams = stream_numbers(heap, mini.entries())?;

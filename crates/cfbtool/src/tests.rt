@@ -23,6 +23,7 @@ mod lines;
 mod lists;
 mod opening;
 mod puts;
+mod reports;
 mod runs;
 mod shows;
 mod trees;

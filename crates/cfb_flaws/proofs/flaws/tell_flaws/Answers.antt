@@ -10,16 +10,16 @@ pub returns-clause-told : goal.returns-clause-told
 returns-clause-told g c = λ cases bytes r reads are.
     c.in_ok-tell_known.ensures.told cases bytes r reads record {
       parts = are;
-      sectors = rw c.deref.ensures.value (c.in_ok-sectors.ensures.exact cases bytes r reads are);
-      mini_sectors = rw c.deref-2.ensures.value (c.in_ok-mini_sectors.ensures.exact cases bytes r reads are);
-      root = c.deref-3.ensures.value ∙ c.in_ok-root.ensures.root cases bytes r reads are;
+      sectors = c.in_ok-sectors.ensures.exact cases bytes r reads are;
+      mini_sectors = c.in_ok-mini_sectors.ensures.exact cases bytes r reads are;
+      root = c.in_ok-root.ensures.root cases bytes r reads are;
     }
 
 pub returns-clause-each : goal.returns-clause-each
 returns-clause-each g c = λ cases bytes r reads are.
     c.in_ok-tell_known.ensures.each cases bytes r reads record {
       parts = are;
-      sectors = rw c.deref.ensures.value (c.in_ok-sectors.ensures.exact cases bytes r reads are);
-      mini_sectors = rw c.deref-2.ensures.value (c.in_ok-mini_sectors.ensures.exact cases bytes r reads are);
-      root = c.deref-3.ensures.value ∙ c.in_ok-root.ensures.root cases bytes r reads are;
+      sectors = c.in_ok-sectors.ensures.exact cases bytes r reads are;
+      mini_sectors = c.in_ok-mini_sectors.ensures.exact cases bytes r reads are;
+      root = c.in_ok-root.ensures.root cases bytes r reads are;
     }

@@ -35,7 +35,7 @@ loop-k-preserved g c =
     let b = c.requires x (l.k - 1, lt, sym (get_or_default path (l.k - 1) 0 x lt)) in
     let below : x < length l.reach = omega (arith, b, len) in
     let v = known.parts.now.version in
-    let start : ℕ → ℕ = start_in_file v known.parts.now.len known.root.now t in
+    let start : ℕ → ℕ = start_in_file v known.parts.now.len known.root.items t in
     let w : c.len_in-whole.result ≡ len_in v t = c.len_in-whole.ensures in
     filled-more known t c.args.reach.now path c.args.behind l.k l.sum c.joined-sum.result l.reach some l.invariant
     (λ rest was. elim (cases_lt c.there_of.result c.len_in-whole.result) [

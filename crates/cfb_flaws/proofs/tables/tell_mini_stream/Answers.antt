@@ -22,13 +22,13 @@ returns-then-start-clause-told g c = λ cases bytes r reads knows.
 pub returns-then-not-is_empty-clause-told : goal.returns-then-not-is_empty-clause-told
 returns-then-not-is_empty-clause-told g c = λ cases bytes r reads knows.
     told-same bytes r on_mini_stream (IsSome (mini_stream_chain r)) c.args.found.now.items
-    (some-where-any (mini_stream_chain r) c.args.known.now.root.now knows.root (sym c.is_empty.ensures ∙ c.if-not-is_empty.true))
+    (some-where-any (mini_stream_chain r) c.root_in-root.result.now (c.root_in-root.ensures ∙ knows.root) (sym c.is_empty.ensures ∙ c.if-not-is_empty.true))
 
 pub returns-clause-told : goal.returns-clause-told
 returns-clause-told g c = λ cases bytes r reads knows.
     let known = c.args.known.now in
     let start = c.start_of_mini_stream-start.result in
-    let none : mini_stream_sectors r ≡ [] = none-empty known.root.now (mini_stream_sectors r) knows.root (sym c.is_empty.ensures ∙ c.if-not-is_empty.false) in
+    let none : mini_stream_sectors r ≡ [] = none-empty c.root_in-root.result.now (mini_stream_sectors r) (c.root_in-root.ensures ∙ knows.root) (sym c.is_empty.ensures ∙ c.if-not-is_empty.false) in
     let from = root-from known.parts.now cases bytes r reads knows.parts start c.start_of_mini_stream-start.ensures.chain in
     let at : start ≡ (root_entry r).start_sector = root-start known.parts.now cases bytes r reads knows.parts start (c.start_of_mini_stream-start.ensures.start c.if-start.false) in
     let place = c.break_of-place.result.0 in

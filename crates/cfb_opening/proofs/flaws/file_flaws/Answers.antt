@@ -15,3 +15,9 @@ returns-clause-told g c = λ cases bytes h o read sound.
     let outline = subst (λ (es : List Entry). IsOutline cases es o) (sym c.entries.ensures.entries) read.reads.outline in
     let streams = c.deref.ensures.value ∙ c.in_ok-streams.ensures.ok cases o outline in
     c.flaws_of.ensures.told cases bytes (reading_of h c.args.mini.now o) read.reads (c.parts_of-parts.ensures cases bytes h o read streams) sound
+
+pub returns-clause-each : goal.returns-clause-each
+returns-clause-each g c = λ cases bytes h o read sound.
+    let outline = subst (λ (es : List Entry). IsOutline cases es o) (sym c.entries.ensures.entries) read.reads.outline in
+    let streams = c.deref.ensures.value ∙ c.in_ok-streams.ensures.ok cases o outline in
+    c.flaws_of.ensures.each cases bytes (reading_of h c.args.mini.now o) read.reads (c.parts_of-parts.ensures cases bytes h o read streams) sound
