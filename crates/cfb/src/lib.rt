@@ -45,6 +45,12 @@ pub use cfb_std_streams::kinds::{std_error, std_kind};
 pub use cfb_whole_streams::content::{read_stream, write_stream};
 pub use cfb_whole_streams::copying::copy_stream;
 
+/// Why a file is not sound, and what its sectors are used for: what `CompoundFile::flaws` and `sector_owners` tell.
+pub mod flaws {
+    pub use cfb_flaws::flaw::{Break, Flaw};
+    pub use cfb_flaws::owner::{Owner, Table};
+}
+
 /// What follows from what the calls promise. None of these functions does anything: each has laws as its contract.
 pub mod laws {
     /// What follows from what a file keeps in memory: the bytes mean its tree, and whether they are sound.

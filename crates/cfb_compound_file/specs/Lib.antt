@@ -29,3 +29,5 @@ pub mod Printed
 pub mod Asking
 pub mod Taken
 pub mod Writing
+pub mod Closing
+pub mod Flaws

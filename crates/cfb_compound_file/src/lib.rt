@@ -7,6 +7,7 @@ pub mod compound_file;
 pub mod contents;
 pub mod copying;
 pub mod files;
+pub mod flaws;
 pub mod flushing;
 pub mod held;
 pub mod opening_streams;

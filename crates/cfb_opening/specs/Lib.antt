@@ -9,3 +9,4 @@ pub mod Known
 pub mod KnownMinis
 pub mod Opened
 pub mod Streams
+pub mod ReadFile

@@ -1,6 +1,7 @@
 //! Opening a compound file: bytes are accepted exactly as the format wants it, and memory then holds what they say.
 #![tactic(auto)]
 
+pub mod flaws;
 mod head;
 mod minis;
 pub mod opening;

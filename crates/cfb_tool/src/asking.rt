@@ -25,6 +25,10 @@ pub enum Asked<'a> {
     TreeAll(&'a str),
     /// `tree FILE PATH`: the same from the object at this path on.
     TreeAt(&'a str, &'a str),
+    /// `info FILE`: a report on the file, and why it is not sound.
+    Info(&'a str),
+    /// `map FILE`: which sectors belong to what.
+    Map(&'a str),
     /// `cat FILE PATH`: the bytes of the stream at this path.
     Cat(&'a str, &'a str),
     /// `put FILE PATH`: a stream at this path, with the bytes of standard input.
@@ -148,6 +152,8 @@ fn asked_of_file<'a>(call: &str, file: &'a str) -> Option<Asked<'a>>
     match call {
         "ls" => Some(Asked::ListAll(file)),
         "tree" => Some(Asked::TreeAll(file)),
+        "info" => Some(Asked::Info(file)),
+        "map" => Some(Asked::Map(file)),
         "check" => Some(Asked::Check(file)),
         "run" => Some(Asked::Run(file)),
         _ => None,

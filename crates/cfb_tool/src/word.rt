@@ -34,6 +34,8 @@ pub enum Change {
 pub enum Word {
     Ls,
     Tree,
+    Info,
+    Map,
     Check,
     Cat,
     Create,
@@ -72,6 +74,8 @@ impl Word {
         match self {
             Word::Ls => "ls",
             Word::Tree => "tree",
+            Word::Info => "info",
+            Word::Map => "map",
             Word::Check => "check",
             Word::Cat => "cat",
             Word::Create => "create",
@@ -114,6 +118,8 @@ pub fn word_by(text: &str) -> Option<Word>
     match text {
         "ls" => Some(Word::Ls),
         "tree" => Some(Word::Tree),
+        "info" => Some(Word::Info),
+        "map" => Some(Word::Map),
         "check" => Some(Word::Check),
         "cat" => Some(Word::Cat),
         "create" => Some(Word::Create),

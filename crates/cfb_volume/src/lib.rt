@@ -4,6 +4,7 @@
 mod clearing;
 mod inserting;
 mod marking;
+mod parts;
 mod removing;
 pub mod volume;
 

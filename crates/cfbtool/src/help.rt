@@ -9,6 +9,8 @@ pub(crate) const HELP: &str =
 
   ls [-l] FILE [PATH]     objects: d or f, length, path; -l: ids, bits, times
   tree FILE [PATH]        the same as a tree
+  info FILE               header, sectors, and why the file is not sound
+  map FILE                which sectors belong to what
   check FILE [strict]     sound (status 0) or not (1)
   cat FILE PATH           the bytes of a stream
   create 3|4 FILE         an empty file; EMPTIES one that is there
@@ -46,6 +48,8 @@ pub(crate) fn help_on(word: Word) -> &'static str {
     match word {
         Word::Ls => texts::LS,
         Word::Tree => texts::TREE,
+        Word::Info => texts::INFO,
+        Word::Map => texts::MAP,
         Word::Check => texts::CHECK,
         Word::Cat => texts::CAT,
         Word::Create => texts::CREATE,

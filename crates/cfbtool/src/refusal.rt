@@ -154,6 +154,8 @@ impl<'a> About<'a> {
             | Asked::ListAll(file)
             | Asked::DetailsAll(file)
             | Asked::TreeAll(file)
+            | Asked::Info(file)
+            | Asked::Map(file)
             | Asked::Check(file)
             | Asked::CheckStrict(file)
             | Asked::Run(file)

@@ -24,6 +24,7 @@ mod lists;
 mod opening;
 mod puts;
 mod refusals;
+mod reports;
 mod runs;
 mod samples;
 mod salvages;

@@ -7,6 +7,7 @@ use cfb_tool::word::{Word, word_by};
 use changes::{change_one, put_from, put_input, run_explained, run_input};
 use compact::compact;
 use files::{create, is_there};
+use info::info;
 use looks::look;
 use salvage::salvage;
 use std::fs::File;
@@ -18,6 +19,7 @@ mod changes;
 mod compact;
 mod details;
 mod files;
+mod info;
 mod lines;
 mod looks;
 mod salvage;
@@ -31,6 +33,9 @@ mod tree;
 /// - `ls [-l] FILE [PATH]`: a line for each object, or for each from the one at this path on: `d` or
 ///   `f`, its length, and its path; with `-l` all of its fields.
 /// - `tree FILE [PATH]`: the same objects as a tree.
+/// - `info FILE`: a report on the file, and why it is not sound, with the status 1 and nothing on
+///   `faults` where it is not.
+/// - `map FILE`: which sectors belong to what.
 /// - `check FILE`, `check FILE strict`: prints `version V sound`, or `version V not sound` with the
 ///   status 1 and nothing on `faults`.
 /// - `cat FILE PATH`: the bytes of this stream on `out`, none where it is refused.
@@ -98,6 +103,7 @@ fn answer<H: Files<File = File> + AllocGlobal, R: Read, W: Output, E: Output>(
         Asked::RunExplained(path) => run_explained(rt, path, input, out, faults),
         Asked::Compact(path, target) => compact(rt, path, target),
         Asked::Salvage(path, target) => salvage(rt, path, target, out),
+        Asked::Info(path) => info(rt, path, out),
         _ => look(rt, asked, out),
     }
 }

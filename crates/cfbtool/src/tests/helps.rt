@@ -11,6 +11,8 @@ const SCREEN: &[u8] =
 
   ls [-l] FILE [PATH]     objects: d or f, length, path; -l: ids, bits, times
   tree FILE [PATH]        the same as a tree
+  info FILE               header, sectors, and why the file is not sound
+  map FILE                which sectors belong to what
   check FILE [strict]     sound (status 0) or not (1)
   cat FILE PATH           the bytes of a stream
   create 3|4 FILE         an empty file; EMPTIES one that is there
@@ -35,7 +37,7 @@ const SCREENS: &[Run<'static>] = &[
 /// The words of the screen.
 #[rattlefmt::skip]
 const ALL: &[&str] = &[
-    "ls", "tree", "check", "cat", "create", "put", "mkdir", "mkdirs", "rmdir", "rmtree", "rm",
+    "ls", "tree", "info", "map", "check", "cat", "create", "put", "mkdir", "mkdirs", "rmdir", "rmtree", "rm",
     "touch", "bits", "len", "clsid", "add", "run", "compact",
     "salvage",
 ];

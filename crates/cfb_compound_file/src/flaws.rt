@@ -1,0 +1,97 @@
+//! Why a compound file is not sound, and what its sectors are used for.
+ghost use Rattle.std.specs.Prelude.{◌≡◌, ◌⊎◌, IsTrue, IfErr, IfOk, length};
+ghost use Rattle.cfb_format.specs.declared.error.Error.TheVariants.{Failed};
+ghost use Rattle.cfb_format.specs.Names.{Cases};
+ghost use Rattle.cfb_format.specs.Reading.{IsOutline, Outline, stream_numbers as streams_in};
+ghost use Rattle.cfb_format.specs.Refused.{IsMemory};
+ghost use Rattle.cfb_compound_file.specs.cfb_mini_sectors.State.{entries_of, table_of};
+ghost use Rattle.cfb_compound_file.specs.Flaws.{AreFlawsOf, AreMiniOwnersOf, AreSectorOwnersOf};
+
+use crate::compound_file::CompoundFile;
+use cfb_flaws::flaw::Flaw;
+use cfb_flaws::owner::Owner;
+use cfb_format::error::Error;
+use cfb_format::medium::ReadMedium;
+use cfb_opening::flaws::{file_flaws, file_mini_owners, file_owners, file_streams};
+use std::alloc::Allocator as Heap;
+
+impl<F: ReadMedium, A: Heap + Clone> CompoundFile<F, A> {
+    /// Why the file is not sound: no reason where it is, and else one for each clause of soundness that its bytes break; that a word of the
+    /// FAT points past the file is told where there is no other reason. Streams are told by the numbers of their directory entries. It
+    /// takes time and memory for the sectors, the mini sectors and the streams, whatever the file.
+    ///
+    /// # Errors
+    ///
+    /// `Failed` if an earlier change broke off; `Memory`.
+    pub fn flaws(&self, alloc: &A) -> Result<Vec<Flaw, A>, Error>
+        ensures told { IsTrue F.tells → IfOk result (λ found. AreFlawsOf self.now found.items) }
+        ensures err { IfErr result (λ e. (e ≡ Failed) ⊎ IsMemory e) }
+    {
+        if self.volume.is_failed() {
+            return Err(Error::Failed);
+        }
+        let found = file_flaws(alloc, self.volume.tables(), self.volume.is_sound())?;
+        Ok(found)
+    }
+
+    /// The owner of each sector, the first if there are several.
+    ///
+    /// # Errors
+    ///
+    /// `Failed` if an earlier change broke off; `Memory`.
+    pub fn sector_owners(&self, alloc: &A) -> Result<Vec<Owner, A>, Error>
+        ensures told { IsTrue F.tells
+            → IfOk result (λ owners. AreSectorOwnersOf self.now owners.items) }
+        ensures err { IfErr result (λ e. (e ≡ Failed) ⊎ IsMemory e) }
+    {
+        if self.volume.is_failed() {
+            return Err(Error::Failed);
+        }
+        let owners = file_owners(alloc, self.volume.tables())?;
+        Ok(owners)
+    }
+
+    /// The owner of each mini sector, the first if there are several.
+    ///
+    /// # Errors
+    ///
+    /// `Failed` if an earlier change broke off; `Memory`.
+    pub fn mini_sector_owners(&self, alloc: &A) -> Result<Vec<Owner, A>, Error>
+        ensures told { IsTrue F.tells
+            → IfOk result (λ owners. AreMiniOwnersOf self.now owners.items) }
+        ensures err { IfErr result (λ e. (e ≡ Failed) ⊎ IsMemory e) }
+    {
+        if self.volume.is_failed() {
+            return Err(Error::Failed);
+        }
+        let owners = file_mini_owners(alloc, self.volume.tables())?;
+        Ok(owners)
+    }
+
+    /// The numbers of the directory entries of the streams, in the order of `walk`.
+    ///
+    /// # Errors
+    ///
+    /// `Memory`.
+    pub fn stream_numbers(&self, alloc: &A) -> Result<Vec<u32, A>, Error>
+        ensures ok { IfOk result (λ numbers. (cases : Cases) (o : Outline)
+            → IsOutline cases (entries_of self.now.base) o → numbers.items ≡ streams_in o) }
+        ensures err { IfErr result IsMemory }
+    {
+        file_streams(alloc, self.volume.tables())
+    }
+
+    /// How many directory entries there are, used or not.
+    pub fn entry_count(&self) -> usize
+        ensures { result ≡ length (entries_of self.now.base) }
+    {
+        self.volume.entries().len()
+    }
+
+    /// The length of the file, in bytes.
+    pub fn file_len(&self) -> u64
+        ensures { result ≡ (table_of self.now.base).file.len }
+    {
+        self.volume.tables().allocator().file_len()
+    }
+}
