@@ -1,5 +1,6 @@
 //! The words that only read FILE.
 use super::details::details;
+use super::extract::extract;
 use super::files::{opened, to_read};
 use super::print;
 use super::tree::tree;
@@ -17,13 +18,14 @@ use std::fs::File;
 use std::rt::Files;
 
 /// Does what is asked of FILE.
-pub(super) fn look<H: Files<File = File> + AllocGlobal, W: Output>(
+pub(super) fn look<H: Files<File = File> + AllocGlobal, W: Output, E: Output>(
     rt: &H,
     asked: Asked<'_>,
     out: &mut W,
+    faults: &mut E,
 ) -> Result<(), Refusal> {
     let mut medium = to_read(rt, About::of(asked).file)?;
-    let done = look_into(rt.alloc(), asked, Lent(&mut medium), out);
+    let done = look_into(rt, asked, Lent(&mut medium), out, faults);
     done.map_err(|refusal| refusal.because(medium.last_error()))
 }
 
@@ -41,12 +43,14 @@ fn opened_for<F: ReadMedium>(
     }
 }
 
-fn look_into<F: ReadMedium, W: Output>(
-    alloc: Global,
+fn look_into<H: Files<File = File> + AllocGlobal, F: ReadMedium, W: Output, E: Output>(
+    rt: &H,
     asked: Asked<'_>,
     medium: F,
     out: &mut W,
+    faults: &mut E,
 ) -> Result<(), Refusal> {
+    let alloc = rt.alloc();
     let mut file = opened_for(alloc, asked, medium)?;
     let given = About::of(asked).path;
     let path = meant(alloc, given.unwrap_or(""))?;
@@ -57,6 +61,9 @@ fn look_into<F: ReadMedium, W: Output>(
         Asked::TreeAll(_) | Asked::TreeAt(..) => tree(alloc, &file, at, out),
         Asked::Check(_) | Asked::CheckStrict(_) => print_soundness(alloc, &file, out),
         Asked::Cat(..) => cat(alloc, &mut file, path.as_str(), out),
+        Asked::ExtractAll(..) | Asked::ExtractAt(..) => {
+            extract(rt, &mut file, at, About::of(asked), faults)
+        }
         _ => Err(Refusal::WrongWords),
     }
 }
