@@ -1,5 +1,5 @@
 //! The names of objects as places in a folder, and as paths.
-ghost use Rattle.std.specs.Prelude.{◌≡◌, IfOk, chars, string_bytes};
+ghost use Rattle.std.specs.Prelude.{◌≡◌, ◌++◌, IfOk, OnOk, chars, string_bytes};
 ghost use Rattle.cfb_extract.specs.Items.{texts};
 ghost use Rattle.cfb_extract.specs.Extracted.{place_of, slashed};
 
@@ -21,6 +21,21 @@ pub(crate) fn place_of<A: Heap + Clone>(
     Ok(place)
 }
 
+/// Appends these names, each behind a `/`. Memory may be refused.
+pub(crate) fn push_slashed<A: Heap, B: Heap>(
+    names: &[String<A>],
+    into: &mut String<B>,
+) -> Result<(), AllocError>
+    ensures { OnOk result (chars (string_bytes into.new)
+        ≡ chars (string_bytes into.old) ++ slashed (texts names.now)) }
+{
+    for name in names {
+        into.push('/')?;
+        into.push_str(name.as_str())?;
+    }
+    Ok(())
+}
+
 /// These names, each behind a `/`. Memory may be refused.
 pub(crate) fn slashed<A: Heap + Clone>(
     alloc: &A,
@@ -29,9 +44,6 @@ pub(crate) fn slashed<A: Heap + Clone>(
     ensures { IfOk result (λ path. chars (string_bytes path) ≡ slashed (texts names.now)) }
 {
     let mut path = String::new(alloc.clone()?);
-    for name in names {
-        path.push('/')?;
-        path.push_str(name.as_str())?;
-    }
+    push_slashed(names, &mut path)?;
     Ok(path)
 }

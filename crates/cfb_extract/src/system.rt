@@ -1,8 +1,11 @@
 //! A new folder of the system. What stands in it is known to nobody, so it tells nothing: contracts
 //! say of it only that it is handed places that lie in it, and tests say the rest.
-ghost use Rattle.std.specs.Prelude.{false, []};
+ghost use Rattle.std.specs.Prelude.{◌≡◌, ◌++◌, false, [], OnOk, chars, string_bytes};
+ghost use Rattle.cfb_extract.specs.Extracted.{slashed};
+ghost use Rattle.cfb_extract.specs.Items.{texts};
 
 use crate::folder::{Folder, FolderFault};
+use crate::naming::push_slashed;
 use std::alloc::{AllocError, Allocator as Heap, Global};
 use std::fs::{self, File};
 use std::io;
@@ -48,16 +51,16 @@ impl<'a, H: Files<File = File>, A: Heap + Clone + Drop> SystemFolder<'a, H, A> {
         Some((self.path.as_str(), reason))
     }
 
-    /// Goes to this place.
-    fn go_to<B: Heap>(&mut self, place: &[String<B>]) -> Result<(), AllocError> {
+    /// Goes to this place: its path is that of the folder, and then its names.
+    fn go_to<B: Heap>(&mut self, place: &[String<B>]) -> Result<(), AllocError>
+        ensures path { OnOk result (chars (string_bytes self.new.path)
+            ≡ chars (string_bytes self.old.folder) ++ slashed (texts place.now)) }
+        ensures folder { self.new.folder ≡ self.old.folder }
+    {
         self.file = None;
         self.path.clear();
         self.path.push_str(self.folder.as_str())?;
-        for name in place {
-            self.path.push('/')?;
-            self.path.push_str(name.as_str())?;
-        }
-        Ok(())
+        push_slashed(place, &mut self.path)
     }
 
     /// What is answered where the system does.

@@ -1,20 +1,9 @@
-use Rattle.std.proofs.Common.{◌++◌, List, ℕ, ap, arith, sym, ◌∙◌, take}
-use Rattle.std.specs.Prelude.{string_bytes}
+use Rattle.std.proofs.Common.{◌++◌, List, ℕ, ap, ◌∙◌}
 use Rattle.std.specs.Str.{chars}
-use Rattle.std.proofs.lemmas.Str.{chars-nil, encode_ascii, IsUtf8-string_bytes}
-use Rattle.cfb_codecs.proofs.PathText.{slashed-more}
+use Rattle.std.proofs.lemmas.Str.{chars-nil}
 use Rattle.cfb_extract.specs.Items.{texts}
 use Rattle.cfb_extract.specs.Extracted.{slashed}
-use Rattle.cfb_extract.proofs.Named.{texts-more}
 use Rattle.cfb_extract.proofs.naming.slashed.Goals as goal
 
-pub loop-name-init : goal.loop-name-init
-loop-name-init g c = ap chars c.new-path.ensures.bytes ∙ chars-nil
-
-pub loop-name-preserved : goal.loop-name-preserved
-loop-name-preserved g c =
-    slashed-more (string_bytes c.loop-name.path) (string_bytes c.push.new.self) (string_bytes c.push_str.new.self) (string_bytes c.name-item.result)
-    (texts (take c.loop-name.name-index c.args.names.now)) (IsUtf8-string_bytes c.loop-name.path) (IsUtf8-string_bytes c.push.new.self)
-    (c.in_ok-push.ensures.bytes ∙ ap (λ (xs : List ℕ). string_bytes c.loop-name.path ++ xs) (encode_ascii 47 (omega arith)))
-    (c.in_ok-push_str.ensures.bytes ∙ ap (λ (xs : List ℕ). string_bytes c.push.new.self ++ xs) c.as_str.ensures.value) c.loop-name.invariant
-    ∙ ap slashed (sym (texts-more c.args.names.now c.loop-name.name-index c.name-item.result c.loop-name-test.true c.name-item.is))
+pub returns : goal.returns
+returns g c = c.in_ok-push_slashed.ensures ∙ ap (λ (cs : List ℕ). cs ++ slashed (texts c.args.names.now)) (ap chars c.new-path.ensures.bytes ∙ chars-nil)
