@@ -8,6 +8,7 @@ use crate::memory::{MemoryFolder, MemoryItem};
 use cfb_codecs::timestamp::Timestamp;
 use cfb_compound_file::compound_file::CompoundFile;
 use cfb_format::memory::MemoryMedium;
+use cfb_format::version::Version;
 use std::alloc::{Allocator, Global};
 use std::io::Write;
 use std::test::Fail;
@@ -24,7 +25,8 @@ fn byte_at(place: usize) -> u8 {
 }
 
 fn made(alloc: Global, all: &[Made<'_>]) -> Result<CompoundFile<MemoryMedium>, Fail> {
-    let mut file = CompoundFile::create(alloc, MemoryMedium::new(alloc))?;
+    let medium = MemoryMedium::new(alloc);
+    let mut file = CompoundFile::create_with_version(alloc, Version::V3, medium)?;
     for (path, len) in all {
         let Some(len) = *len else {
             file.create_storage(path, Timestamp::zero())?;
@@ -35,8 +37,11 @@ fn made(alloc: Global, all: &[Made<'_>]) -> Result<CompoundFile<MemoryMedium>, F
             bytes.push(byte_at(place))?;
         }
         let mut stream = file.create_stream(path)?;
+        // at once, so that no sector is taken and left
+        let sized = stream.set_len(len as u64);
         let written = Write::write_all(&mut stream, bytes.as_slice());
         stream.close()?;
+        sized?;
         written?;
     }
     Ok(file)
@@ -168,13 +173,13 @@ fn streams_that_are_not_whole_are_told(rt: HostRuntime) -> Result<(), Fail> {
     let alloc = rt.alloc();
     let file = made(
         alloc,
-        &[("/S", None), ("/S/cut", Some(4608)), ("/b", Some(5000))],
+        &[("/S", None), ("/S/cut", Some(4608)), ("/t", Some(5000))],
     )?;
     let mut file = damaged(alloc, file, END)?;
     let mut folder = MemoryFolder::new(alloc)?;
     let mut cuts = Vec::new(alloc);
     extract(&alloc, &mut file, "/", &mut folder, &mut cuts)?;
-    let all = [("/S", None), ("/S/cut", Some(1536)), ("/b", Some(5000))];
+    let all = [("/S", None), ("/S/cut", Some(1536)), ("/t", Some(5000))];
     assert!(rt; are_found(alloc, &folder, &all)?);
     assert!(rt; cuts.len() == 1);
     let Some(cut) = cuts.pop() else {
