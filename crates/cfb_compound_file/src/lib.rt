@@ -9,7 +9,7 @@ pub mod copying;
 pub mod files;
 pub mod flushing;
 pub mod held;
-pub mod numbers;
+pub mod numbered;
 pub mod opening_streams;
 pub mod options;
 pub mod queries;

@@ -1,7 +1,7 @@
 //! Streams put into new folders by the program's words.
 use super::Step::{self, Absent, At, Content, Damage, Len, Runs};
 use super::play;
-use super::runs::{NEW_WITH_CONTENT, Run, TARGET_EXISTS};
+use super::runs::{CONTENT, NEW_WITH_CONTENT, Run, TARGET_EXISTS};
 use std::test::Fail;
 
 /// Names that a terminal would obey, that break a line, and that turn the direction of writing.
@@ -77,9 +77,27 @@ const CUT: &[Run<'static>] = &[
 ];
 
 #[rattlefmt::skip]
+const IN_A_STORAGE: &[Run<'static>] = &[
+    (&["create", "3", "@f"], b"", 0, b"", b""),
+    (&["mkdir", "@f", "/s"], b"", 0, b"", b""),
+    (&["put", "@f", "/s/a"], CONTENT, 0, b"", b""),
+    (&["put", "@f", "/t"], b"de", 0, b"", b""),
+];
+
+/// The line goes on from PATH as it was given.
+#[rattlefmt::skip]
+const CUT_BELOW: &[Run<'static>] = &[
+    (&["extract", "@f", "S/", "@g"], b"", 1, b"", b"cfbtool: @f: S/a: 1536 of 4608 bytes can be read\n"),
+    (&["extract", "@f", "/S/A", "@h"], b"", 1, b"", b"cfbtool: @f: /S/A: 1536 of 4608 bytes can be read\n"),
+    (&["extract", "@f", "@i"], b"", 1, b"", b"cfbtool: @f: /s/a: 1536 of 4608 bytes can be read\n"),
+];
+
+#[rattlefmt::skip]
 static CUT_STREAMS: &[Step<'static>] = &[
     Content(4608), Runs(NEW_WITH_CONTENT), Damage(END, usize::MAX), Runs(CUT),
     At("@d/a"), Len(1536), At("@e/a"), Len(1536),
+    At("@f"), Runs(IN_A_STORAGE), Damage(END, usize::MAX), Runs(CUT_BELOW),
+    At("@g/a"), Len(1536), At("@h/a"), Len(1536), At("@i/s/a"), Len(1536), At("@i/t"), Len(2),
 ];
 
 #[test]
