@@ -10,6 +10,7 @@ pub mod files;
 pub mod flaws;
 pub mod flushing;
 pub mod held;
+pub mod numbered;
 pub mod opening_streams;
 pub mod options;
 pub mod queries;

@@ -101,7 +101,7 @@ fn name_of<A: Heap>(entries: &[DirEntry<A>], number: u32) -> &str
 impl<F: ReadMedium, A: Heap + Clone> CompoundFile<F, A> {
     /// The names that a path says, and the number of the entry at them. `InvalidInput` where the path leaves the root, `NotFound` where
     /// nothing is there, `Memory`.
-    fn find<'p>(&self, path: &'p str) -> Result<(Vec<&'p str, A>, u32), Error>
+    pub(crate) fn find<'p>(&self, path: &'p str) -> Result<(Vec<&'p str, A>, u32), Error>
         ensures names { IfOk result (λ found. names_of_path (chars path.now)
             ≡ Some (map (λ name. chars name.now) found.0.items)) }
         ensures number { IfOk result (λ found.

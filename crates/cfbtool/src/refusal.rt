@@ -167,8 +167,12 @@ impl<'a> About<'a> {
             | Asked::Put(file, path)
             | Asked::OneChange(_, file, path)
             | Asked::OneChangeBy(_, file, path, _) => About::new(file).at(path),
-            Asked::PutFrom(file, path, other) => About::new(file).at(path).and(other),
-            Asked::Compact(file, other) | Asked::Salvage(file, other) => {
+            Asked::PutFrom(file, path, other) | Asked::ExtractAt(file, path, other) => {
+                About::new(file).at(path).and(other)
+            }
+            Asked::ExtractAll(file, other)
+            | Asked::Compact(file, other)
+            | Asked::Salvage(file, other) => {
                 About::new(file).and(other)
             }
             _ => About::new(""),

@@ -16,6 +16,7 @@ use std::{env, fs};
 mod acts;
 mod changes;
 mod compacts;
+mod extracts;
 mod files;
 mod helps;
 mod library;

@@ -85,6 +85,20 @@ hello
 Fails if no stream is at PATH, or it cannot be read whole.
 ";
 
+pub(super) const EXTRACT: &str = "cfbtool extract FILE [PATH] DIR
+
+Makes the folder DIR: a folder for each storage, a file for each stream, or what
+is at PATH. In names control characters and \" * / : < > ? \\ | % become % and two
+hexadecimal digits (%u and four above U+00FF); an empty name and a first '.' or
+'-' get a '%' in front.
+
+Example: cfbtool extract a.cfb out && cat out/docs/note
+hello
+
+Fails if DIR is there. Of a stream that cannot be read whole it writes the first
+bytes, says so and goes on; the status is 1.
+";
+
 pub(super) const CREATE: &str = "cfbtool create 3|4 FILE
 
 An empty file of version 3 (sectors of 512 bytes, streams below 4 GiB) or 4

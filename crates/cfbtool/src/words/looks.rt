@@ -81,12 +81,7 @@ fn show<F: ReadMedium, W: Output>(
         Asked::TreeAll(_) | Asked::TreeAt(..) => tree(alloc, file, at, out),
         Asked::Check(_) | Asked::CheckStrict(_) => print_soundness(alloc, file, out),
         Asked::Cat(..) => cat(alloc, file, at.unwrap_or(""), out),
-        Asked::ListAll(_) | Asked::ListAt(..) => list(alloc, &file, at, out),
-        Asked::DetailsAll(_) | Asked::DetailsAt(..) => details(alloc, &file, at, out),
-        Asked::TreeAll(_) | Asked::TreeAt(..) => tree(alloc, &file, at, out),
-        Asked::Map(_) => print_map(alloc, &file, out),
-        Asked::Check(_) | Asked::CheckStrict(_) => print_soundness(alloc, &file, out),
-        Asked::Cat(..) => cat(alloc, &mut file, path.as_str(), out),
+        Asked::Map(_) => print_map(alloc, file, out),
         _ => Err(Refusal::WrongWords),
     }
 }
