@@ -172,9 +172,7 @@ impl<'a> About<'a> {
             }
             Asked::ExtractAll(file, other)
             | Asked::Compact(file, other)
-            | Asked::Salvage(file, other) => {
-                About::new(file).and(other)
-            }
+            | Asked::Salvage(file, other) => { About::new(file).and(other) }
             _ => About::new(""),
         }
     }

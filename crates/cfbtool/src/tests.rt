@@ -27,8 +27,8 @@ mod puts;
 mod refusals;
 mod reports;
 mod runs;
-mod samples;
 mod salvages;
+mod samples;
 mod shows;
 mod trees;
 
