@@ -29,6 +29,7 @@ const LOST: &[Run<'static>] = &[
 
 /// The word of the FAT on sector 3, the second of the stream's: it ends the chain; it leads back to the first.
 const ENDS: &[(usize, u8)] = &[(524, 0xfe), (525, 0xff), (526, 0xff), (527, 0xff)];
+
 const COMES_BACK: &[(usize, u8)] = &[(524, 2), (525, 0), (526, 0), (527, 0)];
 
 const REFUSED: &[Run<'static>] = &[(&["salvage", "@f", "@j"], b"", 1, b"", b"cfbtool: @f: ")];
@@ -63,8 +64,13 @@ const CUT_BETWEEN: &[Run<'static>] = &[
     (&["check", "@h", "strict"], b"", 0, SOUND_3, b""),
 ];
 
-const CUT_IN_HEADER: &[Run<'static>] =
-    &[(&["salvage", "@f", "@i"], b"", 1, b"", b"cfbtool: @f: too short for a compound file: ")];
+const CUT_IN_HEADER: &[Run<'static>] = &[(
+    &["salvage", "@f", "@i"],
+    b"",
+    1,
+    b"",
+    b"cfbtool: @f: too short for a compound file: ",
+)];
 
 #[rattlefmt::skip]
 static CUT: &[Step<'static>] = &[

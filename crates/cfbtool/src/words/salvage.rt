@@ -179,7 +179,10 @@ impl Sums {
             told,
             kept,
         } = *self;
-        writeln!(lines, "kept\t{whole} of {streams} streams\t{kept} of {told} bytes")?;
+        writeln!(
+            lines,
+            "kept\t{whole} of {streams} streams\t{kept} of {told} bytes"
+        )?;
         Ok(())
     }
 }
