@@ -44,7 +44,7 @@ module _ (entries : List Entry) (content : Entry → List ℕ) where
   pub none-there : (e : Entry) → (e.obj_type ≡ Stream → ⊥) → extents_at content e ≡ []
   none-there e other = go e.obj_type other
     where
-      go : (kind : ObjType) → (kind ≡ Stream → ⊥) → unless_stream kind (record { kept = length (content e); len = e.stream_len } ∷ []) [] ≡ []
+      go : (kind : ObjType) → (kind ≡ Stream → ⊥) → unless_stream {X = List Extent} kind (record { kept = length (content e); len = e.stream_len } ∷ []) [] ≡ []
       go Unallocated h = refl
       go Storage h = refl
       go Stream h = absurd (h refl)

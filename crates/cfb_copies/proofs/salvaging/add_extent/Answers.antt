@@ -17,7 +17,7 @@ returns-in_ok-push-in-Stream-clause-added g c told holds =
     let kind = sym (ap (λ (l : List Entry). (entry_at l c.args.entry).obj_type) c.entries.ensures.entries) ∙ sym c.kind_of.ensures ∙ c.in-Stream.is in
     let kept = c.in_ok-kept-in-Stream.ensures.kept told holds tt kind in
     c.in_ok-push-in-Stream.ensures.items
-    ∙ ap (λ (l : List Extent). c.args.extents.now.items ++ l) ((λ j. record { kept = kept j; len = c.len-len-in-Stream.ensures j } ∷ []) ∙ sym (one-at es content e kind))
+    ∙ ap (λ (l : List Extent). c.args.extents.now.items ++ l) ((λ j. record { kept = kept j; len = c.len-len.ensures j } ∷ []) ∙ sym (one-at es content e kind))
 
 pub returns-in_default-clause-added : goal.returns-in_default-clause-added
 returns-in_default-clause-added g c told holds =

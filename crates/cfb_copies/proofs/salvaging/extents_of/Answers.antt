@@ -12,7 +12,7 @@ use Rattle.cfb_copies.proofs.salvaging.extents_of.Goals as goal
 pub loop-place-init : goal.loop-place-init
 loop-place-init g c = record {
   copyable = λ j d below. absurd (omega (arith, below));
-  told = λ told holds. c.new-extents.ensures;
+  told = λ told holds. c.new-extents.ensures.items;
 }
 
 pub is_allowed-requires-clause-inside : goal.is_allowed-requires-clause-inside

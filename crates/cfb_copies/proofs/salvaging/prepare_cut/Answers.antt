@@ -48,3 +48,6 @@ returns-clause-fits g c told holds tree means too =
     let yes = (too_large_cut_if file holds c.places_are_the_walk.ensures.walk c.in_ok-list.list.items lists c.version.result _ c.as_slice-told.result.now _ c.is_too_large_cut.result c.is_too_large_cut.ensures c.version.ensures refl
     tells (ap (λ (l : List Place). length l) c.as_slice-listed.ensures.value) tree means).1 too in
     absurd (let w : false ≡ true = sym c.if-is_too_large_cut.false ∙ yes in cc)
+
+pub returns-clause-told : goal.returns-clause-told
+returns-clause-told g c told holds = c.in_ok-extents.ensures.told told holds

@@ -37,18 +37,18 @@ fill-requires-clause-listed g c = subst (λ (l : List Place). ListsObjects c.arg
 pub fill-requires-clause-copyable : goal.fill-requires-clause-copyable
 fill-requires-clause-copyable g c = subst (λ (l : List Place). AreCopyable c.args.source.now l) (sym c.as_slice-listed.ensures.value) c.in_ok-prepared.ensures.copyable
 
-pub returns-clause-full : goal.returns-clause-full
-returns-clause-full g c told agrees calm tree means large = absurd (c.in_ok-prepared.ensures.fits told (agrees calm) tree means large)
+pub returns-in-Err-clause-full : goal.returns-in-Err-clause-full
+returns-in-Err-clause-full g c told agrees calm tree means large = absurd (c.in_ok-prepared.ensures.fits told (agrees calm) tree means large)
 
-pub returns-clause-err : goal.returns-clause-err
-returns-clause-err g c told tells agrees =
+pub returns-in-Err-clause-err : goal.returns-in-Err-clause-err
+returns-in-Err-clause-err g c told tells agrees =
     let calm = sym c.is_failed.ensures ∙ c.if-is_failed.false in
     let m = c.in_ok-volume.ensures in
     subst (λ (e : Error). SalvageRefused c.args.source.now e) (sym c.counted.ensures)
     (counted_cut c.args.source.now c.in-Err.error calm (c.in-Err.ensures.err told tells (agrees calm) (m.made tells).holds (λ j d below. tt) (m.empty tells)))
 
-pub returns-clause-counts : goal.returns-clause-counts
-returns-clause-counts g c told =
+pub returns-in-Err-clause-counts : goal.returns-in-Err-clause-counts
+returns-in-Err-clause-counts g c told =
     let gives = g.F.ReadMedium.read_faults in
     let can = λ (f : MediumFault). g.W.ReadMedium.read_faults f || g.W.Medium.write_faults f in
     let was = failures_of c.args.source.now in
