@@ -205,7 +205,7 @@ fn joined(there: u64, whole: u64, behind: u64) -> u64
 /// How many bytes of a sector or of a mini sector the file has, up to the first that it has not.
 fn there_of<A: Allocator>(known: &Known<'_, '_, A>, table: Table, number: u32) -> u64
     ensures { result ≡ min (len_in known.now.parts.now.version table)
-        (known.now.parts.now.len - start_in_file known.now.parts.now.version known.now.parts.now.len known.now.root.now table number) }
+        (known.now.parts.now.len - start_in_file known.now.parts.now.version known.now.parts.now.len known.now.root.items table number) }
 {
     let start = start_in_file(known, table, number);
     known
@@ -227,7 +227,7 @@ fn len_in<A: Allocator>(known: &Known<'_, '_, A>, table: Table) -> u64
 
 /// Where a sector or a mini sector begins in the file: at its end where the mini stream has no room for it.
 fn start_in_file<A: Allocator>(known: &Known<'_, '_, A>, table: Table, number: u32) -> u64
-    ensures { result ≡ start_in_file known.now.parts.now.version known.now.parts.now.len known.now.root.now table number }
+    ensures { result ≡ start_in_file known.now.parts.now.version known.now.parts.now.len known.now.root.items table number }
 {
     let sector_len = known.parts.version.sector_len() as u64;
     match table {
