@@ -9,7 +9,7 @@
 //! **Errors.** A call answers `Error`, which `?` turns into an `io::Error`. What was refused by the rules has changed nothing; where the
 //! medium, memory or numbers refuse in the midst of a change, `is_failed` tells whether the file takes no more changes.
 //!
-//! **What is proved** stands in the clauses of each function (`docs/CLAIMS.md`), and `laws` has what follows from them. Sizes, lengths and
+//! **What is proved** stands in the clauses of each function (`docs/GUARANTEES.md`), and `laws` has what follows from them. Sizes, lengths and
 //! places are in bytes, moments in units of 100 ns since 1601.
 //!
 //! The modules `laws` and `internal` are public for proofs and tests; `internal` may change in any version.

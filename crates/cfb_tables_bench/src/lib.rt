@@ -1,4 +1,4 @@
-//! Tests of tables, the allocator and the MiniFAT in memory that no row says (docs/ROWS.md): a crate beside them, because a crate
+//! Tests of tables, the allocator and the MiniFAT in memory that no row says (crates/cfb_script/CASES.md): a crate beside them, because a crate
 //! with tests of its own is proved twice.
 #![tactic(auto)]
 
