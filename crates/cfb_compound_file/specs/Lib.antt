@@ -30,5 +30,4 @@ pub mod Asking
 pub mod Taken
 pub mod Numbers
 pub mod Writing
-pub mod Closing
 pub mod Flaws
