@@ -32,4 +32,5 @@ pub mod EmptiedStorages
 pub mod RemovedStorages
 pub mod MarkedObjects
 pub mod RemovedObjects
+pub mod UsedSlots
 pub mod PutObjects

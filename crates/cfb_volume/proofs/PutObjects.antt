@@ -1,5 +1,5 @@
 -- What else a new object in the directory leaves.
-use Rattle.std.proofs.Common.{◌≡◌, ◌≤◌, ◌+◌, inr, ℕ, List, Bool, refl, sym, ◌∙◌, ap, subst, length, replicate, arith}
+use Rattle.std.proofs.Common.{◌≡◌, ◌≤◌, ◌+◌, inl, inr, ℕ, List, Bool, true, false, refl, sym, ◌∙◌, ap, subst, length, replicate, arith}
 use Rattle.std.specs.Prelude.{Some, if◌then◌else◌}
 use Rattle.std.proofs.lemmas.List.{length-append, length-replicate}
 use Rattle.cfb_format.specs.declared.objtype.ObjType.{ObjType}
@@ -21,7 +21,9 @@ use Rattle.cfb_entry_changes.proofs.Entries.{either, kept-links, reached, stream
 use Rattle.cfb_entry_changes.specs.Kept.{KeepsFound}
 use Rattle.cfb_entry_changes.specs.Standing.{StandStill}
 use Rattle.cfb_entry_changes.proofs.Taken.{same-content}
-use Rattle.cfb_volume.specs.Slots.{TakesSlot}
+use Rattle.cfb_volume.specs.Slots.{TakesSlot, used_count}
+use Rattle.cfb_volume.proofs.UsedSlots.{grown-used, one-more-used}
+use Rattle.cfb_format.specs.Full.{is_unallocated}
 use Rattle.cfb_volume.proofs.InsertedObjects.{ended}
 use Rattle.cfb_volume.proofs.cfb_resizing.Tightness.{taken-stays-full}
 
@@ -39,12 +41,32 @@ module _ (old new : MiniState) (parent n : ℕ) (name : List ℕ) (kind : ObjTyp
       (λ free. subst (λ (t : TableState). NoneFree t.fat) (sym (put.kept free).1) full)
       (λ none. taken-stays-full (tables_in old) (tables_in new) _ _ (put.inserts.lengthened none).taken full)
 
+  abbrev room : List Entry
+  room = if has_free (entries_of old) then entries_of old else grown_by (entries_of old) (entries_per_sector (version_of old))
+
+  room-used : used_count room ≡ used_count (entries_of old)
+  room-used = go (has_free (entries_of old))
+    where
+      go : (b : Bool) → used_count (if b then entries_of old else grown_by (entries_of old) (entries_per_sector (version_of old))) ≡ used_count (entries_of old)
+      go true = refl
+      go false = grown-used (entries_of old) (entries_per_sector (version_of old))
+
+  made-used : is_unallocated (entry_at (entries_of new) n).obj_type ≡ false
+  made-used =
+      let is : (entry_at (entries_of new) n).obj_type ≡ kind = ap (λ (e : Entry). e.obj_type) put.inserts.entry.inserted.entry_kept in
+      ap is_unallocated is ∙ elim put.kinds [ inl storage ↦ ap is_unallocated storage | inr stream ↦ ap is_unallocated stream ]
+
+  one-more : used_count (entries_of new) ≡ used_count room + 1
+  one-more = one-more-used (cases_of old) room (entries_of new) parent n (new_entry name kind moment) put.inserts.entry.before put.inserts.entry.behind put.inserts.entry.inserted
+      put.inserts.entry.was_free made-used
+
   -- a slot that was free, or one of a sector that came behind the directory
   pub put-takes-slot : TakesSlot old (ended new)
   put-takes-slot =
       let per = entries_per_sector (version_of old) in
       let longer : length (entries_of new) ≡ length (if has_free (entries_of old) then entries_of old else grown_by (entries_of old) per) = put.inserts.entry.inserted.longer in
       record {
+        used = one-more ∙ ap (λ (k : ℕ). k + 1) room-used;
         free = λ free. record {
           slots = longer ∙ ap (λ (b : Bool). length (if b then entries_of old else grown_by (entries_of old) per)) free;
           fat = ap (λ (t : TableState). length t.fat) (put.kept free).1;
