@@ -1,5 +1,5 @@
 -- What is read otherwise are words of tables: links of chains, and the words of a sector.
-use Rattle.std.proofs.Common.{◌≡◌, ◌<◌, ◌≤◌, ℕ, suc, ◌+◌, ◌-◌, ◌*◌, ◌/◌, ◌%◌, ◌^◌, List, [], ◌∷◌, ◌++◌, length, drop, get_or, get_or-take, inl, inr, refl, sym, ◌∙◌, ap, subst, arith, zero}
+use Rattle.std.proofs.Common.{◌≡◌, ◌<◌, ◌≤◌, ℕ, suc, ◌+◌, ◌-◌, ◌*◌, ◌/◌, ◌%◌, ◌^◌, List, [], ◌∷◌, ◌++◌, drop, get_or-take, inl, inr, refl, sym, ◌∙◌, ap, subst, arith, zero}
 use Rattle.std.specs.Prelude.{◌⊎◌, Bool, true, false, Option, Some, None, slice_get, option_and_then, if◌then◌else◌}
 use Rattle.std.specs.Option.{option_map}
 use Rattle.std.specs.List.{All, Contains}
@@ -7,12 +7,12 @@ use Rattle.std.proofs.lemmas.List.Elements.{All-push, All-same, All-weaker}
 use Rattle.std.proofs.lemmas.Option.{get_or_from_slice_get, option_and_then_some, slice_get_within}
 use Rattle.cfb_format.specs.declared.version.Version.{Version}
 use Rattle.cfb_format.specs.declared.version.Version.TheVariants.{V3, V4}
-use Rattle.cfb_format.specs.Bytes.{word_at, sector_start, sector_len, words_per_sector, is_regular}
+use Rattle.cfb_format.specs.Bytes.{word_at, sector_start, words_per_sector, is_regular}
 use Rattle.cfb_format.specs.Medium.{part}
 use Rattle.cfb_format.proofs.HeaderStart.{u32-same}
 use Rattle.cfb_format.proofs.Words.{four-words}
 use Rattle.cfb_mending.specs.declared.patches.Patch.{Patch}
-use Rattle.cfb_mending.specs.Tables.{AreInTables, IsAmongWords, IsChainLink, IsDifatEntry, IsDifatLink, IsDifatSector, IsEntryIn, IsFatSector, IsInHeader, IsInSector, IsInTable, IsInTables, IsMark, IsOnChain, IsTablePlace, IsTableSector, chain_link, difat_link, directory_start, fat_place, link_in, minifat_start}
+use Rattle.cfb_mending.specs.Tables.{AreInTables, IsChainLink, IsDifatEntry, IsDifatLink, IsDifatSector, IsFatSector, IsInTables, IsMark, IsOnChain, IsTablePlace, IsTableSector, chain_link, difat_link, directory_start, fat_place, link_in, minifat_start}
 
 -- the four bytes from this place on are of tables
 abbrev pub IsWordOfTable : Version → List ℕ → List ℕ → ℕ → Type 0

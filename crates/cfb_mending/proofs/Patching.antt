@@ -1,5 +1,5 @@
 -- Bytes some of whose words are read as others: parts of them, and one byte after the other.
-use Rattle.std.proofs.Common.{◌≡◌, ◌<◌, ◌≤◌, ℕ, zero, suc, ◌+◌, ◌-◌, ◌%◌, List, [], ◌∷◌, ◌++◌, Bool, true, false, length, take, drop, get_or, min, inl, inr, refl, sym, ◌∙◌, ap, subst, arith, append_assoc, append-nil, drop-cons, length-append, length-drop, length-take, zero-add, add-one}
+use Rattle.std.proofs.Common.{◌≡◌, ◌<◌, ◌≤◌, ℕ, zero, suc, ◌+◌, List, [], ◌∷◌, ◌++◌, Bool, true, false, length, take, drop, get_or, min, inl, inr, refl, sym, ◌∙◌, ap, arith, append_assoc, append-nil, drop-cons, length-append, length-drop, length-take, zero-add, add-one}
 use Rattle.std.specs.Prelude.{◌&&◌, nat_le, nat_lt, if◌then◌else◌, Result, Ok, Err, MatchResult}
 use Rattle.std.proofs.lemmas.Bool.{cases_lt, leb-true, ltb-true}
 use Rattle.std.proofs.lemmas.List.{drop_all, take-append-le, take_all, take_more}

@@ -1,4 +1,4 @@
-use Rattle.std.proofs.Common.{refl, arith}
+use Rattle.std.proofs.Common.{arith}
 use Rattle.cfb_mending.specs.Mended.{mended_from}
 use Rattle.cfb_mending.proofs.Patching.{all-patches, next-patch}
 use Rattle.cfb_mending.proofs.patches.set_all.Goals as goal

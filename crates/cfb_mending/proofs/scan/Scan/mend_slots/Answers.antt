@@ -1,4 +1,4 @@
-use Rattle.std.proofs.Common.{◌≡◌, IsTrue, ◌∙◌, ap}
+use Rattle.std.proofs.Common.{◌∙◌, ap}
 use Rattle.cfb_mending.proofs.scan.Scan.mend_slots.Goals as goal
 
 pub loop-sector-preserved : goal.loop-sector-preserved
