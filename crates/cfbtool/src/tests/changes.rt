@@ -116,13 +116,46 @@ const FROM: &[Run<'static>] = &[
 ];
 
 #[rattlefmt::skip]
-static CHANGED: &[Step<'static>] = &[
-    Runs(CHANGES), Note, StaysAt(REFUSED), Each(WRONG, &[b"abc"], 2, WRONG_WORDS), Stays,
-    StaysAt(EXPLAINED), OnScreen(WRONG_LINE), Stays, Runs(TOLD),
-    At("@g"), Content(5000), Filled, Runs(FROM),
-];
+static CHANGED: &[Step<'static>] = &[Runs(CHANGES), Note, StaysAt(REFUSED)];
 
 #[test]
 fn one_change_at_a_time(rt: HostRuntime) -> Result<(), Fail> {
     play(&rt, CHANGED)
+}
+
+/// A file with a storage.
+#[rattlefmt::skip]
+const MADE: &[Run<'static>] = &[
+    (&["create", "3", "@f"], b"", 0, b"", b""),
+    (&["mkdir", "@f", "/docs"], b"", 0, b"", b""),
+];
+
+#[rattlefmt::skip]
+static MISSPELT: &[Step<'static>] = &[
+    Runs(MADE), Note, Each(WRONG, &[b"abc"], 2, WRONG_WORDS), Stays,
+];
+
+#[test]
+fn wrong_arguments_change_nothing(rt: HostRuntime) -> Result<(), Fail> {
+    play(&rt, MISSPELT)
+}
+
+#[rattlefmt::skip]
+static WRONG_LINES: &[Step<'static>] = &[
+    Runs(MADE), Note, StaysAt(EXPLAINED), OnScreen(WRONG_LINE), Stays,
+];
+
+#[test]
+fn wrong_lines_are_explained(rt: HostRuntime) -> Result<(), Fail> {
+    play(&rt, WRONG_LINES)
+}
+
+#[rattlefmt::skip]
+static PUT_FROM: &[Step<'static>] = &[
+    Runs(MADE), Runs(TOLD), At("@g"), Content(5000), Filled, At("@f"), Runs(FROM),
+];
+
+#[test]
+fn refused_lines_are_explained_and_files_are_put(rt: HostRuntime) -> Result<(), Fail> {
+    play(&rt, PUT_FROM)
 }
