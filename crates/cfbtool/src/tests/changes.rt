@@ -115,14 +115,55 @@ const FROM: &[Run<'static>] = &[
     (&["check", "@f", "strict"], b"", 0, b"version 3 sound\n", b""),
 ];
 
+/// A storage, and one with an odd name that has a stream with an odd name.
 #[rattlefmt::skip]
-static CHANGED: &[Step<'static>] = &[
-    Runs(CHANGES), Note, StaysAt(REFUSED), Each(WRONG, &[b"abc"], 2, WRONG_WORDS), Stays,
-    StaysAt(EXPLAINED), OnScreen(WRONG_LINE), Stays, Runs(TOLD),
-    At("@g"), Content(5000), Filled, Runs(FROM),
+const OBJECTS: &[Run<'static>] = &[
+    (&["create", "3", "@f"], b"", 0, b"", b""),
+    (&["run", "@f"], b"mkdir\t/docs\t0\nmkdir\t/a\\u0005b\t0\nput\t/a\\u0005b/\\u0001\t616263\n", 0, b"ok\nok\nok\n", b""),
 ];
+
+#[rattlefmt::skip]
+static CHANGED: &[Step<'static>] = &[Runs(CHANGES)];
 
 #[test]
 fn one_change_at_a_time(rt: HostRuntime) -> Result<(), Fail> {
     play(&rt, CHANGED)
+}
+
+#[rattlefmt::skip]
+static CHANGES_REFUSED: &[Step<'static>] = &[Runs(OBJECTS), Note, StaysAt(REFUSED)];
+
+#[test]
+fn changes_are_refused(rt: HostRuntime) -> Result<(), Fail> {
+    play(&rt, CHANGES_REFUSED)
+}
+
+#[rattlefmt::skip]
+static NO_CHANGES: &[Step<'static>] = &[
+    Runs(OBJECTS), Note, Each(WRONG, &[b"abc"], 2, WRONG_WORDS), Stays,
+];
+
+#[test]
+fn wrong_arguments_do_nothing(rt: HostRuntime) -> Result<(), Fail> {
+    play(&rt, NO_CHANGES)
+}
+
+#[rattlefmt::skip]
+static WRONG_LINES: &[Step<'static>] = &[
+    Runs(OBJECTS), Note, StaysAt(EXPLAINED), OnScreen(WRONG_LINE), Stays,
+];
+
+#[test]
+fn wrong_lines_are_explained(rt: HostRuntime) -> Result<(), Fail> {
+    play(&rt, WRONG_LINES)
+}
+
+#[rattlefmt::skip]
+static REFUSED_LINES: &[Step<'static>] = &[
+    Runs(OBJECTS), Runs(TOLD), At("@g"), Content(5000), Filled, Runs(FROM),
+];
+
+#[test]
+fn refused_lines_are_explained(rt: HostRuntime) -> Result<(), Fail> {
+    play(&rt, REFUSED_LINES)
 }
