@@ -115,34 +115,42 @@ const FROM: &[Run<'static>] = &[
     (&["check", "@f", "strict"], b"", 0, b"version 3 sound\n", b""),
 ];
 
+/// A storage, and one with an odd name that has a stream with an odd name.
 #[rattlefmt::skip]
-static CHANGED: &[Step<'static>] = &[Runs(CHANGES), Note, StaysAt(REFUSED)];
+const OBJECTS: &[Run<'static>] = &[
+    (&["create", "3", "@f"], b"", 0, b"", b""),
+    (&["run", "@f"], b"mkdir\t/docs\t0\nmkdir\t/a\\u0005b\t0\nput\t/a\\u0005b/\\u0001\t616263\n", 0, b"ok\nok\nok\n", b""),
+];
+
+#[rattlefmt::skip]
+static CHANGED: &[Step<'static>] = &[Runs(CHANGES)];
 
 #[test]
 fn one_change_at_a_time(rt: HostRuntime) -> Result<(), Fail> {
     play(&rt, CHANGED)
 }
 
-/// A file with a storage.
 #[rattlefmt::skip]
-const MADE: &[Run<'static>] = &[
-    (&["create", "3", "@f"], b"", 0, b"", b""),
-    (&["mkdir", "@f", "/docs"], b"", 0, b"", b""),
-];
+static CHANGES_REFUSED: &[Step<'static>] = &[Runs(OBJECTS), Note, StaysAt(REFUSED)];
+
+#[test]
+fn changes_are_refused(rt: HostRuntime) -> Result<(), Fail> {
+    play(&rt, CHANGES_REFUSED)
+}
 
 #[rattlefmt::skip]
-static MISSPELT: &[Step<'static>] = &[
-    Runs(MADE), Note, Each(WRONG, &[b"abc"], 2, WRONG_WORDS), Stays,
+static NO_CHANGES: &[Step<'static>] = &[
+    Runs(OBJECTS), Note, Each(WRONG, &[b"abc"], 2, WRONG_WORDS), Stays,
 ];
 
 #[test]
-fn wrong_arguments_change_nothing(rt: HostRuntime) -> Result<(), Fail> {
-    play(&rt, MISSPELT)
+fn wrong_arguments_do_nothing(rt: HostRuntime) -> Result<(), Fail> {
+    play(&rt, NO_CHANGES)
 }
 
 #[rattlefmt::skip]
 static WRONG_LINES: &[Step<'static>] = &[
-    Runs(MADE), Note, StaysAt(EXPLAINED), OnScreen(WRONG_LINE), Stays,
+    Runs(OBJECTS), Note, StaysAt(EXPLAINED), OnScreen(WRONG_LINE), Stays,
 ];
 
 #[test]
@@ -151,11 +159,11 @@ fn wrong_lines_are_explained(rt: HostRuntime) -> Result<(), Fail> {
 }
 
 #[rattlefmt::skip]
-static PUT_FROM: &[Step<'static>] = &[
-    Runs(MADE), Runs(TOLD), At("@g"), Content(5000), Filled, At("@f"), Runs(FROM),
+static REFUSED_LINES: &[Step<'static>] = &[
+    Runs(OBJECTS), Runs(TOLD), At("@g"), Content(5000), Filled, Runs(FROM),
 ];
 
 #[test]
-fn refused_lines_are_explained_and_files_are_put(rt: HostRuntime) -> Result<(), Fail> {
-    play(&rt, PUT_FROM)
+fn refused_lines_are_explained(rt: HostRuntime) -> Result<(), Fail> {
+    play(&rt, REFUSED_LINES)
 }

@@ -122,13 +122,23 @@ const HARMLESS: &[Run<'static>] = &[
 
 #[rattlefmt::skip]
 static PATHS: &[Step<'static>] = &[
-    Each(NO_FILES, &[b""], 1, FAULTS), Runs(REASONS), At("@link"), Link("nowhere"), Runs(ODD_PATHS),
+    Each(NO_FILES, &[b""], 1, FAULTS), At("@link"), Link("nowhere"), Runs(ODD_PATHS),
     At("@none"), Absent, At("@new"), Absent,
 ];
 
 #[test]
 fn odd_paths(rt: HostRuntime) -> Result<(), Fail> {
     play(&rt, PATHS)
+}
+
+#[rattlefmt::skip]
+static TOLD: &[Step<'static>] = &[
+    Runs(REASONS), At("@none"), Absent, At("@new"), Absent,
+];
+
+#[test]
+fn reasons_are_told(rt: HostRuntime) -> Result<(), Fail> {
+    play(&rt, TOLD)
 }
 
 #[rattlefmt::skip]

@@ -105,9 +105,16 @@ const EXAMPLES: &[Run<'static>] = &[
 ];
 
 #[rattlefmt::skip]
-static HELP: &[Step<'static>] = &[Runs(SCREENS), Helps(ALL), Runs(EXAMPLES)];
+static HELP: &[Step<'static>] = &[Runs(SCREENS), Helps(ALL)];
 
 #[test]
 fn each_word_is_told_of(rt: HostRuntime) -> Result<(), Fail> {
     play(&rt, HELP)
+}
+
+static SHOWN: &[Step<'static>] = &[Runs(EXAMPLES)];
+
+#[test]
+fn examples_are_right(rt: HostRuntime) -> Result<(), Fail> {
+    play(&rt, SHOWN)
 }

@@ -118,12 +118,19 @@ fn wrong_words_do_nothing(rt: HostRuntime) -> Result<(), Fail> {
 
 #[rattlefmt::skip]
 static LISTED: &[Step<'static>] = &[
-    Runs(LISTS), Len(12288), Runs(OPTIONS),
+    Runs(LISTS), Len(12288),
 ];
 
 #[test]
 fn lists_of_commands(rt: HostRuntime) -> Result<(), Fail> {
     play(&rt, LISTED)
+}
+
+static PLACES: &[Step<'static>] = &[Runs(OPTIONS)];
+
+#[test]
+fn options_stand_behind_the_word(rt: HostRuntime) -> Result<(), Fail> {
+    play(&rt, PLACES)
 }
 
 #[rattlefmt::skip]

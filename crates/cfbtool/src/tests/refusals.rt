@@ -95,19 +95,37 @@ const CHECKED: &[&str] = &["check", "@f"];
 const CHECKED_STRICTLY: &[&str] = &["check", "@f", "strict"];
 
 #[rattlefmt::skip]
-static REFUSED: &[Step<'static>] = &[
+static HEADERS: &[Step<'static>] = &[
+    Content(5000), Runs(NEW_WITH_CONTENT), Note, Flawed(LISTED, HEADS), Flawed(READ, HEADS),
+];
+
+#[test]
+fn headers_are_refused(rt: HostRuntime) -> Result<(), Fail> {
+    play(&rt, HEADERS)
+}
+
+#[rattlefmt::skip]
+static SLOTS: &[Step<'static>] = &[
     // twelve sectors: the FAT, the directory, and ten of a stream
-    Content(5000), Runs(NEW_WITH_CONTENT), Note,
-    Flawed(LISTED, HEADS), Flawed(READ, HEADS), Flawed(CHECKED, TABLES), Flawed(LISTED, ENTRIES),
-    Flawed(CHECKED_STRICTLY, STRICT), Flawed(CHECKED_STRICTLY, HEADS),
+    Content(5000), Runs(NEW_WITH_CONTENT), Note, Flawed(CHECKED, TABLES), Flawed(LISTED, ENTRIES),
+    Flawed(CHECKED_STRICTLY, STRICT),
+];
+
+#[test]
+fn tables_and_slots_are_refused(rt: HostRuntime) -> Result<(), Fail> {
+    play(&rt, SLOTS)
+}
+
+#[rattlefmt::skip]
+static OUTLINES: &[Step<'static>] = &[
     Runs(WITH_THREE), Note, Flawed(LISTED, TREES), Flawed(CHECKED_STRICTLY, RED),
     // four mini sectors
     Content(200), Runs(NEW_WITH_CONTENT), Note, Flawed(CHECKED, MINIS),
 ];
 
 #[test]
-fn files_are_refused(rt: HostRuntime) -> Result<(), Fail> {
-    play(&rt, REFUSED)
+fn trees_are_refused(rt: HostRuntime) -> Result<(), Fail> {
+    play(&rt, OUTLINES)
 }
 
 /// What a refusal of a call at `/x` in `a\u0009b` is told as. `c` is the other file that is named.

@@ -116,24 +116,48 @@ const TREE: &[u8] = b"/\n\
 const DOCUMENT: &[Run<'static>] = &[
     (&["create", "3", "@f"], b"", 0, b"", b""),
     (&["run", "@f"], LINES, 0, DONE, b""),
-    (&["ls", "@f"], b"", 0, OBJECTS, b""),
-    (&["ls", "-l", "@f"], b"", 0, ROWS, b""),
-    (&["ls", "-l", "@f", "/MsoDataStore"], b"", 0, ROWS_BELOW, b""),
-    (&["tree", "@f"], b"", 0, TREE, b""),
-    (&["check", "@f", "strict"], b"", 0, b"version 3 sound\n", b""),
 ];
 
 #[rattlefmt::skip]
-const ON_SCREEN: &[Run<'static>] = &[
-    (&["ls", "@f"], b"", 0, SHOWN_OBJECTS, b""),
+const LISTED: &[Run<'static>] = &[
+    (&["ls", "@f"], b"", 0, OBJECTS, b""),
+    (&["check", "@f", "strict"], b"", 0, b"version 3 sound\n", b""),
+];
+
+const SHOWN: &[Run<'static>] = &[(&["ls", "@f"], b"", 0, SHOWN_OBJECTS, b"")];
+
+#[rattlefmt::skip]
+const WITH_FIELDS: &[Run<'static>] = &[
+    (&["ls", "-l", "@f"], b"", 0, ROWS, b""),
+    (&["ls", "-l", "@f", "/MsoDataStore"], b"", 0, ROWS_BELOW, b""),
+];
+
+#[rattlefmt::skip]
+const PADDED: &[Run<'static>] = &[
     (&["ls", "-l", "@f"], b"", 0, TABLE, b""),
     (&["tree", "@f"], b"", 0, TREE, b""),
 ];
 
 #[rattlefmt::skip]
-static SHOWN: &[Step<'static>] = &[Runs(DOCUMENT), OnScreen(ON_SCREEN)];
+static LISTS: &[Step<'static>] = &[Runs(DOCUMENT), Runs(LISTED), OnScreen(SHOWN)];
+
+#[test]
+fn a_document_is_listed(rt: HostRuntime) -> Result<(), Fail> {
+    play(&rt, LISTS)
+}
+
+#[rattlefmt::skip]
+static FIELDS: &[Step<'static>] = &[Runs(DOCUMENT), Runs(WITH_FIELDS)];
+
+#[test]
+fn fields_of_a_document_are_told(rt: HostRuntime) -> Result<(), Fail> {
+    play(&rt, FIELDS)
+}
+
+#[rattlefmt::skip]
+static TABLES: &[Step<'static>] = &[Runs(DOCUMENT), OnScreen(PADDED)];
 
 #[test]
 fn a_document_is_shown(rt: HostRuntime) -> Result<(), Fail> {
-    play(&rt, SHOWN)
+    play(&rt, TABLES)
 }

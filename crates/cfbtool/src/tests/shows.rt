@@ -83,14 +83,21 @@ const FREE: &[Run<'static>] = &[
 ];
 
 #[rattlefmt::skip]
-static NAMES: &[Step<'static>] = &[
-    Runs(ODD_NAMES), OnScreen(SHOWN), Runs(TEXTS), OnScreen(TEXTS_SHOWN),
-];
+static NAMES: &[Step<'static>] = &[Runs(ODD_NAMES), OnScreen(SHOWN)];
 
 /// Names are printed as they are, but for terminals and standard error; and a path may have escapes.
 #[test]
 fn names_are_shown(rt: HostRuntime) -> Result<(), Fail> {
     play(&rt, NAMES)
+}
+
+#[rattlefmt::skip]
+static CONTROLS: &[Step<'static>] = &[Runs(TEXTS), OnScreen(TEXTS_SHOWN)];
+
+/// A terminal gets text alone.
+#[test]
+fn texts_are_shown(rt: HostRuntime) -> Result<(), Fail> {
+    play(&rt, CONTROLS)
 }
 
 #[rattlefmt::skip]

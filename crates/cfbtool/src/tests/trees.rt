@@ -61,9 +61,16 @@ d\t0\t-\t00000000\t-\t@2650467744000000000\t/g\n", b""),
 ];
 
 #[rattlefmt::skip]
-static FIELDS: &[Step<'static>] = &[Runs(ROWS), OnScreen(TABLE), Runs(MOMENTS)];
+static FIELDS: &[Step<'static>] = &[Runs(ROWS), OnScreen(TABLE)];
 
 #[test]
 fn fields_are_told(rt: HostRuntime) -> Result<(), Fail> {
     play(&rt, FIELDS)
+}
+
+static DATES: &[Step<'static>] = &[Runs(MOMENTS)];
+
+#[test]
+fn moments_are_told(rt: HostRuntime) -> Result<(), Fail> {
+    play(&rt, DATES)
 }
