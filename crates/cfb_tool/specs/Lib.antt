@@ -10,4 +10,5 @@ pub mod Asking
 pub mod Listing
 pub mod Details
 pub mod Playing
+pub mod Content
 pub mod Laws

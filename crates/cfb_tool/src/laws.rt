@@ -1,6 +1,5 @@
 //! What is told to be done is stored. The function does nothing: it has laws as its contract.
-ghost use Rattle.cfb_tool.specs.Laws.{AddedIsStored, PutIsStored};
-ghost use Rattle.cfb_whole_streams.specs.Laws.{WrittenIsStored};
+ghost use Rattle.cfb_tool.specs.Laws.{AddedIsStored, PutIsStored, WrittenIsStored};
 
 use cfb_rules::laws::Seen;
 

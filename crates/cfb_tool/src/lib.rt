@@ -2,6 +2,7 @@
 #![tactic(auto)]
 
 pub mod asking;
+pub mod content;
 pub mod details;
 pub mod explaining;
 pub mod laws;

@@ -41,7 +41,6 @@ pub enum Word {
     Changing(Change),
     Run,
     Compact,
-    Salvage,
 }
 
 impl Change {
@@ -79,7 +78,6 @@ impl Word {
             Word::Changing(change) => change.text(),
             Word::Run => "run",
             Word::Compact => "compact",
-            Word::Salvage => "salvage",
         }
     }
 }
@@ -120,7 +118,6 @@ pub fn word_by(text: &str) -> Option<Word>
         "put" => Some(Word::Put),
         "run" => Some(Word::Run),
         "compact" => Some(Word::Compact),
-        "salvage" => Some(Word::Salvage),
         _ => match change_by(text) {
             Some(change) => Some(Word::Changing(change)),
             None => None,

@@ -25,7 +25,6 @@ mod opening;
 mod puts;
 mod refusals;
 mod runs;
-mod salvages;
 mod samples;
 mod shows;
 mod trees;

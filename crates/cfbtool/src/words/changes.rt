@@ -9,6 +9,7 @@ use crate::output::Output;
 use crate::refusal::Refusal;
 use cfb::{Command, Error, Medium};
 use cfb_text::meant::meant;
+use cfb_tool::content::put_content;
 use cfb_tool::explaining::play_explained;
 use std::alloc::Global;
 use std::fs;
@@ -68,7 +69,7 @@ fn put_into<F: Medium>(
     bytes: &[u8],
 ) -> Result<(), Refusal> {
     let mut file = opened(alloc, medium)?;
-    cfb::write_stream(&mut file, stream, bytes).map_err(Refusal::Of)
+    put_content(&mut file, stream, bytes).map_err(Refusal::Of)
 }
 
 /// One change.
