@@ -11,4 +11,6 @@ pub mod Listing
 pub mod Details
 pub mod Playing
 pub mod Content
+pub mod Sending
+pub mod Dumping
 pub mod Laws

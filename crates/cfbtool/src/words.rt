@@ -16,6 +16,7 @@ use std::rt::Files;
 mod changes;
 mod compact;
 mod details;
+mod dump;
 mod files;
 mod lines;
 mod looks;
@@ -32,6 +33,7 @@ mod tree;
 /// - `check FILE`, `check FILE strict`: prints `version V sound`, or `version V not sound` with the
 ///   status 1 and nothing on `faults`.
 /// - `cat FILE PATH`: the bytes of this stream on `out`, none where it is refused.
+/// - `dump FILE`: lines of `run` that make the file's tree.
 /// - `create 3 FILE`, `create 4 FILE`: a new empty file of this version; an old one is overwritten.
 /// - `put FILE PATH [FROM]`: a stream at this path, with the bytes of `input`, or those of FROM.
 /// - `mkdir`, `mkdirs`, `rmdir`, `rmtree`, `rm`, `touch`, `bits`, `len`, `clsid`, `add`, then
@@ -93,7 +95,7 @@ fn answer<H: Files<File = File> + AllocGlobal, R: Read, W: Output, E: Output>(
         Asked::Run(path) => run_input(rt, path, input, out),
         Asked::RunExplained(path) => run_explained(rt, path, input, out, faults),
         Asked::Compact(path, target) => compact(rt, path, target),
-        _ => look(rt, asked, out),
+        _ => look(rt, asked, out, faults),
     }
 }
 

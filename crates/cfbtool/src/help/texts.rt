@@ -56,6 +56,21 @@ hello
 Fails if no stream is at PATH, or it cannot be read whole.
 ";
 
+pub(super) const DUMP: &str = "cfbtool dump FILE
+
+Lines of 'run' that make the same tree in an empty file: paths, class ids,
+state bits, timestamps, and all bytes in hexadecimal.
+A control character is shown as \\u0005.
+
+Example: cfbtool dump a.cfb
+# cfbtool dump, version 3
+mkdir\t/docs\t0
+put\t/docs/note\t68656c6c6f0a
+
+Fails if FILE is no compound file, no path leads to a storage or stream, or a
+stream cannot be read whole: what stands before it is printed.
+";
+
 pub(super) const CREATE: &str = "cfbtool create 3|4 FILE
 
 An empty file of version 3 (sectors of 512 bytes, streams below 4 GiB) or 4

@@ -13,6 +13,7 @@ const SCREEN: &[u8] =
   tree FILE [PATH]        the same as a tree
   check FILE [strict]     sound (status 0) or not (1)
   cat FILE PATH           the bytes of a stream
+  dump FILE               as lines that 'run' takes
   create 3|4 FILE         an empty file; EMPTIES one that is there
   put FILE PATH [FROM]    a stream, from FROM or standard input
   mkdir mkdirs rmdir rmtree rm touch bits len clsid add FILE PATH ...
@@ -34,8 +35,8 @@ const SCREENS: &[Run<'static>] = &[
 /// The words of the screen.
 #[rattlefmt::skip]
 const ALL: &[&str] = &[
-    "ls", "tree", "check", "cat", "create", "put", "mkdir", "mkdirs", "rmdir", "rmtree", "rm",
-    "touch", "bits", "len", "clsid", "add", "run", "compact",
+    "ls", "tree", "check", "cat", "dump", "create", "put", "mkdir", "mkdirs", "rmdir", "rmtree",
+    "rm", "touch", "bits", "len", "clsid", "add", "run", "compact",
 ];
 
 /// Whether it begins with this word behind the program's name, and each line has 80 bytes at most.

@@ -40,7 +40,7 @@ const REFUSED: &[Run<'static>] = &[
 #[rattlefmt::skip]
 const READ_OR_PRINTED: &[&[&str]] = &[
     &["put", "@f", "/b"], &["run", "@f"], &["cat", "@f", "/a"], &["ls", "@f"],
-    &["ls", "@f", "/a"], &["check", "@f"],
+    &["ls", "@f", "/a"], &["check", "@f"], &["dump", "@f"],
 ];
 
 #[rattlefmt::skip]

@@ -1,5 +1,6 @@
 //! The words that only read FILE.
 use super::details::details;
+use super::dump::dump;
 use super::files::{opened, to_read};
 use super::print;
 use super::tree::tree;
@@ -17,13 +18,14 @@ use std::fs::File;
 use std::rt::Files;
 
 /// Does what is asked of FILE.
-pub(super) fn look<H: Files<File = File> + AllocGlobal, W: Output>(
+pub(super) fn look<H: Files<File = File> + AllocGlobal, W: Output, E: Output>(
     rt: &H,
     asked: Asked<'_>,
     out: &mut W,
+    faults: &mut E,
 ) -> Result<(), Refusal> {
     let mut medium = to_read(rt, About::of(asked).file)?;
-    let done = look_into(rt.alloc(), asked, Lent(&mut medium), out);
+    let done = look_into(rt.alloc(), asked, Lent(&mut medium), out, faults);
     done.map_err(|refusal| refusal.because(medium.last_error()))
 }
 
@@ -41,11 +43,12 @@ fn opened_for<F: ReadMedium>(
     }
 }
 
-fn look_into<F: ReadMedium, W: Output>(
+fn look_into<F: ReadMedium, W: Output, E: Output>(
     alloc: Global,
     asked: Asked<'_>,
     medium: F,
     out: &mut W,
+    faults: &mut E,
 ) -> Result<(), Refusal> {
     let mut file = opened_for(alloc, asked, medium)?;
     let given = About::of(asked).path;
@@ -57,6 +60,7 @@ fn look_into<F: ReadMedium, W: Output>(
         Asked::TreeAll(_) | Asked::TreeAt(..) => tree(alloc, &file, at, out),
         Asked::Check(_) | Asked::CheckStrict(_) => print_soundness(alloc, &file, out),
         Asked::Cat(..) => cat(alloc, &mut file, path.as_str(), out),
+        Asked::Dump(name) => dump(alloc, &mut file, name, out, faults),
         _ => Err(Refusal::WrongWords),
     }
 }
