@@ -139,7 +139,7 @@ impl<A: Heap + Clone> OpenOptions<A> {
         ensures kinds { IfErr result IsOfOpening }
     {
         laws::bytes_are_what_is_held();
-        let letters = letters_of(&alloc, self.letters)?.with_seed(self.seed);
+        let letters = letters_of(&alloc, self.letters, self.seed)?;
         let opened = open_file(alloc, medium, letters, self.max_sectors, self.validation)?;
         let volume = Volume::new(opened.mini, opened.is_sound, self.max_buffer_size);
         Ok(CompoundFile { volume })
@@ -178,24 +178,26 @@ impl<A: Heap + Clone> OpenOptions<A> {
         ensures unfailed { IfOk result (λ file. is_failed file ≡ false) }
         ensures kinds { IfErr result IsOfCreating }
     {
-        let letters = letters_of(&alloc, self.letters)?.with_seed(self.seed);
+        let letters = letters_of(&alloc, self.letters, self.seed)?;
         let mini = create_file(alloc, version, medium, letters, self.max_sectors)?;
         let volume = Volume::new(mini, true, self.max_buffer_size);
         Ok(CompoundFile { volume })
     }
 }
 
-/// The letters that were given, or the default ones. `Memory` where they get none.
+/// The letters that were given, or the default ones, with the number by which the indexes of names are mixed. `Memory` where they get
+/// none.
 fn letters_of<A: Heap + Clone>(
     alloc: &A,
     given: Option<CaseMapper<A>>,
+    seed: u64,
 ) -> Result<CaseMapper<A>, Error>
     ensures ok { IfOk result (λ letters. letters ≡ unwrap_or given default_cases) }
     ensures err { IfErr result IsMemory }
 {
     match given {
-        Some(letters) => Ok(letters),
-        None => CaseMapper::new(alloc.clone()?),
+        Some(letters) => Ok(letters.with_seed(seed)),
+        None => Ok(CaseMapper::new(alloc.clone()?)?.with_seed(seed)),
     }
 }
 

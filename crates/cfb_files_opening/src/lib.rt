@@ -35,9 +35,7 @@ pub fn open<R: Files<File = File> + RandomSource, A: Heap + Clone>(
     ensures kinds { IfErr result IsOfOpening }
 {
     let medium = FileReadMedium::open(rt, path)?;
-    OpenOptions::new()
-        .seed(seed_of(rt))
-        .open_with(alloc, medium)
+    seeded(rt).open_with(alloc, medium)
 }
 
 /// Opens the compound file at this path of the system, to be read and changed in place. The file is locked as long as it is open
@@ -56,9 +54,7 @@ pub fn open_rw<R: Files<File = File> + RandomSource, A: Heap + Clone>(
     ensures kinds { IfErr result IsOfOpening }
 {
     let medium = FileMedium::open(rt, path)?;
-    OpenOptions::new()
-        .seed(seed_of(rt))
-        .open_with(alloc, medium)
+    seeded(rt).open_with(alloc, medium)
 }
 
 /// Makes a compound file of version 4 with nothing in it at this path of the system. An older file there is emptied first. The file is
@@ -79,9 +75,7 @@ pub fn create<R: Files<File = File> + RandomSource, A: Heap + Clone>(
     ensures kinds { IfErr result IsOfCreating }
 {
     let medium = FileMedium::create(rt, path)?;
-    OpenOptions::new()
-        .seed(seed_of(rt))
-        .create_with(alloc, medium)
+    seeded(rt).create_with(alloc, medium)
 }
 
 /// Makes a compound file of this version with nothing in it at this path of the system, as `create` does one of version 4.
@@ -101,9 +95,14 @@ pub fn create_as<R: Files<File = File> + RandomSource, A: Heap + Clone>(
     ensures kinds { IfErr result IsOfCreating }
 {
     let medium = FileMedium::create(rt, path)?;
-    OpenOptions::new()
-        .seed(seed_of(rt))
-        .create_as(alloc, version, medium)
+    seeded(rt).create_as(alloc, version, medium)
+}
+
+/// The options that nobody has changed, with a number that nobody knows.
+fn seeded<R: RandomSource, A: Heap>(rt: &R) -> OpenOptions<A>
+    ensures { result ≡ permissive_options }
+{
+    OpenOptions::new().seed(seed_of(rt))
 }
 
 /// A number that nobody knows, for the indexes of names; 0 where the system gives none.
