@@ -7,13 +7,17 @@ use Rattle.cfb_format.specs.declared.objtype.ObjType.{ObjType}
 use Rattle.cfb_format.specs.declared.objtype.ObjType.TheVariants.{Unallocated, Storage, Stream, Root}
 use Rattle.cfb_format.specs.Names.{is_forbidden_character, utf16_units}
 use Rattle.cfb_format.specs.Path.{part_says_nothing, part_says_parent, slash}
-use Rattle.cfb_rules.specs.Calls.{Call, EntryInfo}
-use Rattle.cfb_rules.specs.Lists.{Command, by_path}
+use Rattle.cfb_rules.specs.Calls.{Call, EntryInfo, set_state_bits}
+use Rattle.cfb_rules.specs.Lists.{Command, by_path, creates, on_stream}
+use Rattle.cfb_rules.specs.StreamCalls.{write}
 use Rattle.cfb_listing.specs.cfb_outline.Families.{is_root_kind, is_storage_kind, is_stream_kind}
 use Rattle.cfb_making.specs.Making.{CanBeNamed, field_commands, storage_commands, stream_commands, unless_so}
 use Rattle.cfb_lines.specs.Commands.{IsLine}
-use Rattle.cfb_lines.specs.Writing.{AddsLines, Lacks, ended}
-use Rattle.cfb_dumps.specs.Dumps.{kind_commands, storage_told, stream_told}
+use Rattle.cfb_lines.specs.Fields.{AddsHex, hex_pair}
+use Rattle.cfb_lines.specs.Writing.{AddsLines, IsHeadOf, Lacks, ended}
+use Rattle.cfb_lines.specs.declared.word.Word.TheVariants.{Put}
+use Rattle.cfb_lines.proofs.Written.{content_line, line_made}
+use Rattle.cfb_dumps.specs.Dumps.{EndsStream, kind_commands, storage_told, stream_told}
 
 -- ---- lines behind lines
 
@@ -102,15 +106,35 @@ named_so name h =
       ap (λ (b : Bool). b && not (list_any is_forbidden_character name)) three.1 ∙ ap not free,
     )
 
+-- ---- a stream
+
+-- lines behind a line that ends
+pub ends_behind : (old new : List ℕ) (commands : List Command) → AddsLines (old ++ 10 ∷ []) new commands → (more : List ℕ) × (new ≡ old ++ more)
+    × ((text : List ℕ) → AddsLines (text ++ 10 ∷ []) (text ++ more) commands)
+ends_behind old new commands adds = (
+  10 ∷ flat_map ended adds.lines,
+  adds.text ∙ append_assoc old (10 ∷ []) (flat_map ended adds.lines),
+  λ text. record { lines = adds.lines; text = sym (append_assoc text (10 ∷ []) (flat_map ended adds.lines)); whole = adds.whole; each = adds.each },
+)
+
+-- the head of its line, its digits, the end, and the lines of its fields
+pub stream_made : (old head digits new : List ℕ) (info : EntryInfo) (content : List ℕ) → Lacks 92 info.path → IsHeadOf old head Put info.path → AddsHex head digits content
+    → EndsStream info digits new → AddsLines old new (stream_commands info.path (stream_told info content))
+stream_made old head digits new info content plain begins hex ends =
+    more_lines old (digits ++ 10 ∷ []) new (on_stream creates info.path (write content ∷ []) ∷ []) (unless_so (info.state_bits == 0) (set_state_bits info.path info.state_bits))
+    (content_line old (digits ++ 10 ∷ []) info.path plain content hex.2.1
+    (line_made old head digits (digits ++ 10 ∷ []) info.path (flat_map hex_pair content) Put begins (hex.1 ∙ ap (λ (bs : List ℕ). head ++ bs) hex.2.0) refl)) ends
+
 -- ---- the kind of an object
 
-module _ {E : Type 0} (r : Result (Unit {0}) E) (old new : List ℕ) (info : EntryInfo) (content : List ℕ) where
-  pub as_stream : (kind : ObjType) → is_stream_kind kind ≡ true → OnOk r (AddsLines old new (stream_commands info.path (stream_told info content))) → OnOk r (AddsLines old new (kind_commands kind info content))
-  as_stream Unallocated e h = cc
-  as_stream Storage e h = cc
-  as_stream Stream e h = h
-  as_stream Root e h = cc
+pub as_stream : (old new : List ℕ) (info : EntryInfo) (content : List ℕ) (kind : ObjType) → is_stream_kind kind ≡ true
+    → AddsLines old new (stream_commands info.path (stream_told info content)) → AddsLines old new (kind_commands kind info content)
+as_stream old new info content Unallocated e h = cc
+as_stream old new info content Storage e h = cc
+as_stream old new info content Stream e h = h
+as_stream old new info content Root e h = cc
 
+module _ {E : Type 0} (r : Result (Unit {0}) E) (old new : List ℕ) (info : EntryInfo) (content : List ℕ) where
   pub as_root : (kind : ObjType) → is_root_kind kind ≡ true → OnOk r (AddsLines old new (field_commands 0 info.path (storage_told info))) → OnOk r (AddsLines old new (kind_commands kind info content))
   as_root Unallocated e h = cc
   as_root Storage e h = cc

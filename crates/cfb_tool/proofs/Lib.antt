@@ -12,3 +12,6 @@ pub mod Stored
 pub mod WholeWrites
 pub mod WholePuts
 pub mod WholeReads
+pub mod Digits
+pub mod Dumped
+pub mod Rebuilt

@@ -30,7 +30,7 @@ use Rattle.cfb_tool.specs.Playing.{AddsInTurn, PlaysOne, Unless, addition, bytes
 refused_not_done : (r : Refusal) → done ≡ refused r → ⊥
 refused_not_done r e = cc
 
-created_rules : (causes : Causes) (setting : Setting) (old new : TreeState) (path : List ℕ) → CallRuns causes setting old (create_stream path) done new
+pub created_rules : (causes : Causes) (setting : Setting) (old new : TreeState) (path : List ℕ) → CallRuns causes setting old (create_stream path) done new
     → FollowsRules setting old (create_stream path) done new
 created_rules causes setting old new path = go old.failed
   where
@@ -49,7 +49,7 @@ named_path rule path = go (names_of_path path) refl
     go (Some names) e h = (names, e)
 
 module _ (cases : Cases) (sound : Bool) (n : ℕ) (tree tree' : Tree) (path : List ℕ) (step : Step cases sound n tree (create_stream path) done tree') where
-  made_sound : sound ≡ true
+  pub made_sound : sound ≡ true
   made_sound = go (outcome cases sound tree (create_stream path)) refl step
     where
       go : (o : Option Refusal) → outcome cases sound tree (create_stream path) ≡ o
@@ -59,7 +59,7 @@ module _ (cases : Cases) (sound : Bool) (n : ℕ) (tree tree' : Tree) (path : Li
           (no_refusal (refusal_of cases tree (create_stream path)) (unsound_refusal sound (create_stream path)) e)) ∙ e)
       go (Some r) e h = absurd (refused_not_done r h.0)
 
-  made_empty : HasStream cases tree' path []
+  pub made_empty : HasStream cases tree' path []
   made_empty =
       let named = named_path (creation_refusal cases tree is_a_stream) path (done_step cases sound n tree tree' (create_stream path) step).0 in
       let is_done : IsDone cases (λ p. create_stream p) named.0 tree tree' = record { path = path; sound = sound; root_len = n; named = named.1; step = step } in
@@ -69,7 +69,7 @@ module _ (cases : Cases) (sound : Bool) (n : ℕ) (tree tree' : Tree) (path : Li
       ]
 
 -- one that was opened leaves the tree as it was
-found_rules : (causes : Causes) (setting : Setting) (old new : TreeState) (path : List ℕ) → CallRuns causes setting old (open_stream path) done new
+pub found_rules : (causes : Causes) (setting : Setting) (old new : TreeState) (path : List ℕ) → CallRuns causes setting old (open_stream path) done new
     → new.tree ≡ old.tree
 found_rules causes setting old new path = go old.failed
   where
@@ -80,7 +80,7 @@ found_rules causes setting old new path = go old.failed
     go false (inr ((r, may, is, rules), off)) = absurd (refused_not_done r is)
 
 -- as it is opened
-opened_with : (cases : Cases) (tree : Tree) (path bytes : List ℕ) → HasStream cases tree path bytes → opened_by_path cases tree path ≡ opened (length bytes) bytes
+pub opened_with : (cases : Cases) (tree : Tree) (path bytes : List ℕ) → HasStream cases tree path bytes → opened_by_path cases tree path ≡ opened (length bytes) bytes
 opened_with cases tree path bytes h =
     ap (λ (o : Option Object). opened (stream_fields (unwrap_or o (a_stream new_stream))).len (stream_fields (unwrap_or o (a_stream new_stream))).content)
     (ap (option_and_then (object_at cases tree)) h.named ∙ h.stands)
@@ -89,15 +89,15 @@ opened_with cases tree path bytes h =
 -- ---- writes at its end
 
 -- it has these bytes, and its position is behind them
-record EndsWith (s : StreamState) (bytes : List ℕ) : Type 0 where
-  len : s.len ≡ length bytes
-  content : s.content ≡ bytes
-  position : s.position ≡ length bytes
+pub record EndsWith (s : StreamState) (bytes : List ℕ) : Type 0 where
+  pub len : s.len ≡ length bytes
+  pub content : s.content ≡ bytes
+  pub position : s.position ≡ length bytes
 
-ends_opened : EndsWith (opened 0 []) []
+pub ends_opened : EndsWith (opened 0 []) []
 ends_opened = record { len = refl; content = refl; position = refl }
 
-some_not_none : (r : Refusal) → Some r ≡ None → ⊥
+pub some_not_none : (r : Refusal) → Some r ≡ None → ⊥
 some_not_none r e = cc
 
 -- an answer that tells no refusal is none
@@ -112,7 +112,7 @@ sought_end s = at_end (s.len + 0) s.len (omega (arith))
     at_end at len e = subst (λ (n : ℕ). (if nat_le n len then Some n else None) ≡ Some len) (sym e) (ap (λ (b : Bool). if b then Some len else None) (le-leb len len (omega (arith))))
 
 module _ (causes : Causes) (setting : StreamSetting) (old new : StreamRun) (reply : StreamReply) (quiet : refusal_of_work reply ≡ None) (bytes : List ℕ) where
-  seek_runs : old.stream.len ≡ length bytes → old.stream.content ≡ bytes → StreamCallRuns causes setting old (seek (from_end (pos 0))) reply new → EndsWith new.stream bytes
+  pub seek_runs : old.stream.len ≡ length bytes → old.stream.content ≡ bytes → StreamCallRuns causes setting old (seek (from_end (pos 0))) reply new → EndsWith new.stream bytes
   seek_runs len content = go old.failed
     where
       went : (o : Option ℕ) → o ≡ Some old.stream.len
@@ -135,9 +135,9 @@ module _ (causes : Causes) (setting : StreamSetting) (old new : StreamRun) (repl
       go false (inr (r, may, is, off, allowed)) = absurd (not_refused reply r quiet is)
 
 -- so many of the bytes were written behind these; none in a file that is not sound
-record Grows (sound : Bool) (before bytes : List ℕ) (n : ℕ) (new : StreamState) : Type 0 where
-  ends : EndsWith new (before ++ take n bytes)
-  unsound : sound ≡ false → take n bytes ≡ []
+pub record Grows (sound : Bool) (before bytes : List ℕ) (n : ℕ) (new : StreamState) : Type 0 where
+  pub ends : EndsWith new (before ++ take n bytes)
+  pub unsound : sound ≡ false → take n bytes ≡ []
 
 module _ (old new : StreamState) (before bytes : List ℕ) (ends : EndsWith old before) where
   wrote_more : (n : ℕ) → n ≤ length bytes → Wrote bytes n old new → EndsWith new (before ++ take n bytes)
@@ -187,7 +187,7 @@ module _ (causes : Causes) (setting : StreamSetting) (old new : StreamRun) (befo
 
 -- ---- its closing
 
-closes_unfailed : (causes : Causes) (old : StreamRun) (closing : Option Refusal) (failed : Bool) → closing ≡ None → Closes causes old closing failed → failed ≡ false
+pub closes_unfailed : (causes : Causes) (old : StreamRun) (closing : Option Refusal) (failed : Bool) → closing ≡ None → Closes causes old closing failed → failed ≡ false
 closes_unfailed causes old (Some r) failed none closes = absurd (some_not_none r none)
 closes_unfailed causes old None failed none closes = go old.failed closes
   where
@@ -218,10 +218,10 @@ module _ (setting : Setting) (tree : Tree) (new : TreeState) (path before bytes 
 -- ---- commands
 
 -- that is what was told
-abbrev IsTold : Option Refusal → Option Refusal → Type 0
+abbrev pub IsTold : Option Refusal → Option Refusal → Type 0
 IsTold told what = told ≡ what
 
-empty_of : (bytes : List ℕ) → length bytes ≡ 0 → bytes ≡ []
+pub empty_of : (bytes : List ℕ) → length bytes ≡ 0 → bytes ≡ []
 empty_of [] e = refl
 empty_of (b ∷ bytes) e = absurd (omega (arith))
 
@@ -235,7 +235,7 @@ first_quiet (got bytes ∷ replies) closing none = first_quiet replies closing n
 first_quiet (offset at ∷ replies) closing none = first_quiet replies closing none
 first_quiet (answered b ∷ replies) closing none = first_quiet replies closing none
 
-one_quiet : (reply : StreamReply) (rest : Option Refusal) → first_of (refusal_of_work reply) rest ≡ None → (refusal_of_work reply ≡ None) × (rest ≡ None)
+pub one_quiet : (reply : StreamReply) (rest : Option Refusal) → first_of (refusal_of_work reply) rest ≡ None → (refusal_of_work reply ≡ None) × (rest ≡ None)
 one_quiet reply rest = go (refusal_of_work reply)
   where
     go : (o : Option Refusal) → first_of o rest ≡ None → (o ≡ None) × (rest ≡ None)
@@ -244,11 +244,11 @@ one_quiet reply rest = go (refusal_of_work reply)
 
 module _ {S : Type 0} (seen : S → FileView) (promised : S → Deed → S → Type 0) (setting : Setting) where
   module _ (names : List (List ℕ)) (old new : StreamState) (file last : S) where
-    abbrev run_at : StreamState → S → StreamRun
+    abbrev pub run_at : StreamState → S → StreamRun
     run_at stream s = record { stream = stream; failed = (seen s).state.failed }
 
     -- one write is a call of the list
-    write_called : (call : StreamCall) (before bytes : List ℕ) (reply : StreamReply) → refusal_of_work reply ≡ None → EndsWith old before → call ≡ write bytes
+    pub write_called : (call : StreamCall) (before bytes : List ℕ) (reply : StreamReply) → refusal_of_work reply ≡ None → EndsWith old before → call ≡ write bytes
         → StreamCallStep seen promised setting names old file call reply new last → Grows setting.stream.sound before bytes (taken_by_work reply) new
     write_called call before bytes reply quiet ends is step =
         let written = subst (λ (c : StreamCall). StreamCallStep seen promised setting names old file c reply new last) is step in
@@ -311,7 +311,7 @@ module _ {S : Type 0} (seen : S → FileView) (promised : S → Deed → S → T
         (λ begins. writes_end (names_at path) (opened_by_path setting.cases (seen runs.opened).state.tree path) runs.stream runs.opened runs.worked [] bytes calls replies begins writes q.0 runs.works)
 
     -- one that writes once
-    put_some : (bytes : List ℕ) (reply : CommandReply) → refusal_in reply ≡ None → CommandRuns seen promised setting old (on_stream creates path (write bytes ∷ [])) reply new
+    pub put_some : (bytes : List ℕ) (reply : CommandReply) → refusal_in reply ≡ None → CommandRuns seen promised setting old (on_stream creates path (write bytes ∷ [])) reply new
         → Keeps seen promised setting new path (take (taken_in reply) bytes)
     put_some bytes (replied reply) quiet runs = absurd (some_not_none runs.0.0 (sym (ap refusal_of_call runs.0.1) ∙ quiet))
     put_some bytes (streamed [] closing) quiet runs = absurd runs.works
@@ -324,7 +324,7 @@ module _ {S : Type 0} (seen : S → FileView) (promised : S → Deed → S → T
     put_some bytes (streamed (reply ∷ next ∷ replies) closing) quiet runs = absurd runs.works.3
 
     -- one that adds once
-    add_some : (before bytes : List ℕ) (reply : CommandReply) → HasStream setting.cases (seen old).state.tree path before → refusal_in reply ≡ None
+    pub add_some : (before bytes : List ℕ) (reply : CommandReply) → HasStream setting.cases (seen old).state.tree path before → refusal_in reply ≡ None
         → CommandRuns seen promised setting old (addition path bytes) reply new → Keeps seen promised setting new path (before ++ take (taken_in reply) bytes)
     add_some before bytes (replied reply) there quiet runs = absurd (some_not_none runs.0.0 (sym (ap refusal_of_call runs.0.1) ∙ quiet))
     add_some before bytes (streamed [] closing) there quiet runs = absurd runs.works

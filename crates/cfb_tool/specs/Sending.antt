@@ -15,6 +15,12 @@ pub record IsSent (start now : Option (List ℕ)) (text left : List ℕ) : Type 
   pub written : Appends start now front
   pub rest : text ≡ front ++ left
 
+-- the writer refused
+abbrev pub IsOfOutput : {A : Type 0} → DumpError A → Type 0
+IsOfOutput (File e) = ⊥
+IsOfOutput (Object e path) = ⊥
+IsOfOutput (Output e) = ⊤
+
 -- the stream is at its start, in a file that has not failed, and no more can be read than there is
 pub record IsAtStart (s : OpenStream) : Type 0 where
   pub unfailed : is_failed s.file ≡ false

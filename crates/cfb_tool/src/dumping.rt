@@ -1,5 +1,13 @@
 //! A file as lines of `run` that make its tree.
-ghost use Rattle.std.specs.Prelude.{◌≡◌, IfErr, IsTrue, OnOk};
+ghost use Rattle.std.specs.Prelude.{◌≡◌, true, [], All, IfErr, IfOk, IsTrue, OnOk, chars, string_bytes};
+ghost use Rattle.cfb_tool.specs.cfb_compound_file.ReadStreams.{file_of, open_of};
+ghost use Rattle.cfb_tool.specs.cfb_compound_file.Stored.{kept_of};
+ghost use Rattle.cfb_tool.specs.cfb_compound_file.StreamAnswers.{stream_in};
+ghost use Rattle.cfb_tool.specs.Content.{IsOnlyRead};
+ghost use Rattle.cfb_tool.specs.Dumping.{CanBeDumped, IsDumped, IsNotDumped, IsPlacedAt, NamesUnreached, SendsNoObject, SendsNoStream, SendsObject, can_be_dumped, comment_line, is_named_as};
+ghost use Rattle.cfb_tool.specs.Sending.{IsAtStart, IsOfOutput, IsSent, SendsDigits, SendsNotAll};
+ghost use Rattle.cfb_tool.specs.cfb_outline.Families.{is_stream_kind};
+ghost use Rattle.cfb_lines.specs.Writing.{Lacks};
 
 use crate::dump_error::DumpError;
 use crate::listing::walked;
@@ -18,17 +26,24 @@ use std::io::Write;
 const PIECE_LEN: usize = 65536;
 
 /// Whether a path can say the name of the object; the root needs none.
-fn is_named<A: Heap>(entry: &Entry<A>) -> bool {
+fn is_named<A: Heap>(entry: &Entry<A>) -> bool
+    ensures { result ≡ is_named_as entry.now.obj_type entry.now }
+{
     entry.is_root() || can_be_named(entry.name())
 }
 
 /// Whether a path leads to the object.
-fn is_reached<A: Heap>(entry: &Entry<A>) -> bool {
+fn is_reached<A: Heap>(entry: &Entry<A>) -> bool
+    ensures { result ≡ can_be_dumped entry.now }
+{
     is_named(entry) && !has_backslash(entry.path())
 }
 
 /// That a path leads to each of the objects.
-fn check_reached<A: Heap + Clone>(alloc: &A, told: &[Entry<A>]) -> Result<(), DumpError<A>> {
+fn check_reached<A: Heap + Clone>(alloc: &A, told: &[Entry<A>]) -> Result<(), DumpError<A>>
+    ensures all { OnOk result (All CanBeDumped told.now) }
+    ensures refused { IfErr result (NamesUnreached told.now) }
+{
     for entry in told {
         if !is_reached(entry) {
             let e = Error::InvalidData(Detail::text("no path leads to this object"));
@@ -43,7 +58,9 @@ fn at_object<A: Heap + Clone>(
     alloc: &A,
     error: DumpError<A>,
     entry: &Entry<A>,
-) -> DumpError<A> {
+) -> DumpError<A>
+    ensures { IsPlacedAt entry.now.path error result }
+{
     match error {
         DumpError::File(e) => match path_of(alloc, entry) {
             Ok(path) => DumpError::Object(e, path),
@@ -53,19 +70,30 @@ fn at_object<A: Heap + Clone>(
     }
 }
 
-fn path_of<A: Heap + Clone>(alloc: &A, entry: &Entry<A>) -> Result<String<A>, AllocError> {
+fn path_of<A: Heap + Clone>(alloc: &A, entry: &Entry<A>) -> Result<String<A>, AllocError>
+    ensures { IfOk result (λ path. chars (string_bytes path) ≡ entry.now.path) }
+{
     String::from_str(alloc.clone()?, entry.path())
 }
 
 /// Writes the text.
-fn send<A: Heap, W: Write>(text: &mut String<A>, out: &mut W) -> Result<(), DumpError<A>> {
+fn send<A: Heap, W: Write>(text: &mut String<A>, out: &mut W) -> Result<(), DumpError<A>>
+    ensures sent { OnOk result (IsSent (W.contents out.old) (W.contents out.new)
+        (string_bytes text.old) (string_bytes text.new)) }
+    ensures all { OnOk result (string_bytes text.new ≡ []) }
+    ensures refused { IfErr result IsOfOutput }
+{
     out.write_all(text.as_bytes())?;
     text.clear();
     Ok(())
 }
 
 /// Writes the text if it is long.
-fn send_long<A: Heap, W: Write>(text: &mut String<A>, out: &mut W) -> Result<(), DumpError<A>> {
+fn send_long<A: Heap, W: Write>(text: &mut String<A>, out: &mut W) -> Result<(), DumpError<A>>
+    ensures sent { OnOk result (IsSent (W.contents out.old) (W.contents out.new)
+        (string_bytes text.old) (string_bytes text.new)) }
+    ensures refused { IfErr result IsOfOutput }
+{
     if text.len() < PIECE_LEN {
         return Ok(());
     }
@@ -79,7 +107,16 @@ fn write_digits<F: ReadMedium, A: Heap + Clone, W: Write>(
     piece: &mut [u8],
     text: &mut String<A>,
     out: &mut W,
-) -> Result<(), DumpError<A>> {
+) -> Result<(), DumpError<A>>
+    ensures same_file { (file_of stream.new).ghost_name ≡ (file_of stream.old).ghost_name }
+    ensures kept { IsTrue F.tells
+        → kept_of (file_of stream.new).now ≡ kept_of (file_of stream.old).now }
+    ensures sent { IsTrue F.tells → IsAtStart (open_of stream.old) → OnOk result
+        (SendsDigits (stream_in (open_of stream.old)) (W.contents out.old) (W.contents out.new)
+        (string_bytes text.old) (string_bytes text.new)) }
+    ensures refused { IsTrue F.tells → IsAtStart (open_of stream.old)
+        → IfErr result (SendsNotAll (stream_in (open_of stream.old))) }
+{
     let mut left = stream.len();
     while left > 0 {
         let count = stream.read(piece)?;
@@ -102,7 +139,14 @@ fn dump_stream<F: ReadMedium, A: Heap + Clone, W: Write>(
     piece: &mut [u8],
     text: &mut String<A>,
     out: &mut W,
-) -> Result<(), DumpError<A>> {
+) -> Result<(), DumpError<A>>
+    requires path { Lacks 92 entry.now.path }
+    requires kind { is_stream_kind entry.now.obj_type ≡ true }
+    ensures sent { IsTrue F.tells → OnOk result (SendsObject file.old entry.now
+        (W.contents out.old) (W.contents out.new) (string_bytes text.old) (string_bytes text.new)) }
+    ensures refused { IsTrue F.tells → IfErr result (SendsNoStream file.old entry.now.path) }
+    ensures kept { IsTrue F.tells → IsOnlyRead file.old file.new }
+{
     push_stream_head(alloc, text, entry)?;
     let mut stream = file.open_read_stream(entry.path())?;
     let written = write_digits(&mut stream, piece, text, out);
@@ -121,7 +165,13 @@ fn dump_object<F: ReadMedium, A: Heap + Clone, W: Write>(
     piece: &mut [u8],
     text: &mut String<A>,
     out: &mut W,
-) -> Result<(), DumpError<A>> {
+) -> Result<(), DumpError<A>>
+    requires path { Lacks 92 entry.now.path }
+    ensures sent { IsTrue F.tells → OnOk result (SendsObject file.old entry.now
+        (W.contents out.old) (W.contents out.new) (string_bytes text.old) (string_bytes text.new)) }
+    ensures refused { IsTrue F.tells → IfErr result (SendsNoObject file.old entry.now.path) }
+    ensures kept { IsTrue F.tells → IsOnlyRead file.old file.new }
+{
     if entry.is_stream() {
         return match dump_stream(alloc, file, entry, piece, text, out) {
             Ok(()) => Ok(()),
@@ -133,7 +183,9 @@ fn dump_object<F: ReadMedium, A: Heap + Clone, W: Write>(
 }
 
 /// The comment that a dump begins with.
-fn first_line<A: Heap>(alloc: A, version: u16) -> Result<String<A>, AllocError> {
+fn first_line<A: Heap>(alloc: A, version: u16) -> Result<String<A>, AllocError>
+    ensures { IfOk result (λ text. string_bytes text ≡ comment_line version) }
+{
     format!(in alloc; "# cfbtool dump, version {version}\n")
 }
 
@@ -153,7 +205,12 @@ pub fn dump<F: ReadMedium, A: Heap + Clone, W: Write>(
     alloc: &A,
     file: &mut CompoundFile<F, A>,
     out: &mut W,
-) -> Result<(), DumpError<A>> {
+) -> Result<(), DumpError<A>>
+    ensures dumped { IsTrue F.tells
+        → OnOk result (IsDumped file.old (W.contents out.old) (W.contents out.new)) }
+    ensures refused { IsTrue F.tells → IfErr result (IsNotDumped file.old) }
+    ensures kept { IsTrue F.tells → IsOnlyRead file.old file.new }
+{
     if file.is_failed() {
         return Err(DumpError::File(Error::Failed));
     }

@@ -1,0 +1,306 @@
+-- The bytes of a stream, read in pieces and sent as digits.
+use Rattle.std.proofs.Common.{◌≡◌, ◌≢◌, ◌∙◌, ◌+◌, ◌<◌, ◌≤◌, ◌==◌, ℕ, Bool, true, false, List, [], ◌∷◌, ◌++◌, ap, append-nil, append_assoc, arith, drop, flat_map, inl, inr, length, refl, subst, sym, take}
+use Rattle.std.proofs.lemmas.Bool.{eqb-true, ltb-false, ltb-true}
+use Rattle.std.proofs.lemmas.Grind.{flat_map-append}
+use Rattle.std.proofs.lemmas.List.{take_all}
+use Rattle.std.proofs.Math.Seq.{take-add}
+use Rattle.std.specs.Io.KnownBytes.{Appends}
+use Rattle.std.specs.List.{AllByRecursion}
+use Rattle.std.specs.Prelude.{◌⊎◌, ◌||◌, MatchBool, Option, Some, None, nat_lt, ⊤}
+use Rattle.cfb_format.specs.Medium.{part}
+use Rattle.cfb_format.specs.Refused.{IsBreak, IsInvalidData, number_of}
+use Rattle.cfb_format.specs.declared.error.Error.{Error}
+use Rattle.cfb_format.specs.declared.error.Error.TheVariants.{NotFound, AlreadyExists, InvalidInput, InvalidData, Medium, Memory, Full, Unsound, Failed}
+use Rattle.cfb_rules.specs.Refusal.{IsRefusal, Refusal, failed_earlier, file_full, invalid_data, medium_failed, out_of_memory, not_found, already_exists, invalid_input, not_sound, refusal_number}
+use Rattle.cfb_rules.specs.Runs.{BlamesOneOf, Causes, IsStreamBroken, StreamCallRuns, StreamOnFailed, StreamRun, WorkMayBreak}
+use Rattle.cfb_rules.specs.StreamCalls.{Moves, ReadsOn, Refuses, Serves, StreamReply, StreamSetting, StreamState, StreamStep, got, not_done, read}
+use Rattle.cfb_lines.specs.Fields.{AddsHex, IsHex, hex_pair}
+use Rattle.cfb_stream_window.specs.Windows.{Runs}
+use Rattle.cfb_stream_buffer.specs.Contents.{stream_setting_of}
+use Rattle.cfb_tool.specs.cfb_agreement.Files.{is_failed}
+use Rattle.cfb_tool.specs.cfb_compound_file.StreamAnswers.{IsStreamRefusedBy, OpenStream, StreamRunsBy, run_in, stored_in, stream_in}
+use Rattle.cfb_tool.specs.Sending.{IsAtStart, IsSent, SendsDigits}
+
+-- ---- text on its way
+
+pub appends_none : (start : Option (List ℕ)) → Appends start start []
+appends_none None = tt
+appends_none (Some xs) = sym (append-nil xs)
+
+pub appends_then : (a b c : Option (List ℕ)) (xs ys : List ℕ) → Appends a b xs → Appends b c ys → Appends a c (xs ++ ys)
+appends_then None b c xs ys h k = tt
+appends_then (Some x) None c xs ys h k = absurd h
+appends_then (Some x) (Some y) None xs ys h k = absurd k
+appends_then (Some x) (Some y) (Some z) xs ys h k = k ∙ ap (λ (bs : List ℕ). bs ++ ys) h ∙ append_assoc x xs ys
+
+pub nothing_sent : (start : Option (List ℕ)) (text : List ℕ) → IsSent start start text text
+nothing_sent start text = record { front = []; written = appends_none start; rest = refl }
+
+-- more was put behind what was left, and then a front of that was sent
+pub sent_on : (a b c : Option (List ℕ)) (text left more new : List ℕ) → IsSent a b text left → IsSent b c (left ++ more) new → IsSent a c (text ++ more) new
+sent_on a b c text left more new x y = record {
+  front = x.front ++ y.front;
+  written = appends_then a b c x.front y.front x.written y.written;
+  rest = ap (λ (bs : List ℕ). bs ++ more) x.rest ∙ append_assoc x.front left more ∙ ap (λ (bs : List ℕ). x.front ++ bs) y.rest ∙ sym (append_assoc x.front y.front new);
+}
+
+-- ---- digits behind digits
+
+bytes_joined : (xs ys : List ℕ) → AllByRecursion (λ b. b < 256) xs → AllByRecursion (λ b. b < 256) ys → AllByRecursion (λ b. b < 256) (xs ++ ys)
+bytes_joined [] ys h k = k
+bytes_joined (x ∷ xs) ys h k = (h.0, bytes_joined xs ys h.1 k)
+
+pub no_digits : (text : List ℕ) → AddsHex text text []
+no_digits text = ([], sym (append-nil text), (refl, tt))
+
+pub digits_then : (old middle new xs ys : List ℕ) → AddsHex old middle xs → AddsHex middle new ys → AddsHex old new (xs ++ ys)
+digits_then old middle new xs ys h k = (
+  h.0 ++ k.0,
+  k.1 ∙ ap (λ (bs : List ℕ). bs ++ k.0) h.1 ∙ append_assoc old h.0 k.0,
+  (
+    ap (λ (bs : List ℕ). bs ++ k.0) h.2.0 ∙ ap (λ (bs : List ℕ). flat_map hex_pair xs ++ bs) k.2.0 ∙ sym (flat_map-append hex_pair xs ys),
+    bytes_joined xs ys h.2.1 k.2.1,
+  ),
+)
+
+-- ---- one read, by the rules
+
+got_not_done : (bytes : List ℕ) (r : Refusal) → got bytes ≡ not_done r → ⊥
+got_not_done bytes r e = cc
+
+abbrev bytes_in : StreamReply → List ℕ
+bytes_in (got bytes) = bytes
+bytes_in reply = []
+
+-- bytes were served from the position on
+record IsServed (old new : StreamState) (bytes : List ℕ) : Type 0 where
+  inside : old.position + length bytes ≤ length old.content
+  gives : bytes ≡ part old.content old.position (length bytes)
+  len : new.len ≡ old.len
+  content : new.content ≡ old.content
+  position : new.position ≡ old.position + length bytes
+
+part_length : (content : List ℕ) (at n : ℕ) → at + n ≤ length content → length (part content at n) ≡ n
+part_length content at n inside = simp (arith, inside)
+
+module _ (causes : Causes) (setting : StreamSetting) (old new : StreamRun) (wanted : ℕ) where
+  -- a read that gives bytes
+  served : (bytes : List ℕ) → 0 < length bytes → old.failed ≡ false → StreamCallRuns causes setting old (read wanted) (got bytes) new
+      → IsServed old.stream new.stream bytes × (new.failed ≡ false)
+  served bytes some = go old.failed
+    where
+      none : got bytes ≡ got [] → ⊥
+      none is = let e : bytes ≡ [] = ap bytes_in is in omega (arith, some, ap (length {A = ℕ}) e)
+
+      step : (a b : Bool) → MatchBool a ((got bytes ≡ got []) × Moves old.stream new.stream old.stream.position 0)
+          (MatchBool b (Serves (λ n. old.stream.position + n) (λ n. 0) wanted old.stream (got bytes) new.stream) (Refuses invalid_data old.stream (got bytes) new.stream))
+          → IsServed old.stream new.stream bytes
+      step true b h = absurd (none h.0)
+      step false true (n, least, most, inside, is, moves) =
+          let gives : bytes ≡ part old.stream.content old.stream.position n = ap bytes_in is in
+          let count : length bytes ≡ n = ap (length {A = ℕ}) gives ∙ part_length old.stream.content old.stream.position n inside in
+          record {
+            inside = omega (arith, inside, count);
+            gives = gives ∙ ap (part old.stream.content old.stream.position) (sym count);
+            len = moves.len;
+            content = moves.content;
+            position = moves.position ∙ ap (λ (m : ℕ). old.stream.position + m) (sym count);
+          }
+      step false false h = absurd (got_not_done bytes invalid_data h.0)
+
+      go : (b : Bool) → b ≡ false → MatchBool b (StreamOnFailed (read wanted) (got bytes) new)
+          ((StreamStep setting old.stream (read wanted) (got bytes) new.stream × (new.failed ≡ false)) ⊎ IsStreamBroken causes setting old.stream (read wanted) (got bytes) new)
+          → IsServed old.stream new.stream bytes × (new.failed ≡ false)
+      go true not h = cc
+      go false not (inl h) = (step (wanted == 0 || old.stream.position == old.stream.len) (nat_lt old.stream.position (length old.stream.content)) h.0, h.1)
+      go false not (inr (r, may, is, off, allowed)) = absurd (got_not_done bytes r is)
+
+  -- a read that is refused before the end: the rest can't be read, or it broke off
+  abbrev IsCutOrBroken : Refusal → Type 0
+  IsCutOrBroken r = ((r ≡ invalid_data) × (length old.stream.content ≤ old.stream.position)) ⊎ BlamesOneOf ⊤ ⊤ causes.full r
+
+  refused_so : (r : Refusal) → old.failed ≡ false → StreamCallRuns causes setting old (read wanted) (not_done r) new → IsCutOrBroken r
+  refused_so r = go old.failed
+    where
+      same : (s : Refusal) → not_done r ≡ not_done s → r ≡ s
+      same s e = cc
+
+      step : (a b : Bool) → nat_lt old.stream.position (length old.stream.content) ≡ b
+          → MatchBool a ((not_done r ≡ got []) × Moves old.stream new.stream old.stream.position 0)
+          (MatchBool b (Serves (λ n. old.stream.position + n) (λ n. 0) wanted old.stream (not_done r) new.stream) (Refuses invalid_data old.stream (not_done r) new.stream))
+          → IsCutOrBroken r
+      step true b e h = absurd (got_not_done [] r (sym h.0))
+      step false true e (n, least, most, inside, is, moves) = absurd (got_not_done _ r (sym is))
+      step false false e h = inl (same invalid_data h.0, ltb-false old.stream.position (length old.stream.content) e)
+
+      any_medium : (medium full full' : Type 0) → (full → full') → (s : Refusal) → BlamesOneOf medium ⊤ full s → BlamesOneOf ⊤ ⊤ full' s
+      any_medium medium full full' f medium_failed h = tt
+      any_medium medium full full' f out_of_memory h = tt
+      any_medium medium full full' f file_full h = f h
+      any_medium medium full full' f not_found h = absurd h
+      any_medium medium full full' f already_exists h = absurd h
+      any_medium medium full full' f invalid_input h = absurd h
+      any_medium medium full full' f invalid_data h = absurd h
+      any_medium medium full full' f not_sound h = absurd h
+      any_medium medium full full' f failed_earlier h = absurd h
+
+      blamed : (pending : Bool) (s : Refusal) → MatchBool pending (BlamesOneOf causes.medium ⊤ causes.full s) (BlamesOneOf causes.medium ⊤ ⊥ s) → BlamesOneOf ⊤ ⊤ causes.full s
+      blamed true s h = any_medium causes.medium causes.full causes.full (λ x. x) s h
+      blamed false s h = any_medium causes.medium ⊥ causes.full (λ x. absurd x) s h
+
+      go : (b : Bool) → b ≡ false → MatchBool b (StreamOnFailed (read wanted) (not_done r) new)
+          ((StreamStep setting old.stream (read wanted) (not_done r) new.stream × (new.failed ≡ false)) ⊎ IsStreamBroken causes setting old.stream (read wanted) (not_done r) new)
+          → IsCutOrBroken r
+      go true not h = cc
+      go false not (inl h) = step (wanted == 0 || old.stream.position == old.stream.len) (nat_lt old.stream.position (length old.stream.content)) refl h.0
+      go false not (inr (s, may, is, off, allowed)) = inr (subst (λ (q : Refusal). BlamesOneOf ⊤ ⊤ causes.full q) (sym (same s is)) (blamed old.stream.pending s may))
+
+medium_error : (e : Error) → number_of e ≡ 5 → IsBreak ⊥ e
+medium_error (Medium f) is = tt
+medium_error Memory is = tt
+medium_error (NotFound d) is = absurd (omega (arith, is))
+medium_error (AlreadyExists d) is = absurd (omega (arith, is))
+medium_error (InvalidInput d) is = absurd (omega (arith, is))
+medium_error (InvalidData d) is = absurd (omega (arith, is))
+medium_error Full is = absurd (omega (arith, is))
+medium_error Unsound is = absurd (omega (arith, is))
+medium_error Failed is = absurd (omega (arith, is))
+
+memory_error : (e : Error) → number_of e ≡ 6 → IsBreak ⊥ e
+memory_error (Medium f) is = tt
+memory_error Memory is = tt
+memory_error (NotFound d) is = absurd (omega (arith, is))
+memory_error (AlreadyExists d) is = absurd (omega (arith, is))
+memory_error (InvalidInput d) is = absurd (omega (arith, is))
+memory_error (InvalidData d) is = absurd (omega (arith, is))
+memory_error Full is = absurd (omega (arith, is))
+memory_error Unsound is = absurd (omega (arith, is))
+memory_error Failed is = absurd (omega (arith, is))
+
+-- where no number is blamed the medium or memory is
+breaks : (r : Refusal) (e : Error) → IsRefusal r e → BlamesOneOf ⊤ ⊤ ⊥ r → IsBreak ⊥ e
+breaks medium_failed e is h = medium_error e is
+breaks out_of_memory e is h = memory_error e is
+breaks file_full e is h = absurd h
+breaks not_found e is h = absurd h
+breaks already_exists e is h = absurd h
+breaks invalid_input e is h = absurd h
+breaks invalid_data e is h = absurd h
+breaks not_sound e is h = absurd h
+breaks failed_earlier e is h = absurd h
+
+-- ---- on a stream
+
+module _ (causes : Causes) (s next : OpenStream) (wanted : ℕ) where
+  pub read_served : (bytes : List ℕ) → 0 < length bytes → is_failed s.file ≡ false → StreamRunsBy causes s (read wanted) (got bytes) next
+      → IsServed (stream_in s) (stream_in next) bytes × (is_failed next.file ≡ false)
+  unfolding Runs
+  read_served bytes some unfailed runs = served causes (stream_setting_of (stored_in s)) (run_in s) (run_in next) wanted bytes some unfailed runs
+
+-- a read that was refused, where no number is blamed
+module _ (medium : Type 0) (s next : OpenStream) (wanted : ℕ) where
+  abbrev calm : Causes
+  calm = record { medium = medium; full = ⊥ }
+
+  pub read_refused : (e : Error) → is_failed s.file ≡ false → IsStreamRefusedBy calm s (read wanted) next e
+      → (IsInvalidData e × (length (stream_in s).content ≤ (stream_in s).position)) ⊎ IsBreak ⊥ e
+  unfolding Runs
+  read_refused e unfailed (r, is, runs) = go (refused_so calm (stream_setting_of (stored_in s)) (run_in s) (run_in next) wanted r unfailed runs)
+    where
+      go : ((r ≡ invalid_data) × (length (stream_in s).content ≤ (stream_in s).position)) ⊎ BlamesOneOf ⊤ ⊤ ⊥ r
+          → (IsInvalidData e × (length (stream_in s).content ≤ (stream_in s).position)) ⊎ IsBreak ⊥ e
+      go (inl (x, y)) = inl (is ∙ ap refusal_number x, y)
+      go (inr h) = inr (breaks r e is h)
+
+-- ---- along a stream
+
+-- so many bytes are left; those before were sent
+pub record SendsAlong (first s : OpenStream) (left : ℕ) (start now : Option (List ℕ)) (old new : List ℕ) : Type 0 where
+  pub done : List ℕ
+  pub unfailed : is_failed s.file ≡ false
+  pub len : (stream_in s).len ≡ (stream_in first).len
+  pub content : (stream_in s).content ≡ (stream_in first).content
+  pub position : (stream_in s).position ≡ length done
+  pub inside : length done ≤ length (stream_in first).content
+  pub taken : done ≡ take (length done) (stream_in first).content
+  pub rest : length done + left ≡ (stream_in first).len
+  pub text : List ℕ
+  pub digits : AddsHex old text done
+  pub sent : IsSent start now text new
+
+pub begins_along : (s : OpenStream) (start : Option (List ℕ)) (old : List ℕ) → IsAtStart s → SendsAlong s s (stream_in s).len start start old old
+begins_along s start old fresh = record {
+  done = [];
+  unfailed = fresh.unfailed;
+  len = refl;
+  content = refl;
+  position = fresh.begins;
+  inside = omega arith;
+  taken = refl;
+  rest = refl;
+  text = old;
+  digits = no_digits old;
+  sent = nothing_sent start old;
+}
+
+module _ (first s next : OpenStream) (left wanted count : ℕ) (start now later : Option (List ℕ)) (old text middle new bytes : List ℕ) (along : SendsAlong first s left start now old text)
+    (some : 0 < count) (counted : length bytes ≡ count) (served_so : IsServed (stream_in s) (stream_in next) bytes × (is_failed next.file ≡ false)) where
+  some_bytes : 0 < length bytes
+  some_bytes = omega (arith, some, counted)
+
+  all_done : List ℕ
+  all_done = along.done ++ bytes
+
+  done_length : length all_done ≡ length along.done + count
+  done_length = simp counted
+
+  lies_inside : length along.done + count ≤ length (stream_in first).content
+  lies_inside = omega (arith, served_so.0.inside, along.position, ap (length {A = ℕ}) along.content, counted)
+
+  pub piece_fits : length (stream_in first).content ≤ (stream_in first).len → count ≤ left
+  piece_fits readable = omega (arith, lies_inside, readable, along.rest)
+
+  piece_taken : bytes ≡ take count (drop (length along.done) (stream_in first).content)
+  piece_taken =
+      served_so.0.gives
+      ∙ ap (part (stream_in s).content (stream_in s).position) counted
+      ∙ ap (λ (bs : List ℕ). part bs (stream_in s).position count) along.content
+      ∙ ap (λ (at : ℕ). part (stream_in first).content at count) along.position
+
+  pub goes_along : (rest : ℕ) → rest + count ≡ left → AddsHex text middle bytes → IsSent now later middle new → SendsAlong first next rest start later old new
+  goes_along rest is hex sent = record {
+    done = all_done;
+    unfailed = served_so.1;
+    len = served_so.0.len ∙ along.len;
+    content = served_so.0.content ∙ along.content;
+    position = omega (arith, served_so.0.position, along.position, done_length, counted);
+    inside = omega (arith, lies_inside, done_length);
+    taken = ap (λ (bs : List ℕ). bs ++ bytes) along.taken
+        ∙ ap (λ (bs : List ℕ). take (length along.done) (stream_in first).content ++ bs) piece_taken
+        ∙ sym (take-add (length along.done) count (stream_in first).content)
+        ∙ ap (λ (n : ℕ). take n (stream_in first).content) (sym done_length);
+    rest = omega (arith, done_length, along.rest, is);
+    text = along.text ++ hex.0;
+    digits = digits_then old along.text (along.text ++ hex.0) along.done bytes along.digits (hex.0, refl, hex.2);
+    sent = sent_on start now later along.text text hex.0 new along.sent (subst (λ (bs : List ℕ). IsSent now later bs new) hex.1 sent);
+  }
+
+pub ends_along : (first s : OpenStream) (start now : Option (List ℕ)) (old new : List ℕ) → IsAtStart first → (left : ℕ) → left ≡ 0 → SendsAlong first s left start now old new
+    → SendsDigits (stream_in first) start now old new
+ends_along first s start now old new fresh left none along =
+    let count : length along.done ≡ (stream_in first).len = omega (arith, along.rest, none) in
+    let all : length (stream_in first).content ≤ length along.done = omega (arith, fresh.readable, count) in
+    let is : along.done ≡ (stream_in first).content = along.taken ∙ take_all (length along.done) (stream_in first).content all in
+    record {
+      whole = sym count ∙ ap (length {A = ℕ}) is;
+      text = along.text;
+      digits = subst (AddsHex old along.text) is along.digits;
+      sent = along.sent;
+    }
+
+-- a refusal on the way
+pub refused_along : (first s : OpenStream) (left : ℕ) (start now : Option (List ℕ)) (old new : List ℕ) (e : Error) → 0 < left → SendsAlong first s left start now old new
+    → (IsInvalidData e × (length (stream_in s).content ≤ (stream_in s).position)) ⊎ IsBreak ⊥ e → (IsInvalidData e × (length (stream_in first).content < (stream_in first).len)) ⊎ IsBreak ⊥ e
+refused_along first s left start now old new e some along (inr h) = inr h
+refused_along first s left start now old new e some along (inl (x, y)) =
+    inl (x, omega (arith, y, some, along.position, ap (length {A = ℕ}) along.content, along.rest))
