@@ -10,7 +10,9 @@ use Rattle.std.specs.Str.Parse.{IsNumeral, digits_value}
 use Rattle.uuid.specs.Text.{parsed}
 use Rattle.cfb_format.specs.Timestamp.{moment_of_unix}
 use Rattle.cfb_text.specs.Meant.{meant}
-use Rattle.cfb_lines.specs.cfb_rules.Lists.{Command}
+use Rattle.cfb_lines.specs.cfb_rules.Calls.{create_storage, create_storage_all, set_created_time, set_modified_time, set_state_bits, set_storage_clsid, touch}
+use Rattle.cfb_lines.specs.cfb_rules.Lists.{Command, by_path, creates, on_stream, opens}
+use Rattle.cfb_lines.specs.cfb_rules.StreamCalls.{from_end, seek, set_len, write}
 use Rattle.cfb_lines.specs.declared.word.Word.{Word}
 use Rattle.cfb_lines.specs.declared.word.Word.TheVariants.{Mkdir, Mkdirs, Touch, Created, Modified, Rmdir, Rmtree, Rm, Clsid, Bits, Len, Put, Add}
 use Rattle.cfb_lines.specs.Commands.{HasClass, HasHex, HasMoment, HasNumber, IsLine, OneScript, Says}
@@ -70,12 +72,12 @@ behind_first (x ∷ xs) = xs
 
 one_seconds : (text : List ℕ) (x y : ℤ) → IsSeconds text x → IsSeconds text y → x ≡ y
 one_seconds text x y (inl (m, h, is)) (inl (n, k, is')) = is ∙ ap pos (one_number 63 m n text h k) ∙ sym is'
-one_seconds text x y (inl (m, h, is)) (inr (n, digits, minus, k)) = absurd (no_minus digits (subst (IsNumeral 10) minus h.0))
-one_seconds text x y (inr (m, digits, minus, h)) (inl (n, k, is')) = absurd (no_minus digits (subst (IsNumeral 10) minus k.0))
-one_seconds text x y (inr (m, digits, minus, h)) (inr (n, digits', minus', k)) =
-    let same : digits ≡ digits' = ap behind_first (sym minus ∙ minus') in
-    let value : m ≡ n = sym h.2 ∙ ap (digits_value 10) same ∙ k.2 in
-    h.3 ∙ ap (λ (v : ℕ). neg_ℤ (pos v)) value ∙ sym k.3
+one_seconds text x y (inl (m, h, is)) (inr k) = absurd (no_minus k.1 (subst (IsNumeral 10) k.2 h.0))
+one_seconds text x y (inr h) (inl (n, k, is')) = absurd (no_minus h.1 (subst (IsNumeral 10) h.2 k.0))
+one_seconds text x y (inr h) (inr k) =
+    let same : h.1 ≡ k.1 = ap behind_first (sym h.2 ∙ k.2) in
+    let value : h.0 ≡ k.0 = sym h.5 ∙ ap (digits_value 10) same ∙ k.5 in
+    h.6 ∙ ap (λ (v : ℕ). neg_ℤ (pos v)) value ∙ sym k.6
 
 one_digit : (d e : ℕ) → d < 16 → e < 16 → hex_digit d ≡ hex_digit e → d ≡ e
 one_digit d e small small' = go (nat_lt d 10) (nat_lt e 10) refl refl
@@ -127,19 +129,19 @@ module _ (rest : List (List ℕ)) (c d : Command) where
       is ∙ ap make (same_Some x y (sym h ∙ ap parsed same ∙ h')) ∙ sym is'
 
   once : (word : Word) (path : List ℕ) → Says word path rest c → Says word path rest d → c ≡ d
-  once Mkdir path h k = moment_once _ h k
-  once Mkdirs path h k = moment_once _ h k
-  once Touch path h k = moment_once _ h k
-  once Created path h k = number_once 64 _ h k
-  once Modified path h k = number_once 64 _ h k
+  once Mkdir path h k = moment_once (λ moment. by_path (create_storage path moment)) h k
+  once Mkdirs path h k = moment_once (λ moment. by_path (create_storage_all path moment)) h k
+  once Touch path h k = moment_once (λ moment. by_path (touch path moment)) h k
+  once Created path h k = number_once 64 (λ moment. by_path (set_created_time path moment)) h k
+  once Modified path h k = number_once 64 (λ moment. by_path (set_modified_time path moment)) h k
   once Rmdir path h k = h.1 ∙ sym k.1
   once Rmtree path h k = h.1 ∙ sym k.1
   once Rm path h k = h.1 ∙ sym k.1
-  once Clsid path h k = class_once _ h k
-  once Bits path h k = number_once 32 _ h k
-  once Len path h k = number_once 64 _ h k
-  once Put path h k = hex_once _ h k
-  once Add path h k = hex_once _ h k
+  once Clsid path h k = class_once (λ id. by_path (set_storage_clsid path id)) h k
+  once Bits path h k = number_once 32 (λ bits. by_path (set_state_bits path bits)) h k
+  once Len path h k = number_once 64 (λ len. on_stream opens path (set_len len ∷ [])) h k
+  once Put path h k = hex_once (λ bytes. on_stream creates path (write bytes ∷ [])) h k
+  once Add path h k = hex_once (λ bytes. on_stream opens path (seek (from_end (pos 0)) ∷ write bytes ∷ [])) h k
 
 -- ---- lines
 

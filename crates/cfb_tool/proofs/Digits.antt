@@ -2,7 +2,7 @@
 use Rattle.std.proofs.Common.{◌≡◌, ◌≢◌, ◌∙◌, ◌+◌, ◌<◌, ◌≤◌, ◌==◌, ℕ, Bool, true, false, List, [], ◌∷◌, ◌++◌, ap, append-nil, append_assoc, arith, drop, flat_map, inl, inr, length, refl, subst, sym, take}
 use Rattle.std.proofs.lemmas.Bool.{eqb-true, ltb-false, ltb-true}
 use Rattle.std.proofs.lemmas.Grind.{flat_map-append}
-use Rattle.std.proofs.lemmas.List.{take_all}
+use Rattle.std.proofs.lemmas.List.{length-append, length-drop, length-take-le, take_all}
 use Rattle.std.proofs.Math.Seq.{take-add}
 use Rattle.std.specs.Io.KnownBytes.{Appends}
 use Rattle.std.specs.List.{AllByRecursion}
@@ -15,11 +15,7 @@ use Rattle.cfb_rules.specs.Refusal.{IsRefusal, Refusal, failed_earlier, file_ful
 use Rattle.cfb_rules.specs.Runs.{BlamesOneOf, Causes, IsStreamBroken, StreamCallRuns, StreamOnFailed, StreamRun, WorkMayBreak}
 use Rattle.cfb_rules.specs.StreamCalls.{Moves, ReadsOn, Refuses, Serves, StreamReply, StreamSetting, StreamState, StreamStep, got, not_done, read}
 use Rattle.cfb_lines.specs.Fields.{AddsHex, IsHex, hex_pair}
-use Rattle.cfb_stream_window.specs.Windows.{Runs}
-use Rattle.cfb_stream_buffer.specs.Contents.{stream_setting_of}
-use Rattle.cfb_tool.specs.cfb_agreement.Files.{is_failed}
-use Rattle.cfb_tool.specs.cfb_compound_file.StreamAnswers.{IsStreamRefusedBy, OpenStream, StreamRunsBy, run_in, stored_in, stream_in}
-use Rattle.cfb_tool.specs.Sending.{IsAtStart, IsSent, SendsDigits}
+use Rattle.cfb_tool.specs.Sending.{IsSent, SendsDigits}
 
 -- ---- text on its way
 
@@ -73,19 +69,19 @@ bytes_in (got bytes) = bytes
 bytes_in reply = []
 
 -- bytes were served from the position on
-record IsServed (old new : StreamState) (bytes : List ℕ) : Type 0 where
-  inside : old.position + length bytes ≤ length old.content
-  gives : bytes ≡ part old.content old.position (length bytes)
-  len : new.len ≡ old.len
-  content : new.content ≡ old.content
-  position : new.position ≡ old.position + length bytes
+pub record IsServed (old new : StreamState) (bytes : List ℕ) : Type 0 where
+  pub inside : old.position + length bytes ≤ length old.content
+  pub gives : bytes ≡ part old.content old.position (length bytes)
+  pub len : new.len ≡ old.len
+  pub content : new.content ≡ old.content
+  pub position : new.position ≡ old.position + length bytes
 
 part_length : (content : List ℕ) (at n : ℕ) → at + n ≤ length content → length (part content at n) ≡ n
-part_length content at n inside = simp (arith, inside)
+part_length content at n inside = length-take-le n (drop at content) (omega (arith, inside, length-drop at content))
 
 module _ (causes : Causes) (setting : StreamSetting) (old new : StreamRun) (wanted : ℕ) where
   -- a read that gives bytes
-  served : (bytes : List ℕ) → 0 < length bytes → old.failed ≡ false → StreamCallRuns causes setting old (read wanted) (got bytes) new
+  pub served : (bytes : List ℕ) → 0 < length bytes → old.failed ≡ false → StreamCallRuns causes setting old (read wanted) (got bytes) new
       → IsServed old.stream new.stream bytes × (new.failed ≡ false)
   served bytes some = go old.failed
     where
@@ -189,83 +185,69 @@ breaks invalid_data e is h = absurd h
 breaks not_sound e is h = absurd h
 breaks failed_earlier e is h = absurd h
 
--- ---- on a stream
-
-module _ (causes : Causes) (s next : OpenStream) (wanted : ℕ) where
-  pub read_served : (bytes : List ℕ) → 0 < length bytes → is_failed s.file ≡ false → StreamRunsBy causes s (read wanted) (got bytes) next
-      → IsServed (stream_in s) (stream_in next) bytes × (is_failed next.file ≡ false)
-  unfolding Runs
-  read_served bytes some unfailed runs = served causes (stream_setting_of (stored_in s)) (run_in s) (run_in next) wanted bytes some unfailed runs
-
--- a read that was refused, where no number is blamed
-module _ (medium : Type 0) (s next : OpenStream) (wanted : ℕ) where
-  abbrev calm : Causes
-  calm = record { medium = medium; full = ⊥ }
-
-  pub read_refused : (e : Error) → is_failed s.file ≡ false → IsStreamRefusedBy calm s (read wanted) next e
-      → (IsInvalidData e × (length (stream_in s).content ≤ (stream_in s).position)) ⊎ IsBreak ⊥ e
-  unfolding Runs
-  read_refused e unfailed (r, is, runs) = go (refused_so calm (stream_setting_of (stored_in s)) (run_in s) (run_in next) wanted r unfailed runs)
-    where
-      go : ((r ≡ invalid_data) × (length (stream_in s).content ≤ (stream_in s).position)) ⊎ BlamesOneOf ⊤ ⊤ ⊥ r
-          → (IsInvalidData e × (length (stream_in s).content ≤ (stream_in s).position)) ⊎ IsBreak ⊥ e
-      go (inl (x, y)) = inl (is ∙ ap refusal_number x, y)
-      go (inr h) = inr (breaks r e is h)
+-- a read that was refused before the end, where no number is blamed
+pub cut_or_broken : (medium : Type 0) (setting : StreamSetting) (old new : StreamRun) (wanted : ℕ) (r : Refusal) (e : Error) → old.failed ≡ false → IsRefusal r e
+    → StreamCallRuns (record { medium = medium; full = ⊥ }) setting old (read wanted) (not_done r) new
+    → (IsInvalidData e × (length old.stream.content ≤ old.stream.position)) ⊎ IsBreak ⊥ e
+cut_or_broken medium setting old new wanted r e unfailed is runs = go (refused_so (record { medium = medium; full = ⊥ }) setting old new wanted r unfailed runs)
+  where
+    go : ((r ≡ invalid_data) × (length old.stream.content ≤ old.stream.position)) ⊎ BlamesOneOf ⊤ ⊤ ⊥ r
+        → (IsInvalidData e × (length old.stream.content ≤ old.stream.position)) ⊎ IsBreak ⊥ e
+    go (inl (x, y)) = inl (is ∙ ap refusal_number x, y)
+    go (inr h) = inr (breaks r e is h)
 
 -- ---- along a stream
 
 -- so many bytes are left; those before were sent
-pub record SendsAlong (first s : OpenStream) (left : ℕ) (start now : Option (List ℕ)) (old new : List ℕ) : Type 0 where
+pub record SendsAlong (first : StreamState) (run : StreamRun) (left : ℕ) (start now : Option (List ℕ)) (old new : List ℕ) : Type 0 where
   pub done : List ℕ
-  pub unfailed : is_failed s.file ≡ false
-  pub len : (stream_in s).len ≡ (stream_in first).len
-  pub content : (stream_in s).content ≡ (stream_in first).content
-  pub position : (stream_in s).position ≡ length done
-  pub inside : length done ≤ length (stream_in first).content
-  pub taken : done ≡ take (length done) (stream_in first).content
-  pub rest : length done + left ≡ (stream_in first).len
+  pub unfailed : run.failed ≡ false
+  pub len : run.stream.len ≡ first.len
+  pub content : run.stream.content ≡ first.content
+  pub position : run.stream.position ≡ length done
+  pub inside : length done ≤ length first.content
+  pub taken : done ≡ take (length done) first.content
+  pub rest : length done + left ≡ first.len
   pub text : List ℕ
   pub digits : AddsHex old text done
   pub sent : IsSent start now text new
 
-pub begins_along : (s : OpenStream) (start : Option (List ℕ)) (old : List ℕ) → IsAtStart s → SendsAlong s s (stream_in s).len start start old old
-begins_along s start old fresh = record {
+pub begins_along : (run : StreamRun) (start : Option (List ℕ)) (old : List ℕ) → run.failed ≡ false → run.stream.position ≡ 0
+    → SendsAlong run.stream run run.stream.len start start old old
+begins_along run start old unfailed begins = record {
   done = [];
-  unfailed = fresh.unfailed;
+  unfailed = unfailed;
   len = refl;
   content = refl;
-  position = fresh.begins;
+  position = begins;
   inside = omega arith;
   taken = refl;
-  rest = refl;
+  rest = omega arith;
   text = old;
   digits = no_digits old;
   sent = nothing_sent start old;
 }
 
-module _ (first s next : OpenStream) (left wanted count : ℕ) (start now later : Option (List ℕ)) (old text middle new bytes : List ℕ) (along : SendsAlong first s left start now old text)
-    (some : 0 < count) (counted : length bytes ≡ count) (served_so : IsServed (stream_in s) (stream_in next) bytes × (is_failed next.file ≡ false)) where
-  some_bytes : 0 < length bytes
-  some_bytes = omega (arith, some, counted)
-
-  all_done : List ℕ
+module _ (first : StreamState) (run next : StreamRun) (left count : ℕ) (start now later : Option (List ℕ)) (old text middle new bytes : List ℕ)
+    (along : SendsAlong first run left start now old text) (counted : length bytes ≡ count) (served_so : IsServed run.stream next.stream bytes × (next.failed ≡ false)) where
+  abbrev all_done : List ℕ
   all_done = along.done ++ bytes
 
   done_length : length all_done ≡ length along.done + count
-  done_length = simp counted
+  done_length = length-append along.done bytes ∙ ap (λ (n : ℕ). length along.done + n) counted
 
-  lies_inside : length along.done + count ≤ length (stream_in first).content
+  lies_inside : length along.done + count ≤ length first.content
   lies_inside = omega (arith, served_so.0.inside, along.position, ap (length {A = ℕ}) along.content, counted)
 
-  pub piece_fits : length (stream_in first).content ≤ (stream_in first).len → count ≤ left
+  pub piece_fits : length first.content ≤ first.len → count ≤ left
   piece_fits readable = omega (arith, lies_inside, readable, along.rest)
 
-  piece_taken : bytes ≡ take count (drop (length along.done) (stream_in first).content)
+  piece_taken : bytes ≡ take count (drop (length along.done) first.content)
   piece_taken =
       served_so.0.gives
-      ∙ ap (part (stream_in s).content (stream_in s).position) counted
-      ∙ ap (λ (bs : List ℕ). part bs (stream_in s).position count) along.content
-      ∙ ap (λ (at : ℕ). part (stream_in first).content at count) along.position
+      ∙ ap (part run.stream.content run.stream.position) counted
+      ∙ ap (λ (bs : List ℕ). part bs run.stream.position count) along.content
+      ∙ ap (λ (at : ℕ). part first.content at count) along.position
 
   pub goes_along : (rest : ℕ) → rest + count ≡ left → AddsHex text middle bytes → IsSent now later middle new → SendsAlong first next rest start later old new
   goes_along rest is hex sent = record {
@@ -276,21 +258,21 @@ module _ (first s next : OpenStream) (left wanted count : ℕ) (start now later 
     position = omega (arith, served_so.0.position, along.position, done_length, counted);
     inside = omega (arith, lies_inside, done_length);
     taken = ap (λ (bs : List ℕ). bs ++ bytes) along.taken
-        ∙ ap (λ (bs : List ℕ). take (length along.done) (stream_in first).content ++ bs) piece_taken
-        ∙ sym (take-add (length along.done) count (stream_in first).content)
-        ∙ ap (λ (n : ℕ). take n (stream_in first).content) (sym done_length);
+        ∙ ap (λ (bs : List ℕ). take (length along.done) first.content ++ bs) piece_taken
+        ∙ sym (take-add (length along.done) count first.content)
+        ∙ ap (λ (n : ℕ). take n first.content) (sym done_length);
     rest = omega (arith, done_length, along.rest, is);
     text = along.text ++ hex.0;
     digits = digits_then old along.text (along.text ++ hex.0) along.done bytes along.digits (hex.0, refl, hex.2);
     sent = sent_on start now later along.text text hex.0 new along.sent (subst (λ (bs : List ℕ). IsSent now later bs new) hex.1 sent);
   }
 
-pub ends_along : (first s : OpenStream) (start now : Option (List ℕ)) (old new : List ℕ) → IsAtStart first → (left : ℕ) → left ≡ 0 → SendsAlong first s left start now old new
-    → SendsDigits (stream_in first) start now old new
-ends_along first s start now old new fresh left none along =
-    let count : length along.done ≡ (stream_in first).len = omega (arith, along.rest, none) in
-    let all : length (stream_in first).content ≤ length along.done = omega (arith, fresh.readable, count) in
-    let is : along.done ≡ (stream_in first).content = along.taken ∙ take_all (length along.done) (stream_in first).content all in
+pub ends_along : (first : StreamState) (run : StreamRun) (start now : Option (List ℕ)) (old new : List ℕ) → length first.content ≤ first.len → (left : ℕ) → left ≡ 0
+    → SendsAlong first run left start now old new → SendsDigits first start now old new
+ends_along first run start now old new readable left none along =
+    let count : length along.done ≡ first.len = omega (arith, along.rest, none) in
+    let all : length first.content ≤ length along.done = omega (arith, readable, count) in
+    let is : along.done ≡ first.content = along.taken ∙ take_all (length along.done) first.content all in
     record {
       whole = sym count ∙ ap (length {A = ℕ}) is;
       text = along.text;
@@ -299,8 +281,9 @@ ends_along first s start now old new fresh left none along =
     }
 
 -- a refusal on the way
-pub refused_along : (first s : OpenStream) (left : ℕ) (start now : Option (List ℕ)) (old new : List ℕ) (e : Error) → 0 < left → SendsAlong first s left start now old new
-    → (IsInvalidData e × (length (stream_in s).content ≤ (stream_in s).position)) ⊎ IsBreak ⊥ e → (IsInvalidData e × (length (stream_in first).content < (stream_in first).len)) ⊎ IsBreak ⊥ e
-refused_along first s left start now old new e some along (inr h) = inr h
-refused_along first s left start now old new e some along (inl (x, y)) =
+pub refused_along : (first : StreamState) (run : StreamRun) (left : ℕ) (start now : Option (List ℕ)) (old new : List ℕ) (e : Error) → 0 < left
+    → SendsAlong first run left start now old new
+    → (IsInvalidData e × (length run.stream.content ≤ run.stream.position)) ⊎ IsBreak ⊥ e → (IsInvalidData e × (length first.content < first.len)) ⊎ IsBreak ⊥ e
+refused_along first run left start now old new e some along (inr h) = inr h
+refused_along first run left start now old new e some along (inl (x, y)) =
     inl (x, omega (arith, y, some, along.position, ap (length {A = ℕ}) along.content, along.rest))

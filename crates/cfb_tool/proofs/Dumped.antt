@@ -22,7 +22,7 @@ use Rattle.cfb_rules.specs.Lists.{Command}
 use Rattle.cfb_rules.specs.Refusal.{failed_earlier}
 use Rattle.cfb_rules.specs.Runs.{BlamesOneOf, CallRuns, Causes, Closes, FollowsRules, IsBroken, OnFailed, opened_by_path}
 use Rattle.cfb_rules.specs.Steps.{kind_of}
-use Rattle.cfb_rules.specs.StreamCalls.{StreamState, opened}
+use Rattle.cfb_rules.specs.StreamCalls.{StreamState, got, opened, read}
 use Rattle.cfb_lines.specs.Lines.{comment}
 use Rattle.cfb_lines.specs.Writing.{AddsLines, IsHeadOf, Lacks, ended}
 use Rattle.cfb_lines.specs.declared.word.Word.TheVariants.{Put}
@@ -35,14 +35,15 @@ use Rattle.cfb_tool.specs.cfb_mini_sectors.State.{bytes_of, cases_of, root_len_o
 use Rattle.cfb_tool.specs.cfb_agreement.Files.{FileState, is_failed}
 use Rattle.cfb_tool.specs.cfb_path_changes.Answers.{Answers, MeansTree, RunsOn, causes_of_call, setting_of, state_with}
 use Rattle.cfb_tool.specs.cfb_compound_file.OpenedStreams.{BeginsAt, IsOpenedAt}
-use Rattle.cfb_tool.specs.cfb_compound_file.StreamAnswers.{OpenStream, closing_of, run_in, stored_in, stream_in}
-use Rattle.cfb_tool.specs.cfb_stream_window.Windows.{Suits, Window}
+use Rattle.cfb_tool.specs.cfb_compound_file.StreamAnswers.{IsStreamRefusedBy, OpenStream, StreamRunsBy, closing_of, run_in, stored_in, stream_in}
+use Rattle.cfb_tool.specs.cfb_stream_buffer.Contents.{stream_setting_of}
+use Rattle.cfb_tool.specs.cfb_stream_window.Windows.{Runs, Suits, Window}
 use Rattle.cfb_tool.specs.declared.dump_error.DumpError.{DumpError}
 use Rattle.cfb_tool.specs.declared.dump_error.DumpError.TheVariants.{File, Object as AtObject, Output}
 use Rattle.cfb_tool.specs.Content.{HasStream, HoldsStream, IsOnlyRead}
 use Rattle.cfb_tool.specs.Dumping.{BeginsDump, CanBeDumped, HoldsAs, HoldsContent, IsCutAt, IsDumped, IsNamedAs, IsPlacedAt, IsStreamRefused, IsUnreachedAt, SendsNoObject, SendsNoStream, SendsObject, TellsUnreached, can_be_dumped, comment_line, is_named_as}
 use Rattle.cfb_tool.specs.Sending.{IsAtStart, IsSent, SendsDigits, SendsNotAll}
-use Rattle.cfb_tool.proofs.Digits.{appends_then, nothing_sent, sent_on}
+use Rattle.cfb_tool.proofs.Digits.{IsServed, appends_then, cut_or_broken, nothing_sent, sent_on, served}
 use Rattle.cfb_tool.proofs.WholeReads.{opened_there, there_to_read}
 
 -- ---- what is told of the walk
@@ -161,6 +162,19 @@ module _ (file : FileState) (path : List ℕ) (s : OpenStream) (opened_at : IsOp
     not_sent (File e) (inr off) = inr (inr off)
     not_sent (AtObject e at) h = absurd h
     not_sent (Output e) h = tt
+
+-- ---- one read of it
+
+module _ (s next : OpenStream) (wanted : ℕ) where
+  pub read_served : (causes : Causes) (bytes : List ℕ) → 0 < length bytes → is_failed s.file ≡ false → StreamRunsBy causes s (read wanted) (got bytes) next
+      → IsServed (stream_in s) (stream_in next) bytes × (is_failed next.file ≡ false)
+  unfolding Runs
+  read_served causes bytes some unfailed runs = served causes (stream_setting_of (stored_in s)) (run_in s) (run_in next) wanted bytes some unfailed runs
+
+  pub read_refused : (medium : Type 0) (e : Error) → is_failed s.file ≡ false → IsStreamRefusedBy (record { medium = medium; full = ⊥ }) s (read wanted) next e
+      → (IsInvalidData e × (length (stream_in s).content ≤ (stream_in s).position)) ⊎ IsBreak ⊥ e
+  unfolding Runs
+  read_refused medium e unfailed (r, is, runs) = cut_or_broken medium (stream_setting_of (stored_in s)) (run_in s) (run_in next) wanted r e unfailed is runs
 
 -- closing is refused on a failed file alone
 pub closes_unfailed : {T : Type 0} (s : OpenStream) (later : Causes) → is_failed s.file ≡ false → (result : Result T Error) (e : Error) → result ≡ Err e → (failed : Bool)
