@@ -125,7 +125,7 @@ returns-clause-erased g c told validation h =
     let cut = c.cut_listed.new.self in
     let now = c.settle_freed-freed.new.directory in
     let of = c.settle_freed-freed.ensures in
-    let limit : table.limit ≡ cut.limit = sym (ap (λ (t : MiniTableState). t.limit) c.cut_listed.ensures.rest) in
+    let limit : table.limit ≡ cut.limit = sym (ap (λ (t : MiniTableState). t.limit) c.cut_listed.ensures.given_back.rest) in
     let held = subst (λ n. HoldsMiniBut [] validation (record a { max_mini_sectors = n })) limit (held-but validation a h) in
     let shown = shown-rest c.deref-6.result.now ids left c.deref-6.ensures.value in
     subst (λ (l : List ℕ). OnOk c.settle_freed-freed.result ((m : ℕ) → Contains l m → AreZeros now.table.file.bytes (mini_start directory.table.tables.version stream m)))
