@@ -220,11 +220,14 @@ object_refused old file path (AtObject e at) read h = (h.0, since h.1)
   where
     since : IsStreamRefused file path e → IsStreamRefused old path e
     since (inl (now, more, not)) = inl (now, read_on old file now read more, not)
-    since (inr (inl (is, less))) = inr (inl (is, record {
-      cut = λ tree means.
-          let t = less.cut tree (kept_means old file read tree means) in
-          (t.0, t.1, t.2, subst (λ (cases : Cases). object_at cases tree t.0 ≡ Some (a_stream t.1)) (ap (λ (f : FileState). cases_of f.base) read.kept) t.3, t.4);
-    }))
+    since (inr (inl (is, less))) = inr (inl (
+      is,
+      record {
+        cut = λ tree means.
+            let t = less.cut tree (kept_means old file read tree means) in
+            (t.0, t.1, t.2, subst (λ (cases : Cases). object_at cases tree t.0 ≡ Some (a_stream t.1)) (ap (λ (f : FileState). cases_of f.base) read.kept) t.3, t.4);
+      },
+    ))
     since (inr (inr off)) = inr (inr off)
 
 -- ---- one object after the other

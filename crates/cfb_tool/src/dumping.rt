@@ -54,11 +54,7 @@ fn check_reached<A: Heap + Clone>(alloc: &A, told: &[Entry<A>]) -> Result<(), Du
 }
 
 /// The error, where it is the file's, with the path of the object that it came at.
-fn at_object<A: Heap + Clone>(
-    alloc: &A,
-    error: DumpError<A>,
-    entry: &Entry<A>,
-) -> DumpError<A>
+fn at_object<A: Heap + Clone>(alloc: &A, error: DumpError<A>, entry: &Entry<A>) -> DumpError<A>
     ensures { IsPlacedAt entry.now.path error result }
 {
     match error {

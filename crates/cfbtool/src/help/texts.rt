@@ -67,8 +67,8 @@ Example: cfbtool dump a.cfb
 mkdir\t/docs\t0
 put\t/docs/note\t68656c6c6f0a
 
-Fails if FILE is no compound file, no path leads to a storage or stream, or a
-stream cannot be read whole: what stands before it is printed.
+Fails if FILE is no compound file, no PATH leads to a storage or stream, or a
+stream cannot be read whole (some lines may be printed then).
 ";
 
 pub(super) const CREATE: &str = "cfbtool create 3|4 FILE

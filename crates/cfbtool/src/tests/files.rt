@@ -37,7 +37,8 @@ const REASONS: &[Run<'static>] = &[
     (&["compact", "@g", "@no/such"], b"", 1, b"", b"cfbtool: medium failed: @no/such: No such file or directory (os error 2)\n"),
 ];
 
-const TOO_SHORT: &[u8] = b"cfbtool: /dev/zero: too short for a compound file: 0 bytes, a header has 512\n";
+const TOO_SHORT: &[u8] =
+    b"cfbtool: /dev/zero: too short for a compound file: 0 bytes, a header has 512\n";
 
 const EMPTY: &[u8] = b"cfbtool: @f: too short for a compound file: 0 bytes, a header has 512\n";
 
