@@ -81,21 +81,6 @@ not_read a = record { kept = refl }
 
 -- ---- one object
 
--- the name of the root is none, and any other is looked at
-named_as : (kind : ObjType) (info : EntryInfo) → is_named_as kind info ≡ true → IsNamedAs kind info
-named_as Root info h = tt
-named_as Unallocated info h = named_so info.name h
-named_as Storage info h = named_so info.name h
-named_as Stream info h = named_so info.name h
-
-pub reached_so : (info : EntryInfo) → can_be_dumped info ≡ true → CanBeDumped info
-reached_so info h =
-    let two = both (is_named_as info.obj_type info) (not (list_any (λ c. c == 92) info.path)) h in
-    record {
-      named = named_as info.obj_type info two.0;
-      path = lacks_backslash info.path (not_true (list_any (λ c. c == 92) info.path) two.1);
-    }
-
 pub stream_holds : (kind : ObjType) (file : FileState) (info : EntryInfo) (content : List ℕ) → HoldsStream file info.path content → HoldsAs kind file info content
 stream_holds Unallocated file info content h = tt
 stream_holds Storage file info content h = tt

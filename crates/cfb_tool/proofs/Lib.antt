@@ -13,5 +13,6 @@ pub mod WholeWrites
 pub mod WholePuts
 pub mod WholeReads
 pub mod Digits
+pub mod Reached
 pub mod Dumped
 pub mod Rebuilt
