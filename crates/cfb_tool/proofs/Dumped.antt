@@ -2,17 +2,17 @@
 use Rattle.std.proofs.Common.{◌≡◌, ◌∙◌, ◌<◌, ◌≤◌, ◌+◌, ◌^◌, ℕ, arith, Bool, true, false, List, [], ◌∷◌, ◌++◌, ap, append-nil, append_assoc, chars, flat_map, length, refl, string_bytes, subst, sym, inl, inr}
 use Rattle.std.specs.Io.KnownBytes.{Appends}
 use Rattle.std.specs.List.{All, Contains, list_any}
-use Rattle.std.specs.Prelude.{Err, Option, Result, Some, None, ◌⊎◌, ◌&&◌, ◌==◌, MatchBool, ⊤, codes, not}
+use Rattle.std.specs.Prelude.{Err, IsTrue, Option, Result, Some, None, ◌⊎◌, ◌&&◌, ◌==◌, MatchBool, ⊤, codes, not}
 use Rattle.std.specs.Fmt.{decimal}
 use Rattle.cfb_format.specs.declared.error.Error.{Error}
-use Rattle.cfb_format.specs.declared.error.Error.TheVariants.{Failed}
+use Rattle.cfb_format.specs.declared.error.Error.TheVariants.{Memory}
 use Rattle.cfb_format.specs.declared.objtype.ObjType.{ObjType}
 use Rattle.cfb_format.specs.declared.objtype.ObjType.TheVariants.{Unallocated, Storage, Stream, Root}
 use Rattle.cfb_format.specs.Bytes.{version_number}
 use Rattle.cfb_format.specs.Meaning.{Means}
 use Rattle.cfb_format.specs.Names.{Cases}
 use Rattle.cfb_format.specs.Path.{names_of_path}
-use Rattle.cfb_format.specs.Refused.{IsBreak, IsInvalidData}
+use Rattle.cfb_format.specs.Refused.{HasReason, IsBreak, IsInvalidData, IsMemory, no_error}
 use Rattle.cfb_format.specs.Tree.{StreamInfo, Tree, Object, a_stream}
 use Rattle.cfb_format.proofs.Ordered.{Means-IsOrdered}
 use Rattle.cfb_rules.specs.Calls.{EntryInfo, Reply, done, entries, open_read_stream, refused, walk}
@@ -22,7 +22,7 @@ use Rattle.cfb_rules.specs.Lists.{Command}
 use Rattle.cfb_rules.specs.Refusal.{failed_earlier}
 use Rattle.cfb_rules.specs.Runs.{BlamesOneOf, CallRuns, Causes, Closes, FollowsRules, IsBroken, OnFailed, opened_by_path}
 use Rattle.cfb_rules.specs.Steps.{kind_of}
-use Rattle.cfb_rules.specs.StreamCalls.{StreamState, got, opened, read}
+use Rattle.cfb_rules.specs.StreamCalls.{StreamState, got, opened, read as reading}
 use Rattle.cfb_lines.specs.Lines.{comment}
 use Rattle.cfb_lines.specs.Writing.{AddsLines, IsHeadOf, Lacks, ended}
 use Rattle.cfb_lines.specs.declared.word.Word.TheVariants.{Put}
@@ -41,8 +41,8 @@ use Rattle.cfb_tool.specs.cfb_stream_window.Windows.{Runs, Suits, Window}
 use Rattle.cfb_tool.specs.declared.dump_error.DumpError.{DumpError}
 use Rattle.cfb_tool.specs.declared.dump_error.DumpError.TheVariants.{File, Object as AtObject, Output}
 use Rattle.cfb_tool.specs.Content.{HasStream, HoldsStream, IsOnlyRead}
-use Rattle.cfb_tool.specs.Dumping.{BeginsDump, CanBeDumped, HoldsAs, HoldsContent, IsCutAt, IsDumped, IsNamedAs, IsPlacedAt, IsStreamRefused, IsUnreachedAt, SendsNoObject, SendsNoStream, SendsObject, TellsUnreached, can_be_dumped, comment_line, is_named_as}
-use Rattle.cfb_tool.specs.Sending.{IsAtStart, IsSent, SendsDigits, SendsNotAll}
+use Rattle.cfb_tool.specs.Dumping.{BeginsDump, CanBeDumped, HoldsAs, HoldsContent, IsCutAt, IsDumped, IsNamedAs, IsNotDumped, IsPlacedAt, NamesUnreached, IsStreamRefused, IsUnreachedAt, SendsNoObject, SendsNoStream, SendsObject, TellsUnreached, can_be_dumped, comment_line, is_named_as}
+use Rattle.cfb_tool.specs.Sending.{IsAtStart, IsOfOutput, IsSent, SendsDigits, SendsNotAll}
 use Rattle.cfb_tool.proofs.Digits.{IsServed, appends_then, cut_or_broken, nothing_sent, sent_on, served}
 use Rattle.cfb_tool.proofs.WholeReads.{opened_there, there_to_read}
 
@@ -109,7 +109,7 @@ module _ (file : FileState) (path : List ℕ) (s : OpenStream) (opened_at : IsOp
 
   module _ (begins : BeginsAt file path s) (answers : Answers file (open_read_stream path) done) where
     -- the stream that stands there is the one that was opened
-    Stands : (tree : Tree) → Type 0
+    abbrev Stands : (tree : Tree) → Type 0
     Stands tree = (names : List (List ℕ)) × (info : StreamInfo) × (names_of_path path ≡ Some names) × (object_at (cases_of file.base) tree names ≡ Some (a_stream info))
         × (stream_in s ≡ opened info.len info.content)
 
@@ -151,12 +151,12 @@ module _ (file : FileState) (path : List ℕ) (s : OpenStream) (opened_at : IsOp
 -- ---- one read of it
 
 module _ (s next : OpenStream) (wanted : ℕ) where
-  pub read_served : (causes : Causes) (bytes : List ℕ) → 0 < length bytes → is_failed s.file ≡ false → StreamRunsBy causes s (read wanted) (got bytes) next
+  pub read_served : (causes : Causes) (bytes : List ℕ) → 0 < length bytes → is_failed s.file ≡ false → StreamRunsBy causes s (reading wanted) (got bytes) next
       → IsServed (stream_in s) (stream_in next) bytes × (is_failed next.file ≡ false)
   unfolding Runs
   read_served causes bytes some unfailed runs = served causes (stream_setting_of (stored_in s)) (run_in s) (run_in next) wanted bytes some unfailed runs
 
-  pub read_refused : (medium : Type 0) (e : Error) → is_failed s.file ≡ false → IsStreamRefusedBy (record { medium = medium; full = ⊥ }) s (read wanted) next e
+  pub read_refused : (medium : Type 0) (e : Error) → is_failed s.file ≡ false → IsStreamRefusedBy (record { medium = medium; full = ⊥ }) s (reading wanted) next e
       → (IsInvalidData e × (length (stream_in s).content ≤ (stream_in s).position)) ⊎ IsBreak ⊥ e
   unfolding Runs
   read_refused medium e unfailed (r, is, runs) = cut_or_broken medium (stream_setting_of (stored_in s)) (run_in s) (run_in next) wanted r e unfailed is runs
@@ -195,7 +195,36 @@ stream_refused file path (File e) (Output placed) h is = tt
 stream_refused file path (AtObject e at) placed h is = absurd h
 stream_refused file path (Output e) placed h is = subst (SendsNoObject file path) (sym is) tt
 
+-- the writer refused
+pub output_alone : {A : Type 0} (file : FileState) (path : List ℕ) (e : DumpError A) → IsOfOutput e → SendsNoObject file path e
+output_alone file path (File e) h = absurd h
+output_alone file path (AtObject e at) h = absurd h
+output_alone file path (Output e) h = tt
+
+pub output_of_stream : {A : Type 0} (file : FileState) (path : List ℕ) (e : DumpError A) → IsOfOutput e → SendsNoStream file path e
+output_of_stream file path (File e) h = absurd h
+output_of_stream file path (AtObject e at) h = absurd h
+output_of_stream file path (Output e) h = tt
+
 -- ---- refusals of all
+
+-- want of memory is one of both
+memory_of : (P : Type 0) (e : Error) → IsMemory e → HasReason (record no_error { failed = P; memory = ⊤ }) e
+memory_of P e h = subst (HasReason (record no_error { failed = P; memory = ⊤ })) (sym h) tt
+
+pub memory_alone : {A : Type 0} (file : FileState) (e : Error) → IsMemory e → IsNotDumped {A = A} file (File e)
+memory_alone file e h = memory_of (is_failed file ≡ true) e h
+
+-- an object was refused
+pub object_not_dumped : {A : Type 0} (file : FileState) (path : List ℕ) (e : DumpError A) → SendsNoObject file path e → IsNotDumped file e
+object_not_dumped file path (File e) h = memory_of (is_failed file ≡ true) e h
+object_not_dumped file path (AtObject e at) h = inr (subst (λ (p : List ℕ). IsStreamRefused file p e) (sym h.0) h.1)
+object_not_dumped file path (Output e) h = tt
+
+pub output_not_dumped : {A : Type 0} (file : FileState) (e : DumpError A) → IsOfOutput e → IsNotDumped file e
+output_not_dumped file (File e) h = absurd h
+output_not_dumped file (AtObject e at) h = absurd h
+output_not_dumped file (Output e) h = tt
 
 -- a refusal at one object, of a file that was only read so far
 pub object_refused : {A : Type 0} (old file : FileState) (path : List ℕ) (e : DumpError A) → IsOnlyRead old file → SendsNoObject file path e → SendsNoObject old path e
@@ -204,7 +233,7 @@ object_refused old file path (Output e) read h = tt
 object_refused old file path (AtObject e at) read h = (h.0, since h.1)
   where
     since : IsStreamRefused file path e → IsStreamRefused old path e
-    since (inl (now, more, not)) = inl (now, read_on old file now read more, not)
+    since (inl (now, more, answers)) = inl (now, read_on old file now read more, answers)
     since (inr (inl (is, less))) = inr (inl (
       is,
       record {
@@ -311,8 +340,14 @@ all_dumped old file told version front start now later left fits is begins dumpe
           (subst (λ (t : List ℕ). AddsLines t dumped.text commands) (begins ∙ ends.0) lines);
     }
 
--- an object of the walk to which no path leads
-pub unreached_at : (file : FileState) (told : List EntryInfo) (path : List ℕ) → Answers file walk (entries told) → is_failed file ≡ false → TellsUnreached told path → IsUnreachedAt file path
+-- ---- objects to which no path leads
+unreached_at : (file : FileState) (told : List EntryInfo) (path : List ℕ) → Answers file walk (entries told) → is_failed file ≡ false → TellsUnreached told path → IsUnreachedAt file path
 unreached_at file told path answers unfailed tells = record {
   stands = λ tree means. subst (λ (list : List EntryInfo). TellsUnreached list path) (walk_told file told answers unfailed tree means) tells;
 }
+
+pub unreached_not_dumped : {A : Type 0} (file : FileState) (told : List EntryInfo) (e : DumpError A) → Answers file walk (entries told) → is_failed file ≡ false → NamesUnreached told e
+    → IsNotDumped file e
+unreached_not_dumped file told (File e) answers unfailed h = memory_of (is_failed file ≡ true) e h
+unreached_not_dumped file told (AtObject e at) answers unfailed h = inl (h.0, unreached_at file told _ answers unfailed h.1)
+unreached_not_dumped file told (Output e) answers unfailed h = absurd h

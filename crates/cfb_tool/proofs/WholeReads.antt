@@ -99,7 +99,7 @@ module _ (causes : Causes) (setting : Setting) (old new : TreeState) (path : Lis
       go false (inl follows) = named (names_of_path path) refl (done_step setting.cases setting.stream.sound old.root_len old.tree new.tree (open_read_stream path) follows.step).0
       go false (inr ((r, may, is, rules), off)) = absurd (refused_not_done r is)
 
-opened_there : (cases : Cases) (tree : Tree) (path : List ℕ) (names : List (List ℕ)) (info : StreamInfo) → names_of_path path ≡ Some names → object_at cases tree names ≡ Some (a_stream info)
+pub opened_there : (cases : Cases) (tree : Tree) (path : List ℕ) (names : List (List ℕ)) (info : StreamInfo) → names_of_path path ≡ Some names → object_at cases tree names ≡ Some (a_stream info)
     → opened_by_path cases tree path ≡ opened info.len info.content
 opened_there cases tree path names info named there =
     ap (λ (o : Option Object). opened (stream_fields (unwrap_or o (a_stream new_stream))).len (stream_fields (unwrap_or o (a_stream new_stream))).content)

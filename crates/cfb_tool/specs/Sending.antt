@@ -1,5 +1,5 @@
 -- Text on its way to a writer, which gets it in pieces.
-use Rattle.std.specs.Prelude.{ℕ, ◌≡◌, ◌<◌, ◌≤◌, ◌⊎◌, List, ◌++◌, Option, length, ⊤}
+use Rattle.std.specs.Prelude.{ℕ, ◌≡◌, ◌<◌, ◌≤◌, ◌⊎◌, List, ◌++◌, Option, false, length, ⊤}
 use Rattle.std.specs.Io.KnownBytes.{Appends}
 use Rattle.cfb_format.specs.Refused.{IsBreak, IsInvalidData}
 use Rattle.cfb_rules.specs.StreamCalls.{StreamState}

@@ -150,7 +150,8 @@ fn dump_stream<F: ReadMedium, A: Heap + Clone, W: Write>(
     written?;
     closed?;
     push_stream_end(alloc, text, entry)?;
-    send_long(text, out)
+    send_long(text, out)?;
+    Ok(())
 }
 
 /// Writes the lines that make an object behind the text.
@@ -175,7 +176,8 @@ fn dump_object<F: ReadMedium, A: Heap + Clone, W: Write>(
         };
     }
     push_object(alloc, text, entry)?;
-    send_long(text, out)
+    send_long(text, out)?;
+    Ok(())
 }
 
 /// The comment that a dump begins with.
@@ -217,5 +219,6 @@ pub fn dump<F: ReadMedium, A: Heap + Clone, W: Write>(
     for entry in &told {
         dump_object(alloc, file, entry, &mut piece, &mut text, out)?;
     }
-    send(&mut text, out)
+    send(&mut text, out)?;
+    Ok(())
 }

@@ -1,0 +1,46 @@
+use Rattle.std.proofs.Common.{ℕ, ◌∙◌, ◌<◌, ◌≤◌, ◌≡◌, ◌^◌, ◌+◌, ◌++◌, ◌∷◌, [], List, ap, arith, length, string_bytes, subst, sym, take}
+use Rattle.std.proofs.lemmas.List.{take_all, take_more}
+use Rattle.cfb_rules.specs.Calls.{EntryInfo}
+use Rattle.cfb_tool.specs.Dumping.{CanBeDumped}
+use Rattle.cfb_tool.specs.Sending.{IsSent}
+use Rattle.cfb_tool.proofs.Dumped.{IsDumpedUpTo, all_dumped, memory_alone, none_dumped, object_not_dumped, object_refused, one_dumped, output_not_dumped, read_on, unreached_not_dumped}
+use Rattle.cfb_tool.proofs.dumping.dump.Goals as goal
+
+pub loop-entry-init : goal.loop-entry-init
+loop-entry-init g c = λ told. none_dumped c.args.file.now (string_bytes c.in_ok-text.text) (g.W.Write.contents c.args.out.now)
+
+pub dump_object-requires-clause-path : goal.dump_object-requires-clause-path
+dump_object-requires-clause-path g c =
+    let items = c.in_ok-told.told.items in
+    let entry = c.entry-item.result in
+    let i = c.loop-entry.entry-index in
+    let inside : i < length items = omega arith in
+    (subst CanBeDumped (sym c.entry-item.is) (c.in_ok-check_reached.ensures.all i entry inside)).path
+
+pub loop-entry-preserved : goal.loop-entry-preserved
+loop-entry-preserved g c = λ told.
+    let items = c.in_ok-told.told.items in
+    let entry = c.entry-item.result in
+    let i = c.loop-entry.entry-index in
+    let inside : i < length items = omega arith in
+    let more : take (i + 1) items ≡ take i items ++ entry ∷ [] = take_more items i entry inside ∙ ap (λ (e : EntryInfo). take i items ++ e ∷ []) (sym c.entry-item.is) in
+    let can : CanBeDumped entry = subst CanBeDumped (sym c.entry-item.is) (c.in_ok-check_reached.ensures.all i entry inside) in
+    let front = string_bytes c.in_ok-text.text in
+    let start = g.W.Write.contents c.args.out.now in
+    subst (λ (list : List EntryInfo). IsDumpedUpTo c.args.file.now c.dump_object.new.file list front start (g.W.Write.contents c.dump_object.new.out) (string_bytes c.dump_object.new.text)) (sym more)
+    (one_dumped c.args.file.now c.loop-entry.file c.dump_object.new.file (take i items) front start (g.W.Write.contents c.loop-entry.out) (g.W.Write.contents c.dump_object.new.out)
+    (string_bytes c.loop-entry.text) (string_bytes c.dump_object.new.text) entry (c.loop-entry.invariant told) can (c.in_ok-dump_object.ensures.sent told) (c.in_ok-dump_object.ensures.kept told))
+
+pub returns-clause-dumped : goal.returns-clause-dumped
+returns-clause-dumped g c = λ told.
+    let items = c.in_ok-told.told.items in
+    let past : length items ≤ c.loop-entry.entry-index = omega arith in
+    let fits : c.number.result < 2 ^ 64 = omega arith in
+    let front = string_bytes c.in_ok-text.text in
+    let start = g.W.Write.contents c.args.out.now in
+    all_dumped c.args.file.now c.loop-entry.file items c.number.result front start (g.W.Write.contents c.loop-entry.out) (g.W.Write.contents c.send.new.out) (string_bytes c.loop-entry.text)
+    fits (cc (c.number.ensures, c.version.ensures)) c.in_ok-text.ensures
+    (subst (λ (list : List EntryInfo). IsDumpedUpTo c.args.file.now c.loop-entry.file list front start (g.W.Write.contents c.loop-entry.out) (string_bytes c.loop-entry.text))
+    (take_all c.loop-entry.entry-index items past) (c.loop-entry.invariant told))
+    (c.in_ok-told.ensures.told told) (sym c.is_failed.ensures ∙ c.if-is_failed.false)
+    (subst (λ (t : List ℕ). IsSent (g.W.Write.contents c.loop-entry.out) (g.W.Write.contents c.send.new.out) (string_bytes c.loop-entry.text) t) c.in_ok-send.ensures.all c.in_ok-send.ensures.sent)

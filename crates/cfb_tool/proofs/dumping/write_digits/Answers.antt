@@ -1,0 +1,45 @@
+use Rattle.std.proofs.Common.{◌≡◌, ◌∙◌, ◌+◌, ◌-◌, ◌<◌, ◌≤◌, ℕ, List, ap, arith, length, refl, string_bytes, subst, sym, take}
+use Rattle.std.proofs.lemmas.List.{length-take-le}
+use Rattle.cfb_lines.specs.Fields.{AddsHex}
+use Rattle.cfb_tool.specs.cfb_compound_file.ReadStreams.{open_of}
+use Rattle.cfb_tool.specs.cfb_compound_file.StreamAnswers.{causes_of_reading, run_in, stream_in}
+use Rattle.cfb_tool.proofs.Digits.{SendsAlong, begins_along, ends_along, goes_along, piece_fits, refused_along}
+use Rattle.cfb_tool.proofs.Dumped.{read_refused, read_served}
+use Rattle.cfb_tool.proofs.dumping.write_digits.Goals as goal
+
+pub loop-left-init : goal.loop-left-init
+loop-left-init g c = record {
+  same_file = refl;
+  kept = λ told. refl;
+  along = λ told fresh.
+      let run = run_in (open_of c.args.stream.now) in
+      let start = g.W.Write.contents c.args.out.now in
+      let old = string_bytes c.args.text.now in
+      subst (λ (left : ℕ). SendsAlong run.stream run left start start old old) (sym c.len.ensures.value) (begins_along run start old fresh.unfailed fresh.begins);
+}
+
+pub loop-left-preserved : goal.loop-left-preserved
+loop-left-preserved g c =
+    let i = c.loop-left.invariant in
+    let first = open_of c.args.stream.now in
+    let now = open_of c.loop-left.stream in
+    let next = open_of c.read.new.self in
+    let count = c.in_ok-count.count in
+    let bytes = take count c.read.new.into in
+    let counted : length bytes ≡ count = length-take-le count c.read.new.into c.in_ok-count.ensures.most in
+    let some : 0 < length bytes = omega (arith, counted, c.if-count-left.false) in
+    let rest : (c.loop-left.left - count) + count ≡ c.loop-left.left = omega (arith, c.if-count-left.false) in
+    record {
+      same_file = c.read.ensures.same_file ∙ i.same_file;
+      kept = λ told. c.read.ensures.kept told ∙ i.kept told;
+      along = λ told fresh.
+          goes_along (stream_in first) (run_in now) (run_in next) c.loop-left.left count (g.W.Write.contents c.args.out.now) (g.W.Write.contents c.loop-left.out) (g.W.Write.contents c.send_long.new.out)
+          (string_bytes c.args.text.now) (string_bytes c.loop-left.text) (string_bytes c.push_hex.new.text) (string_bytes c.send_long.new.text) bytes (i.along told fresh) counted
+          (read_served now next _ _ bytes some (i.along told fresh).unfailed (c.in_ok-count.ensures.runs told)) (c.loop-left.left - count) rest
+          (subst (λ (bs : List ℕ). AddsHex (string_bytes c.loop-left.text) (string_bytes c.push_hex.new.text) bs) c.index.ensures c.in_ok-push_hex.ensures) c.in_ok-send_long.ensures.sent;
+    }
+
+pub returns-clause-sent : goal.returns-clause-sent
+returns-clause-sent g c = λ told fresh.
+    let none : c.loop-left.left ≡ 0 = omega (arith, c.loop-left-test.false) in
+    ends_along (stream_in (open_of c.args.stream.now)) (run_in (open_of c.loop-left.stream)) _ _ _ _ fresh.readable c.loop-left.left none (c.loop-left.invariant.along told fresh)
