@@ -280,7 +280,7 @@ none_dumped old front start = record { read = not_read old; text = front; sent =
 lines_behind : (front left text : List ℕ) (commands : List Command) → AddsLines left text commands → AddsLines (front ++ left) (front ++ text) commands
 lines_behind front left text commands adds = record {
   lines = adds.lines;
-  text = ap (λ (bs : List ℕ). front ++ bs) adds.text ∙ sym (append_assoc front left _);
+  text = ap (λ (bs : List ℕ). front ++ bs) adds.text ∙ sym (append_assoc front left (flat_map ended adds.lines));
   whole = adds.whole;
   each = adds.each;
 }

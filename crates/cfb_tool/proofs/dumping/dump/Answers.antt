@@ -1,5 +1,6 @@
 use Rattle.std.proofs.Common.{ℕ, ◌∙◌, ◌<◌, ◌≤◌, ◌≡◌, ◌^◌, ◌+◌, ◌++◌, ◌∷◌, [], List, ap, arith, length, string_bytes, subst, sym, take}
 use Rattle.std.proofs.lemmas.List.{take_all, take_more}
+use Rattle.std.proofs.lemmas.Result.{err_from_is_err_and}
 use Rattle.cfb_rules.specs.Calls.{EntryInfo}
 use Rattle.cfb_tool.specs.Dumping.{CanBeDumped}
 use Rattle.cfb_tool.specs.Sending.{IsSent}
@@ -44,3 +45,32 @@ returns-clause-dumped g c = λ told.
     (take_all c.loop-entry.entry-index items past) (c.loop-entry.invariant told))
     (c.in_ok-told.ensures.told told) (sym c.is_failed.ensures ∙ c.if-is_failed.false)
     (subst (λ (t : List ℕ). IsSent (g.W.Write.contents c.loop-entry.out) (g.W.Write.contents c.send.new.out) (string_bytes c.loop-entry.text) t) c.in_ok-send.ensures.all c.in_ok-send.ensures.sent)
+
+pub returns-in_err-dump_object-clause-refused : goal.returns-in_err-dump_object-clause-refused
+returns-in_err-dump_object-clause-refused g c =
+    let p = err_from_is_err_and c.from_residual-in_err-dump_object.result c.from_residual-in_err-dump_object.ensures.1 in
+    let e = c.in_err-dump_object.field-0.0 in
+    let path = c.entry-item.result.path in
+    rw (p.1, p.2) (λ told.
+    object_not_dumped c.args.file.now path e (object_refused c.args.file.now c.loop-entry.file path e (c.loop-entry.invariant told).read (c.in_err-dump_object.ensures.refused told)))
+
+pub returns-in_err-dump_object-clause-kept : goal.returns-in_err-dump_object-clause-kept
+returns-in_err-dump_object-clause-kept g c = λ told.
+    read_on c.args.file.now c.loop-entry.file c.dump_object.new.file (c.loop-entry.invariant told).read (c.in_err-dump_object.ensures.kept told)
+
+pub returns-clause-kept : goal.returns-clause-kept
+returns-clause-kept g c = λ told. (c.loop-entry.invariant told).read
+
+pub returns-in_err-send-clause-kept : goal.returns-in_err-send-clause-kept
+returns-in_err-send-clause-kept g c = λ told. (c.loop-entry.invariant told).read
+
+pub returns-in_err-send-clause-refused : goal.returns-in_err-send-clause-refused
+returns-in_err-send-clause-refused g c =
+    let p = err_from_is_err_and c.from_residual-in_err-send.result c.from_residual-in_err-send.ensures.1 in
+    rw (p.1, p.2) (λ told. output_not_dumped c.args.file.now c.in_err-send.field-0.0 c.in_err-send.ensures.refused)
+
+pub returns-in_err-check_reached-clause-refused : goal.returns-in_err-check_reached-clause-refused
+returns-in_err-check_reached-clause-refused g c =
+    let p = err_from_is_err_and c.from_residual-in_err-check_reached.result c.from_residual-in_err-check_reached.ensures.1 in
+    rw (p.1, p.2) (λ told. unreached_not_dumped c.args.file.now c.in_ok-told.told.items c.in_err-check_reached.field-0.0 (c.in_ok-told.ensures.told told) (sym c.is_failed.ensures ∙ c.if-is_failed.false)
+    c.in_err-check_reached.ensures.refused)

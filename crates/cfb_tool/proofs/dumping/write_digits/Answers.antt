@@ -43,3 +43,16 @@ pub returns-clause-sent : goal.returns-clause-sent
 returns-clause-sent g c = λ told fresh.
     let none : c.loop-left.left ≡ 0 = omega (arith, c.loop-left-test.false) in
     ends_along (stream_in (open_of c.args.stream.now)) (run_in (open_of c.loop-left.stream)) _ _ _ _ fresh.readable c.loop-left.left none (c.loop-left.invariant.along told fresh)
+
+pub returns-in_err-count-clause-refused : goal.returns-in_err-count-clause-refused
+returns-in_err-count-clause-refused g c =
+    let p = err_from_is_err_and c.from_residual.result c.from_residual.ensures.1 in
+    let first = open_of c.args.stream.now in
+    let now = open_of c.loop-left.stream in
+    let next = open_of c.read.new.self in
+    let e = c.in_err-count.field-0.0 in
+    let some : 0 < c.loop-left.left = omega (arith, c.loop-left-test.true) in
+    rw (p.1, p.2) (λ told fresh.
+    let along = c.loop-left.invariant.along told fresh in
+    refused_along (stream_in first) (run_in now) c.loop-left.left _ _ _ _ e some along
+    (read_refused now next _ (causes_of_reading now.file next.file).medium e along.unfailed (c.in_err-count.ensures.refused told).rules))
