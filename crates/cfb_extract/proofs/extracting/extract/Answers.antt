@@ -1,7 +1,7 @@
 use Rattle.std.proofs.Common.{◌≡◌, ◌≢◌, ◌<◌, inl, inr, false, refl, sym, ◌∙◌, ap, subst, arith, length}
 use Rattle.std.specs.Prelude.{chars}
 use Rattle.std.proofs.lemmas.List.{length-map}
-use Rattle.std.proofs.lemmas.Result.{err_from_is_err_and, on_ok_weaker}
+use Rattle.std.proofs.lemmas.Result.{IfErr-weaker, err_from_is_err_and, on_ok_weaker}
 use Rattle.cfb_codecs.specs.EntryModel.{entry_of}
 use Rattle.cfb_format.specs.declared.objtype.ObjType.TheVariants.{Stream}
 use Rattle.cfb_format.specs.DirectoryEntry.{Entry}
@@ -72,3 +72,13 @@ returns-clause-cuts g c = λ told.
     (all-cuts c.args.file.now (chars c.args.path.now) c.in_ok-number.number c.in_ok-number.ensures.found (c.is_failed.ensures.agrees told) unfailed kind c.in_ok-list.list.items
     (λ cases inside has. c.in_ok-list.ensures.ok cases inside (rw c.entries-2.ensures.entries has)) _ _)
     (rw c.as_slice.ensures.value at (c.put_all.ensures.cuts (told, unfailed)))
+
+pub returns-clause-refused : goal.returns-clause-refused
+returns-clause-refused g c = λ told.
+    let unfailed : is_failed c.args.file.now ≡ false = sym c.is_failed.ensures.value ∙ c.if-is_failed.false in
+    IfErr-weaker c.put_all.result _ _ (λ e broken. inr broken) (c.put_all.ensures.refused (told, unfailed))
+
+pub returns-clause-same : goal.returns-clause-same
+returns-clause-same g c = λ told.
+    let unfailed : is_failed c.args.file.now ≡ false = sym c.is_failed.ensures.value ∙ c.if-is_failed.false in
+    c.put_all.ensures.kept.kept (told, unfailed)
