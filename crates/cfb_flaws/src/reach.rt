@@ -9,7 +9,6 @@ ghost use Rattle.cfb_format.specs.Names.{Cases};
 ghost use Rattle.cfb_format.specs.Reading.{Reading, Reads};
 ghost use Rattle.cfb_format.specs.Siblings.{entry_at};
 ghost use Rattle.cfb_format.specs.Soundness.{streams};
-ghost use Rattle.cfb_flaws.specs.declared.owner.Table.TheVariants.{Minifat};
 ghost use Rattle.cfb_flaws.specs.Claims.{words_in};
 ghost use Rattle.cfb_flaws.specs.Flaws.{AreWholeIn, IsWholeIn, on_whole};
 ghost use Rattle.cfb_flaws.specs.Reach.{Filled, KnowsReach, capped, len_in, reach_of, start_in_file};
@@ -23,7 +22,6 @@ use crate::owners::words_of;
 use crate::starts::lies_in;
 use cfb_format::consts::{END_OF_CHAIN, MINI_SECTOR_LEN};
 use cfb_format::error::Error;
-use cfb_format::version::Version;
 use std::alloc::Allocator;
 
 /// Tells each stream in that table of which not all can be read. `Memory`.
@@ -231,22 +229,17 @@ fn len_in<A: Allocator>(known: &Known<'_, '_, A>, table: Table) -> u64
 fn start_in_file<A: Allocator>(known: &Known<'_, '_, A>, table: Table, number: u32) -> u64
     ensures { result ≡ start_in_file known.now.parts.now.version known.now.parts.now.len known.now.root.items table number }
 {
-    let parts = known.parts;
+    let sector_len = known.parts.version.sector_len() as u64;
     match table {
-        Table::Fat => (number as u64 + 1) * parts.version.sector_len() as u64,
-        Table::Minifat => mini_start(parts.version, parts.len, root_in(known), number),
+        Table::Fat => (number as u64 + 1) * sector_len,
+        Table::Minifat => {
+            let at = MINI_SECTOR_LEN as u64 * number as u64;
+            let i = (at / sector_len) as usize;
+            let root = root_in(known);
+            if i >= root.len() {
+                return known.parts.len;
+            }
+            (root[i] as u64 + 1) * sector_len + at % sector_len
+        }
     }
-}
-
-/// The same of a mini sector of a mini stream with these sectors.
-fn mini_start(version: Version, file_len: u64, root: &[u32], number: u32) -> u64
-    ensures { result ≡ start_in_file version file_len root.now Minifat number }
-{
-    let sector_len = version.sector_len() as u64;
-    let at = MINI_SECTOR_LEN as u64 * number as u64;
-    let i = (at / sector_len) as usize;
-    if i >= root.len() {
-        return file_len;
-    }
-    (root[i] as u64 + 1) * sector_len + at % sector_len
 }

@@ -22,7 +22,7 @@ begin-push n (x ∷ runs) run is b =
 
 replicate-more : (n : ℕ) (u : Use) → replicate n u ++ u ∷ [] ≡ replicate (n + 1) u
 replicate-more zero u = refl
-replicate-more (suc n) u = ap (λ (z : List Use). u ∷ z) (replicate-more n u)
+replicate-more (suc n) u = ap (λ (z : List Use). u ∷ z) (replicate-more n u) ∙ ap (λ (k : ℕ). replicate k u) (let e : suc (n + 1) ≡ suc n + 1 = omega arith in e)
 
 -- so many like uses from there on
 take-like : (uses : List Use) (u : Use) (first count : ℕ) → first + count ≤ length uses → ((j : ℕ) → first ≤ j → j < first + count → get_or uses j u ≡ u)
@@ -90,6 +90,6 @@ joined-all uses runs first i ge j =
     let most = j.most in
     let e : i ≡ length uses = omega (arith, ge, most) in
     record {
-      uses = j.done ∙ take_all first uses (let f = j.all e in omega (arith, f, ge));
+      all_told = j.done ∙ take_all first uses (let f = j.all e in omega (arith, f, ge));
       begin = j.begin;
     }

@@ -14,7 +14,7 @@ BeginAt n (run ∷ runs) = (run.first ≡ n) × BeginAt (n + run.count) runs
 
 -- the runs tell of each sector just this use
 pub record AreRuns (uses : List Use) (runs : List Run) : Type 0 where
-  pub uses : spread runs ≡ uses
+  pub all_told : spread runs ≡ uses
   pub begin : BeginAt 0 runs
 
 -- the runs so far, and the run that is open

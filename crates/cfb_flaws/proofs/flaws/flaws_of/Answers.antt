@@ -23,7 +23,7 @@ pub returns-then-is_sound-clause-told : goal.returns-then-is_sound-clause-told
 returns-then-is_sound-clause-told g c = λ cases bytes r reads are iff. rw c.new-found.ensures.items (none-told bytes r)
 
 pub returns-then-is_sound-clause-each : goal.returns-then-is_sound-clause-each
-returns-then-is_sound-clause-each g c = λ cases bytes r reads are iff. sound-each bytes r _ (iff.0 c.if-is_sound.true)
+returns-then-is_sound-clause-each g c = λ cases bytes r reads are iff. sound-each bytes r c.new-found.result.items (iff.0 c.if-is_sound.true)
 
 pub tell_flaws-requires : goal.tell_flaws-requires
 tell_flaws-requires g c = c.new-found.ensures.items

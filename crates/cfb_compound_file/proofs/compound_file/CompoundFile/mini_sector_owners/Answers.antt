@@ -1,6 +1,6 @@
 use Rattle.std.proofs.Common.{sym, ◌∙◌}
 use Rattle.cfb_compound_file.proofs.Flawed.{mini-owners-held}
-use Rattle.cfb_compound_file.proofs.flaws.CompoundFile.mini_sector_owners.Goals as goal
+use Rattle.cfb_compound_file.proofs.compound_file.CompoundFile.mini_sector_owners.Goals as goal
 
 pub returns-clause-told : goal.returns-clause-told
 returns-clause-told g c = rw (← c.self.view_is) (λ told.

@@ -1,6 +1,6 @@
 use Rattle.std.proofs.Common.{sym, ◌∙◌}
 use Rattle.cfb_compound_file.proofs.Flawed.{flaws-held}
-use Rattle.cfb_compound_file.proofs.flaws.CompoundFile.flaws.Goals as goal
+use Rattle.cfb_compound_file.proofs.compound_file.CompoundFile.flaws.Goals as goal
 
 pub returns-clause-told : goal.returns-clause-told
 returns-clause-told g c = rw (← c.self.view_is) (λ told.
