@@ -41,9 +41,8 @@ pub use cfb_shown::moments::to_iso;
 pub use cfb_slices::seek::SeekMedium;
 pub use cfb_slices::slice::SliceMedium;
 pub use cfb_std_streams::kinds::{std_error, std_kind};
+pub use cfb_whole_streams::content::{read_stream, write_stream};
 pub use cfb_whole_streams::copying::copy_stream;
-pub use cfb_whole_streams::reading::read_stream;
-pub use cfb_whole_streams::writing::write_stream;
 
 /// What follows from what the calls promise. None of these functions does anything: each has laws as its contract.
 pub mod laws {

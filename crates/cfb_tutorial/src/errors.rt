@@ -22,3 +22,9 @@ pub fn write_and_ask<F: Medium>(file: &mut CompoundFile<F>, path: &str, bytes: &
         Err(_) => file.is_sound() && !file.is_failed(),
     }
 }
+
+/// Says whether a file on disk is consistent.
+pub fn check(rt: &HostRuntime, path: &str) -> Result<bool, Error> {
+    let file = cfb::open(rt, rt.alloc(), path)?;
+    Ok(file.is_sound())
+}

@@ -1,12 +1,12 @@
 //! Each function of the tutorial once.
 use crate::cases::open_greek;
 use crate::changing::tidy;
-use crate::errors::{read_if_there, write_and_ask};
+use crate::errors::{check, read_if_there, write_and_ask};
 use crate::medium::Counted;
 use crate::memory::{packed, unpacked};
-use crate::reading::{first_line, today};
-use crate::writing::{append, greet};
-use cfb::{CompoundFile, MemoryMedium, SliceMedium, Timestamp};
+use crate::reading::{first_line, list, today};
+use crate::writing::{append, copy_data, greet};
+use cfb::{CompoundFile, Error, MediumFault, MemoryMedium, SliceMedium, Timestamp};
 use std::test::Fail;
 
 #[test]
@@ -36,5 +36,24 @@ fn bytes_come_back(rt: HostRuntime) -> Result<(), Fail> {
     let file = packed(rt.alloc(), b"some bytes")?;
     let bytes = unpacked(rt.alloc(), file.as_slice())?;
     assert!(rt; bytes.as_slice() == b"some bytes".as_slice());
+    Ok(())
+}
+
+#[test]
+fn a_stream_is_copied(rt: HostRuntime) -> Result<(), Fail> {
+    let alloc = rt.alloc();
+    let bytes = packed(alloc, b"some bytes")?;
+    let mut from = CompoundFile::open(alloc, SliceMedium::new(bytes.as_slice()))?;
+    let mut to = CompoundFile::create(alloc, MemoryMedium::new(alloc))?;
+    assert!(rt; copy_data(alloc, &mut from, &mut to)? == 10);
+    let copy = to.into_inner().into_bytes();
+    assert!(rt; unpacked(alloc, copy.as_slice())?.as_slice() == b"some bytes".as_slice());
+    Ok(())
+}
+
+#[test]
+fn a_file_that_is_not_there_is_not_opened(rt: HostRuntime) -> Result<(), Fail> {
+    assert!(rt; check(&rt, "nothing/is/here") == Err(Error::Medium(MediumFault::Open)));
+    assert!(rt; list(&rt, "nothing/is/here").is_err());
     Ok(())
 }

@@ -1,5 +1,6 @@
 //! Streams are written.
-use cfb::{CompoundFile, Error, Medium, Stream};
+use cfb::{CompoundFile, Error, Medium, ReadMedium, Stream};
+use std::alloc::Global;
 use std::io::SeekFrom;
 
 /// Makes the stream `/greeting`, or replaces its bytes.
@@ -21,4 +22,13 @@ pub fn append<F: Medium>(
 fn write_at_end<F: Medium>(stream: &mut Stream<'_, F>, bytes: &[u8]) -> Result<(), Error> {
     stream.seek(SeekFrom::End(0))?;
     stream.write_all(bytes)
+}
+
+/// Copies the stream `/data` into another file, and returns its length.
+pub fn copy_data<F: ReadMedium, G: Medium>(
+    alloc: Global,
+    from: &mut CompoundFile<F>,
+    to: &mut CompoundFile<G>,
+) -> Result<u64, Error> {
+    cfb::copy_stream(alloc, from, "/data", to, "/data")
 }

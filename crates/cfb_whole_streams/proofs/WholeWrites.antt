@@ -1,28 +1,55 @@
 -- Writes one after the other.
-use Rattle.std.proofs.Common.{◌≡◌, ◌∙◌, ℕ, List, [], ◌∷◌, ◌++◌, ap, append-nil, append_assoc, drop, refl, subst, sym}
-use Rattle.std.specs.Prelude.{Bool, IfErr, Option, Some, None, Result, Ok, Err}
-use Rattle.cfb_format.specs.declared.error.Error.{Error}
+use Rattle.std.proofs.Common.{◌≡◌, ◌∙◌, ◌≤◌, ◌<◌, ◌==◌, ℕ, Bool, true, false, List, [], ◌∷◌, ◌++◌, ap, append-nil, append_assoc, arith, drop, inl, inr, length, refl, subst, sym}
+use Rattle.std.specs.Prelude.{◌⊎◌, ◌+◌, MatchBool, Option, Some, None, nat_le}
 use Rattle.cfb_format.specs.declared.medium.MediumFault.{MediumFault}
 use Rattle.cfb_format.specs.Tree.{Tree}
 use Rattle.cfb_rules.specs.Lists.{CommandReply, creates, on_stream, replied, streamed}
 use Rattle.cfb_rules.specs.Calls.{create_stream, refused}
-use Rattle.cfb_rules.specs.Refusal.{Refusal}
-use Rattle.cfb_rules.specs.StreamCalls.{StreamCall, StreamReply, count, not_done, write}
-use Rattle.cfb_whole_streams.specs.cfb_agreement.Files.{FileState, SameSetting, failures_of}
-use Rattle.cfb_whole_streams.specs.cfb_compound_file.StreamAnswers.{OpenStream, stream_in}
-use Rattle.cfb_whole_streams.specs.cfb_compound_file.Writing.{IsWrite, IsWrittenInTurn, WriteDone, WriteInTurn}
-use Rattle.cfb_commands.specs.Commands.{refusal_of_error, refusal_of_result, stream_answer}
-use Rattle.cfb_commands.specs.Faults.{CanBeGiven}
+use Rattle.cfb_rules.specs.Refusal.{Refusal, invalid_input, not_sound}
+use Rattle.cfb_rules.specs.Runs.{Causes, IsStreamBroken, StreamCallRuns, StreamOnFailed, StreamRun, is_served}
+use Rattle.cfb_rules.specs.StreamCalls.{Moves, StreamCall, StreamReply, StreamSetting, StreamState, StreamStep, Write, Wrote, count, not_done, write}
+use Rattle.cfb_whole_streams.specs.cfb_agreement.Files.{FileState, SameSetting}
+use Rattle.cfb_whole_streams.specs.cfb_stream_buffer.Contents.{stream_setting_of}
+use Rattle.cfb_whole_streams.specs.cfb_stream_window.Windows.{Runs}
+use Rattle.cfb_whole_streams.specs.cfb_path_changes.Answers.{causes_of}
+use Rattle.cfb_whole_streams.specs.cfb_compound_file.StreamAnswers.{OpenStream, StreamRunsOn, run_in, stored_in}
 use Rattle.cfb_commands.specs.Promised.{CallKeeps, IsClosedOf, IsOpenSince, IsWorkedOn}
 use Rattle.cfb_commands.specs.Working.{AnswersCommand, IsOpenedBy, LendsNothing, Works}
-use Rattle.cfb_commands.proofs.Before.{same_before}
-use Rattle.cfb_commands.proofs.Faults.{counted}
 use Rattle.cfb_commands.proofs.Openings.{done_so, refused_so}
-use Rattle.cfb_commands.proofs.Operations.{comes_told, short_write, worked_on}
-use Rattle.cfb_commands.proofs.Quiet.{writes_none}
 use Rattle.cfb_commands.proofs.Working.{works_none, works_on}
 use Rattle.cfb_whole_streams.specs.Content.{IsPut, IsWrittenWhole, WritesAll}
-use Rattle.cfb_whole_streams.specs.Told.{first_of, first_refusal, refusal_of_work}
+use Rattle.cfb_whole_streams.specs.Told.{first_of, first_refusal, refusal_of_work, taken_by_work}
+
+-- ---- a write takes something
+
+not_served : (refusal : Refusal) → count 0 ≡ not_done refusal → ⊥
+not_served refusal is = absurd (let w : true ≡ false = ap is_served is in cc)
+
+module _ (setting : StreamSetting) (old new : StreamState) (bytes : List ℕ) (some : 0 < length bytes) where
+  write_takes : Write setting bytes old (count 0) new → ⊥
+  write_takes = go (length bytes == 0) (nat_le setting.limit old.position) setting.sound (grind arith)
+    where
+      go : (a b c : Bool) → a ≡ false → MatchBool a ((count 0 ≡ count 0) × Moves old new old.position 0)
+          (MatchBool b ((count 0 ≡ not_done invalid_input) × (new ≡ old))
+          (MatchBool c ((n : ℕ) × (1 ≤ n) × (n ≤ length bytes) × (old.position + n ≤ setting.limit) × (count 0 ≡ count n) × Wrote bytes n old new)
+          ((count 0 ≡ not_done not_sound) × (new ≡ old)))) → ⊥
+      go true b c e h = absurd (let w : true ≡ false = e in cc)
+      go false true c e h = not_served invalid_input h.0
+      go false false true e (n, least, most, fits, is, wrote) = let w : 0 ≡ n = ap taken_by_work is in omega (arith, least, w)
+      go false false false e h = not_served not_sound h.0
+
+runs_take : (causes : Causes) (setting : StreamSetting) (old new : StreamRun) (bytes : List ℕ) → 0 < length bytes → StreamCallRuns causes setting old (write bytes) (count 0) new → ⊥
+runs_take causes setting old new bytes some = go old.failed
+  where
+    go : (b : Bool) → MatchBool b (StreamOnFailed (write bytes) (count 0) new)
+        ((StreamStep setting old.stream (write bytes) (count 0) new.stream × (new.failed ≡ false)) ⊎ IsStreamBroken causes setting old.stream (write bytes) (count 0) new) → ⊥
+    go true h = absurd (let w : true ≡ false = ap is_served h.1 in cc)
+    go false (inl h) = write_takes setting old.stream new.stream bytes some h.0
+    go false (inr (refusal, may, is, off, allowed)) = not_served refusal is
+
+pub takes_some : (old new : OpenStream) (bytes : List ℕ) → 0 < length bytes → StreamRunsOn old (write bytes) (count 0) new → ⊥
+unfolding Runs
+takes_some old new bytes some runs = runs_take (causes_of old.file new.file) (stream_setting_of (stored_in old)) (run_in old) (run_in new) bytes some runs
 
 -- ---- writes in turn
 
@@ -83,36 +110,6 @@ module _ (can_give : MediumFault → Bool) where
     works = b.works;
   }
 
--- ---- what `write_all` promises, by the rules
-
-module _ (can_give : MediumFault → Bool) where
-  worked : (now next : OpenStream) (rest : List ℕ) (result : Result ℕ Error) → IsWrite can_give now rest result next → IsWorkedOn now (write rest) (stream_answer count result) next
-  worked now next rest result w =
-      worked_on now (write rest) next (comes_told true now (write rest) next refl w.goes_on (λ short. w.once (short_write _ short))) count (λ n. refl) can_give result
-      w.runs w.refused w.foreseen w.counts (λ quiet. same_before now.file next.file (w.none (writes_none (stream_in now) rest quiet)))
-
-  in_turn : (old : OpenStream) (bytes rest : List ℕ) (now : OpenStream) (done : List WriteDone) (result : Result (Unit {0}) Error) (new : OpenStream)
-      → IsBegun can_give old bytes rest now → WriteInTurn can_give now rest done result new → IsWrittenWhole can_give old bytes (refusal_of_result result) new
-  in_turn old bytes rest now [] (Ok u) new b w =
-      subst (λ (s : OpenStream). IsWrittenWhole can_give old bytes None s) (sym w.1) (begun_done can_give old bytes rest now b w.0)
-  in_turn old bytes rest now [] (Err e) new b w = begun_refused can_give old bytes rest now new b (refusal_of_error e) (worked now new rest (Err e) w)
-  in_turn old bytes rest now (d ∷ done) result new b w =
-      in_turn old bytes (drop d.taken rest) d.after done result new (begun_more can_give old bytes rest now d.after b d.taken (worked now d.after rest (Ok d.taken) w.0)) w.1
-
-  pub whole : (old : OpenStream) (bytes : List ℕ) (result : Result (Unit {0}) Error) (new : OpenStream)
-      → IsWrittenInTurn can_give old bytes result new → IsWrittenWhole can_give old bytes (refusal_of_result result) new
-  whole old bytes result new w = in_turn old bytes bytes old w.done result new (begun_none can_give old bytes) w.writes
-
-  given_in_turn : (now : OpenStream) (rest : List ℕ) (done : List WriteDone) (result : Result (Unit {0}) Error) (new : OpenStream)
-      → WriteInTurn can_give now rest done result new → IfErr result (CanBeGiven can_give)
-  given_in_turn now rest [] (Ok u) new w = tt
-  given_in_turn now rest [] (Err e) new w = counted can_give (failures_of now.file) (failures_of new.file) e w.counts
-  given_in_turn now rest (d ∷ done) result new w = given_in_turn d.after (drop d.taken rest) done result new w.1
-
-  pub given : (old : OpenStream) (bytes : List ℕ) (result : Result (Unit {0}) Error) (new : OpenStream)
-      → IsWrittenInTurn can_give old bytes result new → IfErr result (CanBeGiven can_give)
-  given old bytes result new w = given_in_turn old bytes w.done result new w.writes
-
 -- ---- from opening to closing
 
 first_then : (first : Option Refusal) (rest closing : Option Refusal) → first_of first (first_of rest closing) ≡ first_of (first_of first rest) closing
@@ -144,3 +141,8 @@ module _ (can_give : MediumFault → Bool) (old new : FileState) (path bytes : L
     answers = done_so can_give old new creates path s now w.calls w.replies closing o
         (λ first tree same. w.works first s.file path tree same o.since o.lends) closed;
   }
+
+-- nothing is left
+pub emptied : (bytes : List ℕ) → length bytes ≡ 0 → bytes ≡ []
+emptied [] none = refl
+emptied (b ∷ bytes) none = absurd (omega (arith))

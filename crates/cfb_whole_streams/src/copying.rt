@@ -2,8 +2,7 @@
 ghost use Rattle.std.specs.Prelude.{◌||◌, IsTrue, IfErr, IfOk, chars};
 ghost use Rattle.cfb_whole_streams.specs.Content.{IsCopied, IsNotCopied, IsOnlyRead};
 
-use crate::reading::read_stream;
-use crate::writing::write_stream;
+use crate::content::{read_stream, write_stream};
 use cfb_commands::CompoundFile;
 use cfb_format::error::Error;
 use cfb_format::medium::{Medium, ReadMedium};
