@@ -166,7 +166,7 @@ pub enum StreamReply<A: Heap = Global> {
 }
 
 /// What one command answers.
-#[derive(Debug, Drop)]
+#[derive(Debug, PartialEq, Drop)]
 pub enum Reply<A: Heap = Global> {
     /// To a call that changes the file, and to `Flush`.
     Done(Result<(), Error>),
