@@ -41,12 +41,12 @@ fn is_right<A: Allocator + Clone>(
     }
 }
 
-fn are_default_letters<A: Allocator>(alloc: A) -> Result<bool, Error> {
+fn are_default_letters<A: Allocator + Clone>(alloc: A) -> Result<bool, Error> {
     let cases = CaseMapper::new(alloc)?;
     Ok(path::compare_names(&cases, "gr\u{fc}n", "GR\u{dc}N") == Ordering::Equal)
 }
 
-fn are_given_letters<A: Allocator>(alloc: A) -> Result<bool, Error> {
+fn are_given_letters<A: Allocator + Clone>(alloc: A) -> Result<bool, Error> {
     let cases = CaseMapper::from_pairs(alloc, &[('\u{e9}', 'X')])?;
     Ok(path::compare_names(&cases, "caf\u{e9}", "CAFX") == Ordering::Equal)
 }

@@ -12,7 +12,7 @@ use Rattle.cfb_commands.specs.cfb_rules.Refusal.{IsRefusal, Refusal, already_exi
 use Rattle.cfb_commands.specs.cfb_rules.Runs.{CallRuns, Setting}
 use Rattle.cfb_commands.specs.cfb_rules.Steps.{CallKind, asking, asking_freely, changing, creating, emptying, flushing, is_changing, kind_of, opening, opening_to_read}
 use Rattle.cfb_commands.specs.cfb_agreement.Changes.{StaysOrFails}
-use Rattle.cfb_commands.specs.cfb_agreement.Files.{FileState, IsAsBefore, SameSetting, failures_of, is_failed}
+use Rattle.cfb_commands.specs.cfb_agreement.Files.{Agrees, FileState, IsAsBefore, SameSetting, failures_of, is_failed}
 use Rattle.cfb_commands.specs.cfb_path_changes.Answers.{ForMemory, IsRefusedBy, IsRefusedInTurn, MeansTree, RunsOn, StopsInTurn, causes_of_call, setting_of, state_with}
 use Rattle.cfb_commands.specs.Promised.{IsAnswered, CallKeeps, Changes, RefusesChange, IsKeptBy, promised}
 use Rattle.cfb_commands.specs.Seen.{seen_as, standing_at}
@@ -201,10 +201,10 @@ module _ (can_give : MediumFault → Bool) (old new : FileState) (call : Call) w
 -- ---- the step
 
 module _ (can_give : MediumFault → Bool) (first old new : FileState) (tree : Tree) (call : Call) (reply : Reply) where
-  stepped : SameSetting first old → CallKeeps can_give old call reply new → Does can_give old new call reply → MeansTree old tree
+  stepped : SameSetting first old → CallKeeps can_give old call reply new → Does can_give old new call reply → Agrees new → MeansTree old tree
       → (after : Tree) × MeansTree new after × CallStep seen_as (promised can_give) (setting_of first) (standing_at old tree) call reply (standing_at new after)
   unfolding RunsOn
-  stepped same keeps d means =
+  stepped same keeps d agrees means =
       let r = d.runs tree means in (
         r.0,
         r.1,
@@ -212,12 +212,17 @@ module _ (can_give : MediumFault → Bool) (first old new : FileState) (tree : T
           runs = subst (λ (s : Setting). CallRuns (causes_of_call old new) s (state_with old tree) call reply (state_with new r.0)) (setting_same first old same) r.2;
           stays = λ leaves calm. seen_before old new tree r.0 (d.before leaves calm);
           counted = d.counts;
-          kept = keeps;
+          kept = record { keeps = keeps; agrees = agrees; means = λ _. r.1 };
         },
       )
 
 pub call_step : (can_give : MediumFault → Bool) (first old new : FileState) (tree : Tree) (call : Call) (reply : Reply)
-    → SameSetting first old → CallKeeps can_give old call reply new → MeansTree old tree
+    → SameSetting first old → CallKeeps can_give old call reply new → Agrees new → MeansTree old tree
     → (after : Tree) × MeansTree new after × CallStep seen_as (promised can_give) (setting_of first) (standing_at old tree) call reply (standing_at new after)
 call_step can_give first old new tree call reply same keeps =
     stepped can_give first old new tree call reply same keeps (does can_give old new call reply (kind_of call) refl keeps)
+
+-- where a call was refused, or was not to change the file, all is as before but the count of failures
+pub call_before : (can_give : MediumFault → Bool) (old new : FileState) (call : Call) (reply : Reply) → CallKeeps can_give old call reply new
+    → LeavesAll call reply → is_failed new ≡ false → IsAsBefore old new
+call_before can_give old new call reply keeps = (does can_give old new call reply (kind_of call) refl keeps).before

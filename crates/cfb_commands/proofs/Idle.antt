@@ -79,7 +79,7 @@ module _ (can_give : MediumFault → Bool) (setting : Setting) where
   call_idle : (old new : Standing) (call : Call) (reply : Reply) → CallStep seen_as (promised can_give) setting old call reply new → is_failed old.file ≡ true → new.file ≡ old.file
   call_idle old new call reply step failed =
       kept_idle can_give old.file new.file call (kind_of call) (causes_between (seen_as old) (seen_as new) (seen_as new).no_entry) reply (seen_as new).state
-      (on_failed old new call reply step failed) step.kept
+      (on_failed old new call reply step failed) step.kept.keeps
 
   -- ---- lists
 

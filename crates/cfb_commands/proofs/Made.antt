@@ -73,9 +73,9 @@ module _ (can_give : MediumFault → Bool) (old new : FileState) (call : Call) (
 module _ (can_give : MediumFault → Bool) (setting : Setting) where
   call_stays : (old new : Standing) (call : Call) (reply : Reply) → CallStep seen_as (promised can_give) setting old call reply new → StaysMade old.file new.file
   call_stays old new call reply step = record {
-    setting = keeps_setting can_give old.file new.file call reply step.kept;
+    setting = keeps_setting can_give old.file new.file call reply step.kept.keeps;
     failed = stays_failed (causes_between (seen_as old) (seen_as new) (seen_as new).no_entry) setting (seen_as old).state (seen_as new).state call reply step.runs;
-    made = λ calm made. made_by can_give old.file new.file call calm made (kind_of call) reply step.kept;
+    made = λ calm made. made_by can_give old.file new.file call calm made (kind_of call) reply step.kept.keeps;
   }
 
   stream_stays : (names : List (List ℕ)) (twice : Bool) (old new : FileState) → StreamKeeps names twice old new → StaysMade old new
@@ -89,14 +89,14 @@ module _ (can_give : MediumFault → Bool) (setting : Setting) where
   calls_stay names s t old new [] (reply ∷ replies) h = elim h [ ]
   calls_stay names s t old new (call ∷ calls) [] h = elim h [ ]
   calls_stay names s t old new (call ∷ calls) (reply ∷ replies) (middle, between, step, rest) =
-      stays_made_then old.file between.file new.file (stream_stays names _ old.file between.file step.kept.keeps) (calls_stay names middle t between new calls replies rest)
+      stays_made_then old.file between.file new.file (stream_stays names _ old.file between.file step.kept.keeps.keeps) (calls_stay names middle t between new calls replies rest)
 
   streamed_stays : (old new : Standing) (how : Opening) (path : List ℕ) (calls : List StreamCall) (replies : List StreamReply) (closing : Option Refusal)
       → StreamedRun seen_as (promised can_give) setting old how path calls replies closing new → StaysMade old.file new.file
   streamed_stays old new how path calls replies closing h =
       stays_made_then old.file h.opened.file new.file (call_stays old h.opened (opening_call how path) done h.opening)
       (stays_made_then h.opened.file h.worked.file new.file (calls_stay (names_at path) _ h.stream h.opened h.worked calls replies h.works)
-      (stream_stays (names_at path) _ h.worked.file new.file h.closes.kept.keeps))
+      (stream_stays (names_at path) _ h.worked.file new.file h.closes.kept.keeps.keeps))
 
   command_stays : (old new : Standing) (command : Command) (reply : CommandReply) → CommandRuns seen_as (promised can_give) setting old command reply new → StaysMade old.file new.file
   command_stays old new (by_path call) (replied reply) h = call_stays old new call reply h

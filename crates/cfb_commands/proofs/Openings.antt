@@ -70,8 +70,8 @@ module _ (can_give : MediumFault → Bool) (old : FileState) (at : List ℕ) (ag
 -- so was the command
 pub refused_so : (can_give : MediumFault → Bool) (old new : FileState) (how : Opening) (at : List ℕ) (calls : List StreamCall) (refusal : Refusal)
     → CallKeeps can_give old (opening_call how at) (refused refusal) new → AnswersCommand can_give old (on_stream how at calls) (replied (refused refusal)) new
-refused_so can_give old new how at calls refusal keeps = λ first tree same means.
-    let step = call_step can_give first old new tree (opening_call how at) (refused refusal) same keeps means in
+refused_so can_give old new how at calls refusal keeps = λ first tree same means agrees.
+    let step = call_step can_give first old new tree (opening_call how at) (refused refusal) same keeps agrees means in
     (step.0, step.1, ((refusal, refl), step.2))
 
 -- ---- an opening that was done
@@ -128,11 +128,11 @@ pub done_so : (can_give : MediumFault → Bool) (old new : FileState) (how : Ope
     → IsOpenedBy can_give (opening_call how at) old at s
     → ((first : FileState) (tree : Tree) → SameSetting first s.file → Works can_give first s.file at tree s calls replies now) → IsClosedOf s.file now closing new
     → AnswersCommand can_give old (on_stream how at calls) (streamed replies closing) new
-done_so can_give old new how at s now calls replies closing o works closed = λ first tree same means.
-    let step = call_step can_give first old s.file tree (opening_call how at) done same o.keeps means in
+done_so can_give old new how at s now calls replies closing o works closed = λ first tree same means agrees.
+    let step = call_step can_give first old s.file tree (opening_call how at) done same o.keeps o.agrees means in
     let setting = setting-then first old s.file same (keeps_setting can_give old s.file (opening_call how at) done o.keeps) in
     let w = works first step.0 setting in
-    let ends = closing_step can_give first s.file at now new step.0 closing setting o.agrees step.1 w.since closed in
+    let ends = closing_step can_give first s.file at now new step.0 closing setting o.agrees step.1 w.since closed agrees in
     let begins : stream_in s ≡ opened_by_path (cases_of first.base) step.0 at =
     o.begins step.0 step.1 ∙ ap (λ (cs : Cases). opened_by_path cs step.0 at) setting.limits.cases in (
       ends.0,

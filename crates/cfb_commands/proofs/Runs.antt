@@ -35,7 +35,7 @@ some_tree file agrees = go (is_failed file) refl
 module _ (can_give : MediumFault → Bool) where
   -- a call by path is a command
   pub by_call : (old new : FileState) (call : calls.Call) (reply : calls.Reply) → CallKeeps can_give old call reply new → AnswersCommand can_give old (by_path call) (replied reply) new
-  by_call old new call reply keeps = λ first tree same means. call_step can_give first old new tree call reply same keeps means
+  by_call old new call reply keeps = λ first tree same means agrees. call_step can_give first old new tree call reply same keeps agrees means
 
   pub runs_none : (file : FileState) → RunsLegally can_give file [] [] file
   runs_none file = λ tree means. (tree, means, refl)
@@ -47,12 +47,12 @@ module _ (can_give : MediumFault → Bool) where
       run_stays can_give (setting_of old) (standing_at old t.0) (standing_at now r.0) commands replies r.2
 
   pub runs_on : (old now next : FileState) (commands : List Command) (replies : List CommandReply) (command : Command) (reply : CommandReply)
-      → RunsLegally can_give old commands replies now → AnswersCommand can_give now command reply next
+      → RunsLegally can_give old commands replies now → AnswersCommand can_give now command reply next → Agrees next
       → RunsLegally can_give old (commands ++ command ∷ []) (replies ++ reply ∷ []) next
-  runs_on old now next commands replies command reply runs answers = λ tree means.
+  runs_on old now next commands replies command reply runs answers agrees = λ tree means.
       let r = runs tree means in
       let stays = run_stays can_give (setting_of old) (standing_at old tree) (standing_at now r.0) commands replies r.2 in
-      let step = answers old r.0 stays.setting r.1 in (
+      let step = answers old r.0 stays.setting r.1 agrees in (
         step.0,
         step.1,
         run-goes-on seen_as (promised can_give) (setting_of old) (standing_at old tree) (standing_at now r.0) (standing_at next step.0) commands replies command reply r.2 step.2,
@@ -62,8 +62,8 @@ module _ (can_give : MediumFault → Bool) where
   pub runs_more : {A : Type 0} (old now next : FileState) (commands : List (TheCommand A)) (i : ℕ) (command : TheCommand A) (n : ℕ) (olds news : List (Reply A)) (reply : Reply A)
       → i < length commands → command ≡ get_or commands i command → news ≡ olds ++ reply ∷ [] → n ≤ length olds
       → RunsLegally can_give old (map command_of (take i commands)) (map command_reply_of (drop n olds)) now → AnswersCommand can_give now (command_of command) (command_reply_of reply) next
-      → RunsLegally can_give old (map command_of (take (i + 1) commands)) (map command_reply_of (drop n news)) next
-  runs_more old now next commands i command n olds news reply less is put longer runs answers =
+      → Agrees next → RunsLegally can_give old (map command_of (take (i + 1) commands)) (map command_reply_of (drop n news)) next
+  runs_more old now next commands i command n olds news reply less is put longer runs answers agrees =
       subst (λ (cs : List Command). RunsLegally can_give old cs (map command_reply_of (drop n news)) next) (sym (taken_more command_of commands i command less is))
       (subst (λ (rs : List CommandReply). RunsLegally can_give old (map command_of (take i commands) ++ command_of command ∷ []) rs next) (sym (put_behind command_reply_of n olds news reply put longer))
-      (runs_on old now next (map command_of (take i commands)) (map command_reply_of (drop n olds)) (command_of command) (command_reply_of reply) runs answers))
+      (runs_on old now next (map command_of (take i commands)) (map command_reply_of (drop n olds)) (command_of command) (command_reply_of reply) runs answers agrees))

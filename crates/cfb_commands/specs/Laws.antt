@@ -20,20 +20,20 @@ use Rattle.cfb_commands.specs.Seen.{Standing, seen_as, standing_at}
 -- a call by path, in a run whose setting was that of the file at first
 abbrev pub CallsAreSteps : Type 0
 CallsAreSteps = (can_give : MediumFault → Bool) (first old new : FileState) (tree : Tree) (call : Call) (reply : Reply)
-    → SameSetting first old → CallKeeps can_give old call reply new → MeansTree old tree
+    → SameSetting first old → CallKeeps can_give old call reply new → Agrees new → MeansTree old tree
     → (after : Tree) × MeansTree new after × CallStep seen_as (promised can_give) (setting_of first) (standing_at old tree) call reply (standing_at new after)
 
 -- a call on an open stream, whatever tree is named beside the file; the stream is open as before then
 abbrev pub StreamCallsAreSteps : Type 0
 StreamCallsAreSteps = (can_give : MediumFault → Bool) (first opened : FileState) (path : List ℕ) (old new : OpenStream) (tree : Tree) (call : StreamCall) (reply : StreamReply)
-    → SameSetting first opened → IsOpenSince opened path old → IsWorkedOn old call reply new
+    → SameSetting first opened → IsOpenSince opened path old → IsWorkedOn old call reply new → Agrees new.file
     → StreamCallStep seen_as (promised can_give) (setting_of first) (names_at path) (stream_in old) (standing_at old.file tree) call reply (stream_in new) (standing_at new.file tree)
     × IsOpenSince opened path new
 
 -- the closing of a stream that was opened in a file with this tree
 abbrev pub ClosingsAreSteps : Type 0
 ClosingsAreSteps = (can_give : MediumFault → Bool) (first opened : FileState) (path : List ℕ) (old : OpenStream) (new : FileState) (tree : Tree) (closing : Option Refusal)
-    → SameSetting first opened → Agrees opened → MeansTree opened tree → IsOpenSince opened path old → IsClosedOf opened old closing new
+    → SameSetting first opened → Agrees opened → MeansTree opened tree → IsOpenSince opened path old → IsClosedOf opened old closing new → Agrees new
     → (after : Tree) × MeansTree new after
     × ClosingStep seen_as (promised can_give) (setting_of first) path tree (stream_in old) (standing_at old.file tree) closing (standing_at new after)
 

@@ -32,10 +32,10 @@ module _ (can_give : MediumFault → Bool) where
     pub since : IsOpenSince opened path now
     pub lends : LendsNothing now
 
-  -- from a file whose bytes mean any tree, one command leads to one whose bytes mean a tree, by the rules
+  -- from a file whose bytes mean any tree, one command leads to one whose bytes mean a tree, by the rules, if memory is what they say
   abbrev pub AnswersCommand : FileState → Command → CommandReply → FileState → Type 0
-  AnswersCommand old command reply new = (first : FileState) (tree : Tree) → SameSetting first old → MeansTree old tree → (after : Tree) × MeansTree new after
-      × CommandRuns seen_as (promised can_give) (setting_of first) (standing_at old tree) command reply (standing_at new after)
+  AnswersCommand old command reply new = (first : FileState) (tree : Tree) → SameSetting first old → MeansTree old tree → Agrees new
+      → (after : Tree) × MeansTree new after × CommandRuns seen_as (promised can_give) (setting_of first) (standing_at old tree) command reply (standing_at new after)
 
   -- and so does a list of them
   abbrev pub RunsLegally : FileState → List Command → List CommandReply → FileState → Type 0

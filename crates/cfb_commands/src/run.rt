@@ -97,6 +97,7 @@ pub fn run<F: Medium, A: Heap + Clone>(
     let _is_failed = file.is_failed();
     for command in commands {
         let reply = run_one(replies.allocator(), file, command);
+        let _now_failed = file.is_failed();
         replies.push_reserved(reply);
     }
 }

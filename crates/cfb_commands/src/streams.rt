@@ -112,6 +112,8 @@ fn work_all<F: Medium, A: Heap + Clone>(
 {
     for op in ops {
         let reply = work(alloc, stream, op);
+        // What the file keeps in memory is what its bytes say.
+        let _is_failed = stream.is_failed();
         replies.push_reserved(reply);
     }
 }

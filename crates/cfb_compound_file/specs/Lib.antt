@@ -29,4 +29,3 @@ pub mod Printed
 pub mod Asking
 pub mod Taken
 pub mod Writing
-pub mod Closing

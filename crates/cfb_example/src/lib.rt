@@ -17,9 +17,7 @@ pub fn packed(alloc: Global, bytes: &[u8]) -> Result<MemoryMedium, Error> {
 fn put(file: &mut CompoundFile<MemoryMedium>, bytes: &[u8]) -> Result<(), Error> {
     let mut stream = file.create_stream("/data")?;
     let written = stream.write_all(bytes);
-    let closed = stream.close(); // an open stream cannot be dropped
-    written?;
-    closed
+    stream.finish(written) // an open stream cannot be dropped
 }
 
 /// All bytes of the stream `/data`.

@@ -22,8 +22,12 @@ pub fn make_mark_and_remove<F: Medium, A: Allocator + Clone>(
         (call_answer (λ _. done) result.0) ∷ replied (call_answer (λ _. done) result.1) ∷ replied
         (call_answer (λ _. done) result.2) ∷ []) file.new }
 {
+    // What the file keeps in memory is what its bytes say, after each of them.
     let made = file.create_storage(path, moment);
+    let _once_made = file.is_failed();
     let marked = file.set_state_bits(path, bits);
+    let _once_marked = file.is_failed();
     let removed = file.remove_storage(path);
+    let _once_removed = file.is_failed();
     (made, marked, removed)
 }

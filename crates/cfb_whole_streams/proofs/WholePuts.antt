@@ -23,7 +23,7 @@ module _ (can_give : MediumFault → Bool) (old new : FileState) (path bytes : L
   stored : Agrees old → IsPut can_give old path bytes None new → (tree : Tree) → MeansTree new tree → HasStream (cases_of new.base) tree path bytes
   stored agrees put tree means =
       let t = some_tree old agrees in
-      let a = put.answers old t.0 (setting-same old) t.1 in
+      let a = put.answers old t.0 (setting-same old) t.1 put.agrees in
       let stays = run_stays can_give (setting_of old) (standing_at old t.0) (standing_at new a.0) (on_stream creates path put.calls ∷ []) (put.reply ∷ []) (standing_at new a.0, a.2, refl) in
       let kept = written_is_stored seen_as (promised can_give) (setting_of old) (standing_at old t.0) (standing_at new a.0) path bytes put.calls put.reply put.writes (sym put.tells) a.2 in
       subst (λ (u : Tree). HasStream (cases_of new.base) u path bytes)

@@ -1,6 +1,8 @@
 -- Writes one after the other.
 use Rattle.std.proofs.Common.{◌≡◌, ◌∙◌, ◌≤◌, ◌<◌, ◌==◌, ℕ, Bool, true, false, List, [], ◌∷◌, ◌++◌, ap, append-nil, append_assoc, arith, drop, inl, inr, length, refl, subst, sym}
 use Rattle.std.specs.Prelude.{◌⊎◌, ◌+◌, MatchBool, Option, Some, None, nat_le}
+use Rattle.cfb_format.specs.declared.error.Error.{Error}
+use Rattle.cfb_format.specs.declared.error.Error.TheVariants.{Medium}
 use Rattle.cfb_format.specs.declared.medium.MediumFault.{MediumFault}
 use Rattle.cfb_format.specs.Tree.{Tree}
 use Rattle.cfb_rules.specs.Lists.{CommandReply, creates, on_stream, replied, streamed}
@@ -8,10 +10,12 @@ use Rattle.cfb_rules.specs.Calls.{create_stream, refused}
 use Rattle.cfb_rules.specs.Refusal.{Refusal, invalid_input, not_sound}
 use Rattle.cfb_rules.specs.Runs.{Causes, IsStreamBroken, StreamCallRuns, StreamOnFailed, StreamRun, is_served}
 use Rattle.cfb_rules.specs.StreamCalls.{Moves, StreamCall, StreamReply, StreamSetting, StreamState, StreamStep, Write, Wrote, count, not_done, write}
-use Rattle.cfb_whole_streams.specs.cfb_agreement.Files.{FileState, SameSetting}
+use Rattle.cfb_whole_streams.specs.cfb_agreement.Changes.{StaysOrFails}
+use Rattle.cfb_whole_streams.specs.cfb_agreement.Files.{Agrees, FileState, SameSetting}
+use Rattle.cfb_whole_streams.proofs.cfb_compound_file.StoredStreams.{agrees_as_before}
 use Rattle.cfb_whole_streams.specs.cfb_stream_buffer.Contents.{stream_setting_of}
 use Rattle.cfb_whole_streams.specs.cfb_stream_window.Windows.{Runs}
-use Rattle.cfb_whole_streams.specs.cfb_path_changes.Answers.{causes_of}
+use Rattle.cfb_whole_streams.specs.cfb_path_changes.Answers.{IsRefusedBy, causes_of}
 use Rattle.cfb_whole_streams.specs.cfb_compound_file.StreamAnswers.{OpenStream, StreamRunsOn, run_in, stored_in}
 use Rattle.cfb_commands.specs.Promised.{CallKeeps, IsClosedOf, IsOpenSince, IsWorkedOn}
 use Rattle.cfb_commands.specs.Working.{AnswersCommand, IsOpenedBy, LendsNothing, Works}
@@ -73,14 +77,14 @@ module _ (can_give : MediumFault → Bool) where
   }
 
   module _ (old : OpenStream) (bytes rest : List ℕ) (now next : OpenStream) (b : IsBegun old bytes rest now) where
-    works_more : (reply : StreamReply) → IsWorkedOn now (write rest) reply next
+    works_more : (reply : StreamReply) → IsWorkedOn now (write rest) reply next → Agrees next.file
         → (first opened : FileState) (path : List ℕ) (tree : Tree) → SameSetting first opened → IsOpenSince opened path old → LendsNothing old
         → Works can_give first opened path tree old (b.calls ++ write rest ∷ []) (b.replies ++ reply ∷ []) next
-    works_more reply worked first opened path tree same since nothing =
-        works_on can_give first opened path tree same old now next b.calls b.replies (write rest) reply (b.works first opened path tree same since nothing) refl worked
+    works_more reply worked agrees first opened path tree same since nothing =
+        works_on can_give first opened path tree same old now next b.calls b.replies (write rest) reply (b.works first opened path tree same since nothing) refl worked agrees
 
-    pub begun_more : (n : ℕ) → IsWorkedOn now (write rest) (count n) next → IsBegun old bytes (drop n rest) next
-    begun_more n worked = record {
+    pub begun_more : (n : ℕ) → IsWorkedOn now (write rest) (count n) next → Agrees next.file → IsBegun old bytes (drop n rest) next
+    begun_more n worked agrees = record {
       calls = b.calls ++ write rest ∷ [];
       replies = b.replies ++ count n ∷ [];
       goes = λ others later h.
@@ -88,16 +92,16 @@ module _ (can_give : MediumFault → Bool) where
           (subst (λ (rs : List StreamReply). WritesAll bytes (b.calls ++ write rest ∷ others) rs) (sym (append_assoc {A = StreamReply} b.replies (count n ∷ []) later))
           (b.goes (write rest ∷ others) (count n ∷ later) (refl, h)));
       quiet = λ later closing. ap (λ (rs : List StreamReply). first_refusal rs closing) (append_assoc {A = StreamReply} b.replies (count n ∷ []) later) ∙ b.quiet (count n ∷ later) closing;
-      works = works_more (count n) worked;
+      works = works_more (count n) worked agrees;
     }
 
-    pub begun_refused : (refusal : Refusal) → IsWorkedOn now (write rest) (not_done refusal) next → IsWrittenWhole can_give old bytes (Some refusal) next
-    begun_refused refusal worked = record {
+    pub begun_refused : (refusal : Refusal) → IsWorkedOn now (write rest) (not_done refusal) next → Agrees next.file → IsWrittenWhole can_give old bytes (Some refusal) next
+    begun_refused refusal worked agrees = record {
       calls = b.calls ++ write rest ∷ [];
       replies = b.replies ++ not_done refusal ∷ [];
       writes = b.goes (write rest ∷ []) (not_done refusal ∷ []) (refl, refl, refl);
       tells = sym (b.quiet (not_done refusal ∷ []) None);
-      works = works_more (not_done refusal) worked;
+      works = works_more (not_done refusal) worked agrees;
     }
 
   pub begun_done : (old : OpenStream) (bytes rest : List ℕ) (now : OpenStream) → IsBegun old bytes rest now → rest ≡ [] → IsWrittenWhole can_give old bytes None now
@@ -121,23 +125,34 @@ closing_last [] closing = refl
 closing_last (reply ∷ replies) closing =
     ap (λ (o : Option Refusal). first_of (refusal_of_work reply) o) (closing_last replies closing) ∙ first_then (refusal_of_work reply) (first_refusal replies None) closing
 
+-- a refused creation leaves in memory what the bytes say
+by_stays : (old new : FileState) → StaysOrFails old new → Agrees old → Agrees new
+by_stays old new (inl before) agrees = agrees_as_before old new before agrees
+by_stays old new (inr failed) agrees = λ unfailed. absurd (let w : true ≡ false = sym failed ∙ unfailed in cc)
+
+pub not_made_agrees : (can_give : MediumFault → Bool) (old new : FileState) (path : List ℕ) (e : Error) → IsRefusedBy can_give old (create_stream path) new e → Agrees old → Agrees new
+not_made_agrees can_give old new path (Medium f) why agrees = by_stays old new why.stays agrees
+not_made_agrees can_give old new path e why agrees = subst (λ (file : FileState). Agrees file) (sym why.stays) agrees
+
 module _ (can_give : MediumFault → Bool) (old new : FileState) (path bytes : List ℕ) where
-  pub put_not : (refusal : Refusal) → CallKeeps can_give old (create_stream path) (refused refusal) new → IsPut can_give old path bytes (Some refusal) new
-  put_not refusal keeps = record {
+  pub put_not : (refusal : Refusal) → CallKeeps can_give old (create_stream path) (refused refusal) new → Agrees new → IsPut can_give old path bytes (Some refusal) new
+  put_not refusal keeps agrees = record {
     calls = [];
     reply = replied (refused refusal);
     writes = refl;
     tells = refl;
+    agrees = agrees;
     answers = refused_so can_give old new creates path [] refusal keeps;
   }
 
   pub put_so : (s now : OpenStream) (written closing told : Option Refusal) → IsOpenedBy can_give (create_stream path) old path s
-      → IsWrittenWhole can_give s bytes written now → IsClosedOf s.file now closing new → told ≡ first_of written closing → IsPut can_give old path bytes told new
-  put_so s now written closing told o w closed is = record {
+      → IsWrittenWhole can_give s bytes written now → IsClosedOf s.file now closing new → Agrees new → told ≡ first_of written closing → IsPut can_give old path bytes told new
+  put_so s now written closing told o w closed agrees is = record {
     calls = w.calls;
     reply = streamed w.replies closing;
     writes = w.writes;
     tells = is ∙ ap (λ (r : Option Refusal). first_of r closing) w.tells ∙ sym (closing_last w.replies closing);
+    agrees = agrees;
     answers = done_so can_give old new creates path s now w.calls w.replies closing o
         (λ first tree same. w.works first s.file path tree same o.since o.lends) closed;
   }

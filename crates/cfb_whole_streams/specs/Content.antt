@@ -13,7 +13,7 @@ use Rattle.cfb_rules.specs.Refusal.{Refusal}
 use Rattle.cfb_rules.specs.Runs.{StreamCallRuns, StreamRun, opened_by_path}
 use Rattle.cfb_rules.specs.StreamCalls.{StreamCall, StreamReply, answered, count, got, not_done, offset, read_to_end, ready, write}
 use Rattle.cfb_whole_streams.specs.cfb_mini_sectors.State.{cases_of}
-use Rattle.cfb_whole_streams.specs.cfb_agreement.Files.{FileState, SameSetting, failures_of, is_failed}
+use Rattle.cfb_whole_streams.specs.cfb_agreement.Files.{Agrees, FileState, SameSetting, failures_of, is_failed}
 use Rattle.cfb_whole_streams.specs.cfb_path_changes.Answers.{Answers, AnswersNot, MeansTree, setting_of}
 use Rattle.cfb_whole_streams.specs.cfb_compound_file.Stored.{kept_of}
 use Rattle.cfb_whole_streams.specs.cfb_compound_file.StreamAnswers.{OpenStream, causes_of_reading}
@@ -87,12 +87,14 @@ module _ (can_give : MediumFault → Bool) where
     pub works : (first opened : FileState) (path : List ℕ) (tree : Tree) → SameSetting first opened → IsOpenSince opened path old → LendsNothing old
         → Works can_give first opened path tree old calls replies new
 
-  -- by one command of the rules the stream at this path is made or emptied, all of these bytes are written, and it is closed; or the first refusal is told
+  -- by one command of the rules the stream at this path is made or emptied, all of these bytes are written, and it is closed; or the first refusal is
+  -- told. What the file keeps in memory is what its bytes say then
   pub record IsPut (old : FileState) (path bytes : List ℕ) (told : Option Refusal) (new : FileState) : Type 0 where
     pub calls : List StreamCall
     pub reply : CommandReply
     pub writes : WritesOn bytes calls reply
     pub tells : told ≡ refusal_in reply
+    pub agrees : Agrees new
     pub answers : commands.AnswersCommand can_give old (on_stream creates path calls) reply new
 
 -- ---- copied

@@ -79,7 +79,10 @@ fn write_all<F: Medium, A: Heap + Clone>(
 {
     let mut rest = bytes;
     while !rest.is_empty() {
-        let count = stream.write(rest)?;
+        let wrote = stream.write(rest);
+        // What the file keeps in memory is what its bytes say.
+        let _is_failed = stream.is_failed();
+        let count = wrote?;
         // a write of bytes takes at least one of them
         if count == 0 {
             return Err(Error::Medium(MediumFault::Stuck));

@@ -31,7 +31,7 @@ loop-command-preserved g c =
           c.run_one-reply.result c.push_reserved.ensures.items least (i.given told) (c.run_one-reply.ensures.given told);
       runs = λ told. runs_more _ c.args.file.now c.loop-command.file c.run_one-reply.new.file c.args.commands.now c.loop-command.command-index c.command-item.result first
           c.loop-command.replies.items c.push_reserved.new.self.items c.run_one-reply.result c.loop-command-test.true c.command-item.is c.push_reserved.ensures.items least (i.runs told)
-          (c.run_one-reply.ensures.answers told);
+          (c.run_one-reply.ensures.answers told) (c.is_failed-now_failed.ensures.agrees told);
     }
 
 pub returns-clause-order : goal.returns-clause-order

@@ -28,7 +28,7 @@ loop-op-preserved g c =
           let w = i.works told first opened path tree same since nothing in
           works_more _ first opened path tree same (open_of c.args.stream.now) (open_of c.loop-op.stream) (open_of c.work-reply.new.stream) c.args.ops.now c.loop-op.op-index
           c.op-item.result c.loop-op.replies.items c.push_reserved.new.self.items c.work-reply.result c.loop-op-test.true c.op-item.is c.push_reserved.ensures.items w
-          (c.work-reply.ensures.works told w.lends);
+          (c.work-reply.ensures.works told w.lends) (c.is_failed-is_failed.ensures.agrees told);
     }
 
 pub returns-clause-works : goal.returns-clause-works

@@ -1,6 +1,5 @@
-use Rattle.std.proofs.Common.{◌≡◌, false, length, true}
-use Rattle.std.specs.Prelude.{◌||◌, IsTrue}
-use Rattle.cfb_agreement.specs.Files.{SameSetting, is_failed}
+use Rattle.std.proofs.Common.{◌≡◌, length}
+use Rattle.std.specs.Prelude.{◌||◌}
 use Rattle.cfb_compound_file.specs.Streams.{file_of, open_of}
 use Rattle.cfb_compound_file.proofs.Writing.{IsBegun}
 use Rattle.cfb_compound_file.proofs.stream.Stream+F+A.write_all.Given as goal
@@ -8,11 +7,7 @@ use Rattle.cfb_compound_file.proofs.stream.Stream+F+A.write_all.Given as goal
 abbrev pub invariant-loop-rest : goal.invariant-loop-rest
 invariant-loop-rest g l = record {
   same_file : (file_of l.self).ghost_name ≡ (file_of l.fn.self).ghost_name;
-  setting : SameSetting (file_of l.fn.self).now (file_of l.self).now;
-  unfailed : is_failed (file_of l.fn.self).now ≡ false;
-  still_unfailed : is_failed (file_of l.self).now ≡ false;
-  begun : IsTrue g.F.ReadMedium.tells
-      → IsBegun (λ f. g.F.ReadMedium.read_faults f || g.F.Medium.write_faults f) (open_of l.fn.self) l.bytes l.rest (open_of l.self);
+  begun : IsBegun g.F.ReadMedium.tells (λ f. g.F.ReadMedium.read_faults f || g.F.Medium.write_faults f) (open_of l.fn.self) l.bytes l.rest (open_of l.self);
 }
 
 abbrev pub decreases-loop-rest : goal.decreases-loop-rest
