@@ -51,7 +51,13 @@ pub returns-clause-untouched : goal.returns-clause-untouched
 returns-clause-untouched g c = λ told.
     untouched _ c.args.file.now c.loop-command.file _ _ (c.is_failed-is_failed.ensures.agrees told) (c.loop-command.invariant.runs told)
 
-pub returns-clause-of_kinds : goal.returns-clause-of_kinds
-returns-clause-of_kinds g c =
-    subst (λ (commands : List (TheCommand g.row.A.Denot)). AreOfKinds (map kind_of_command commands) (drop (length c.args.replies.now.items) c.loop-command.replies.items))
-    (take_all c.loop-command.command-index c.args.commands.now c.loop-command-test.false) c.loop-command.invariant.of_kinds
+pub returns-clause-replied : goal.returns-clause-replied
+returns-clause-replied g c =
+    let i = c.loop-command.invariant in
+    record {
+      kept = i.kept;
+      one_each = grind (arith, i.count, c.loop-command-test.false);
+      of_kinds = subst (λ (commands : List (TheCommand g.row.A.Denot)). AreOfKinds (map kind_of_command commands) (drop (length c.args.replies.now.items) c.loop-command.replies.items))
+          (take_all c.loop-command.command-index c.args.commands.now c.loop-command-test.false) i.of_kinds;
+      asked = i.asked;
+    }
