@@ -113,13 +113,12 @@ impl<T: Drop> From<AllocFailed<T>> for Refusal {
 }
 
 impl Place {
-    /// How it is named in messages.
+    /// The file's name in messages. Standard input and output have none.
     fn name<'a>(self, about: About<'a>) -> &'a str {
         match self {
             Place::File => about.file,
             Place::Other => about.other.unwrap_or(""),
-            Place::Input => "standard input",
-            Place::Output => "standard output",
+            Place::Input | Place::Output => "",
         }
     }
 }
@@ -198,6 +197,9 @@ pub(crate) fn tell<E: Output>(refusal: Refusal, about: About<'_>, faults: &mut E
         Refusal::TargetExists => writeln!(faults, "cfbtool: target exists"),
         Refusal::Opening(e) => tell_error(e, About::new(about.file), faults),
         Refusal::Of(e) => tell_error(e, about, faults),
+        Refusal::System(Place::Input | Place::Output, _) => {
+            writeln!(faults, "cfbtool: medium failed")
+        }
         Refusal::System(place, e) => tell_system(place.name(about), &e, faults),
         Refusal::Busy => writeln!(faults, "cfbtool: {file}: another program is changing it"),
         Refusal::NotText => {

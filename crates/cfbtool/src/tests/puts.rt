@@ -44,7 +44,7 @@ const READ: &[&[&str]] = &[
     &["put", "@none", "/b"], &["run", "@none"],
 ];
 
-const INPUT_FAILED: &[u8] = b"cfbtool: medium failed: standard input: other error\n";
+const INPUT_FAILED: &[u8] = b"cfbtool: medium failed\n";
 
 #[rattlefmt::skip]
 const PRINTED: &[&[&str]] = &[
@@ -54,7 +54,7 @@ const PRINTED: &[&[&str]] = &[
     &["--version"],
 ];
 
-const OUTPUT_FAILED: &[u8] = b"cfbtool: medium failed: standard output: other error\n";
+const OUTPUT_FAILED: &[u8] = b"cfbtool: medium failed\n";
 
 #[rattlefmt::skip]
 static ALL_PUT: &[Step<'static>] = &[
