@@ -2,8 +2,9 @@
 //! storages and streams below it, a stream has bytes, and a path like `/storage/stream` leads to an object.
 //!
 //! **Where to start.** `open`, `open_rw`, `create` take a path of the system; `CompoundFile::{open, create}` any medium, as a `MemoryMedium`
-//! or a `SliceMedium`. `open_read_stream` and `create_stream` give a stream with std's `Read`, `BufRead`, `Seek` and `Write`. `walk`, `entry`
-//! and `read_storage` tell what is there. The crate `cfb_example` goes there and back.
+//! or a `SliceMedium`. `read_stream`, `write_stream` and `copy_stream` do a stream whole; `open_read_stream` and `create_stream` give one with
+//! std's `Read`, `BufRead`, `Seek` and `Write`. `walk`, `entry` and `read_storage` tell what is there. The crate `cfb_tasks` has ten short
+//! examples, and `cfb_example` one that goes there and back.
 //!
 //! **Errors.** A call answers `Error`, which `?` turns into an `io::Error`. What was refused by the rules has changed nothing; where the
 //! medium, memory or numbers refuse in the midst of a change, `is_failed` tells whether the file takes no more changes.
@@ -41,6 +42,8 @@ pub use cfb_shown::moments::to_iso;
 pub use cfb_slices::seek::SeekMedium;
 pub use cfb_slices::slice::SliceMedium;
 pub use cfb_std_streams::kinds::{std_error, std_kind};
+pub use cfb_whole_streams::content::{read_stream, write_stream};
+pub use cfb_whole_streams::copying::copy_stream;
 
 /// Why a file is not sound, and what its sectors are used for: what `CompoundFile::flaws` and `sector_owners` tell.
 pub mod flaws {

@@ -9,6 +9,3 @@ pub mod Runs
 pub mod Explained
 pub mod Pieces
 pub mod Stored
-pub mod WholeWrites
-pub mod WholePuts
-pub mod WholeReads

@@ -1,6 +1,6 @@
 -- A list of commands, one by one, and the line of each.
 use Rattle.std.proofs.Common.{◌≡◌, ◌∙◌, ◌+◌, ◌-◌, ◌^◌, ◌<◌, ◌≤◌, ℕ, Bool, false, List, [], ◌∷◌, ◌++◌, ap, arith, drop, get_or, length, length-append, map, min, refl, subst, sym, take}
-use Rattle.std.proofs.lemmas.List.{drop_all, drop_more, length-drop, length-take-le, map_more}
+use Rattle.std.proofs.lemmas.List.{drop_more, length-drop, length-take-le, map_more}
 use Rattle.std.specs.Prelude.{None, Some, IsTrue, unwrap_or}
 use Rattle.std.specs.List.{slice_get}
 use Rattle.cfb_format.specs.declared.error.Error.{Error}
@@ -14,10 +14,6 @@ use Rattle.cfb_commands.specs.declared.command.Command.{Command as TheCommand}
 use Rattle.cfb_commands.specs.Commands.{command_of, refusal_of_error}
 use Rattle.cfb_tool.specs.Playing.{ArePlayed, IsPlayed}
 use Rattle.cfb_tool.proofs.Runs.{all_but, all_ok}
-
--- nothing is left behind the end
-pub past_end : (bytes : List ℕ) (n : ℕ) → length bytes ≤ n → drop n bytes ≡ []
-past_end bytes n past = drop_all n bytes past
 
 -- what is printed of a kind
 pub digit : (e : Error) (n : ℕ) → n ≡ number_of e → min (48 + n) (2 ^ 8 - 1) ≡ 48 + refusal_number (refusal_of_error e)

@@ -8,7 +8,8 @@ use Rattle.cfb_rules.specs.Calls.{Reply}
 use Rattle.cfb_rules.specs.Refusal.{Refusal}
 use Rattle.cfb_rules.specs.StreamCalls.{StreamCall, StreamReply}
 use Rattle.cfb_commands.specs.Commands.{call_answer, refusal_of_result, refusal_of_error, stream_answer}
-use Rattle.cfb_tool.specs.Playing.{bytes_of_work, first_of, first_refusal, last_count, last_write, refusal_of_call, refusal_of_work, taken_by_work}
+use Rattle.cfb_tool.specs.Playing.{bytes_of_work, last_count, last_write}
+use Rattle.cfb_whole_streams.specs.Told.{first_of, first_refusal, refusal_of_call, refusal_of_work, taken_by_work}
 
 -- a call by path
 pub told_by_call : {T : Type 0} (answer : T → Reply) (result : Result T Error) → ((x : T) → refusal_of_call (answer x) ≡ None)

@@ -4,7 +4,8 @@ use Rattle.std.proofs.lemmas.Bool.{eqb-true}
 use Rattle.std.specs.Prelude.{MatchBool, Option, Some, None}
 use Rattle.cfb_rules.specs.Lists.{Command, CommandReply}
 use Rattle.cfb_rules.specs.Refusal.{Refusal, medium_failed, out_of_memory}
-use Rattle.cfb_tool.specs.Playing.{AddsInTurn, PlaysAll, PlaysOne, Unless, addition, bytes_written, is_all_done, path_written, refusal_in, taken_in, told_line, told_lines}
+use Rattle.cfb_tool.specs.Playing.{AddsInTurn, PlaysAll, PlaysOne, Unless, addition, bytes_written, is_all_done, path_written, taken_in, told_line, told_lines}
+use Rattle.cfb_whole_streams.specs.Told.{refusal_in}
 
 -- ---- what is left is added
 

@@ -2,7 +2,7 @@
 use Rattle.std.specs.Prelude.{ℕ, ◌≢◌, List, [], ◌∷◌, codes}
 use Rattle.cfb_format.specs.declared.version.Version.TheVariants.{V3, V4}
 use Rattle.cfb_tool.specs.declared.asking.Asked.{Asked}
-use Rattle.cfb_tool.specs.declared.asking.Asked.TheVariants.{Create, ListAll, ListAt, DetailsAll, DetailsAt, TreeAll, TreeAt, Cat, Put, PutFrom, Check, CheckStrict, Compact, Run, RunExplained, OneChange, OneChangeBy, Help, LongHelp, ShortHelp, HelpOn, HelpBehind, Version}
+use Rattle.cfb_tool.specs.declared.asking.Asked.TheVariants.{Create, ListAll, ListAt, DetailsAll, DetailsAt, TreeAll, TreeAt, Cat, Put, PutFrom, Check, CheckStrict, Compact, Salvage, Run, RunExplained, OneChange, OneChangeBy, Help, LongHelp, ShortHelp, HelpOn, HelpBehind, Version}
 use Rattle.cfb_tool.specs.Word.{change_text, word_text}
 
 -- the words that ask for this
@@ -21,6 +21,7 @@ words_for (PutFrom file path from) = codes "put" ∷ file.now ∷ path.now ∷ f
 words_for (Check file) = codes "check" ∷ file.now ∷ []
 words_for (CheckStrict file) = codes "check" ∷ file.now ∷ codes "strict" ∷ []
 words_for (Compact file target) = codes "compact" ∷ file.now ∷ target.now ∷ []
+words_for (Salvage file target) = codes "salvage" ∷ file.now ∷ target.now ∷ []
 words_for (Run file) = codes "run" ∷ file.now ∷ []
 words_for (RunExplained file) = codes "run" ∷ codes "-e" ∷ file.now ∷ []
 words_for (OneChange change file path) = change_text change ∷ file.now ∷ path.now ∷ []

@@ -10,5 +10,4 @@ pub mod Asking
 pub mod Listing
 pub mod Details
 pub mod Playing
-pub mod Content
 pub mod Laws

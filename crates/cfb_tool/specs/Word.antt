@@ -3,7 +3,7 @@ use Rattle.std.specs.Prelude.{ℕ, List, codes}
 use Rattle.cfb_tool.specs.declared.word.Change.{Change}
 use Rattle.cfb_tool.specs.declared.word.Change.TheVariants.{Mkdir, Mkdirs, Rmdir, Rmtree, Rm, Touch, Bits, Len, Clsid, Add}
 use Rattle.cfb_tool.specs.declared.word.Word.{Word}
-use Rattle.cfb_tool.specs.declared.word.Word.TheVariants.{Ls, Tree, Check, Cat, Create, Put, Changing, Run, Compact}
+use Rattle.cfb_tool.specs.declared.word.Word.TheVariants.{Ls, Tree, Check, Cat, Create, Put, Changing, Run, Compact, Salvage}
 
 abbrev pub change_text : Change → List ℕ
 change_text Mkdir = codes "mkdir"
@@ -27,3 +27,4 @@ word_text Put = codes "put"
 word_text (Changing change) = change_text change
 word_text Run = codes "run"
 word_text Compact = codes "compact"
+word_text Salvage = codes "salvage"

@@ -37,6 +37,8 @@ pub enum Asked<'a> {
     CheckStrict(&'a str),
     /// `compact FILE NEW`: a copy in which no sector is free.
     Compact(&'a str, &'a str),
+    /// `salvage FILE NEW`: a new file with what can be read of this one.
+    Salvage(&'a str, &'a str),
     /// `run FILE`: the commands on standard input, one a line.
     Run(&'a str),
     /// `run -e FILE`: the same, and each refusal is explained.
@@ -167,6 +169,7 @@ fn asked_of_two<'a>(call: &str, first: &'a str, second: &'a str) -> Option<Asked
         "put" => Some(Asked::Put(first, second)),
         "check" => asked_of_mode(first, second),
         "compact" => Some(Asked::Compact(first, second)),
+        "salvage" => Some(Asked::Salvage(first, second)),
         "run" => asked_of_option(first, second),
         _ => match change_by(call) {
             Some(change) => Some(Asked::OneChange(change, first, second)),

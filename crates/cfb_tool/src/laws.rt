@@ -1,5 +1,6 @@
 //! What is told to be done is stored. The function does nothing: it has laws as its contract.
-ghost use Rattle.cfb_tool.specs.Laws.{AddedIsStored, PutIsStored, WrittenIsStored};
+ghost use Rattle.cfb_tool.specs.Laws.{AddedIsStored, PutIsStored};
+ghost use Rattle.cfb_whole_streams.specs.Laws.{WrittenIsStored};
 
 use cfb_rules::laws::Seen;
 

@@ -2,7 +2,6 @@
 #![tactic(auto)]
 
 pub mod asking;
-pub mod content;
 pub mod details;
 pub mod explaining;
 pub mod laws;

@@ -12,6 +12,7 @@ use cfb_commands::command::{Command, Opening, Reply, StreamOp};
 use cfb_commands::run::run;
 use cfb_format::error::Error;
 use cfb_format::medium::{Medium, MediumFault};
+use cfb_whole_streams::content::behind;
 use std::alloc::Allocator as Heap;
 use std::io::SeekFrom;
 
@@ -53,17 +54,6 @@ fn adding<A: Heap + Clone>(alloc: &A, path: &str, bytes: &[u8]) -> Result<Vec<Co
     let mut one = Vec::with_capacity(alloc.clone()?, 1)?;
     one.push(Command::Stream(Opening::Open, path, ops))?;
     Ok(one)
-}
-
-/// What is left behind so many bytes.
-#[tactic(auto, using(crate::proofs::Pieces::past_end))]
-pub(crate) fn behind(bytes: &[u8], count: usize) -> &[u8]
-    ensures { result.now ≡ drop count bytes.now }
-{
-    if bytes.len() <= count {
-        return &[];
-    }
-    &bytes[count..]
 }
 
 /// Writes these bytes at the end of the stream at this path, opening it again for as much as one

@@ -2,7 +2,8 @@
 ghost use Rattle.std.specs.Prelude.{◌≡◌, [], chars, map, MatchOption};
 ghost use Rattle.std.specs.Option.{option_map};
 ghost use Rattle.cfb_commands.specs.Commands.{refusal_of_result, command_of, refusal_of_error, command_reply_of, stream_call_of, stream_reply_of};
-ghost use Rattle.cfb_tool.specs.Playing.{bytes_of_work, bytes_written, first_refusal, last_count, path_written, refusal_in, refusal_of_work, taken_by_work, taken_in};
+ghost use Rattle.cfb_tool.specs.Playing.{bytes_of_work, bytes_written, last_count, path_written, taken_in};
+ghost use Rattle.cfb_whole_streams.specs.Told.{first_refusal, refusal_in, refusal_of_work, taken_by_work};
 
 use cfb_commands::command::{Command, Reply, StreamOp, StreamReply};
 use cfb_format::error::Error;

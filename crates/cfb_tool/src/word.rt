@@ -41,6 +41,7 @@ pub enum Word {
     Changing(Change),
     Run,
     Compact,
+    Salvage,
 }
 
 impl Change {
@@ -78,6 +79,7 @@ impl Word {
             Word::Changing(change) => change.text(),
             Word::Run => "run",
             Word::Compact => "compact",
+            Word::Salvage => "salvage",
         }
     }
 }
@@ -118,6 +120,7 @@ pub fn word_by(text: &str) -> Option<Word>
         "put" => Some(Word::Put),
         "run" => Some(Word::Run),
         "compact" => Some(Word::Compact),
+        "salvage" => Some(Word::Salvage),
         _ => match change_by(text) {
             Some(change) => Some(Word::Changing(change)),
             None => None,

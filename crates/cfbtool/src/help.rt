@@ -16,6 +16,7 @@ pub(crate) const HELP: &str =
   mkdir mkdirs rmdir rmtree rm touch bits len clsid add FILE PATH ...
   run [-e] FILE           such lines from standard input; -e: explains refusals
   compact FILE NEW        a copy without free sectors
+  salvage FILE NEW        what can be read of a damaged file
 
 PATH is /storage/stream, in any case of letters; \\u0005 is the character U+0005.
 Status: 0 done, 1 refused, 2 wrong words. More: cfbtool help WORD.
@@ -52,5 +53,6 @@ pub(crate) fn help_on(word: Word) -> &'static str {
         Word::Changing(change) => help_on_change(change),
         Word::Run => texts::RUN,
         Word::Compact => texts::COMPACT,
+        Word::Salvage => texts::SALVAGE,
     }
 }

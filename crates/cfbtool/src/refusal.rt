@@ -165,7 +165,9 @@ impl<'a> About<'a> {
             | Asked::OneChange(_, file, path)
             | Asked::OneChangeBy(_, file, path, _) => About::new(file).at(path),
             Asked::PutFrom(file, path, other) => About::new(file).at(path).and(other),
-            Asked::Compact(file, other) => About::new(file).and(other),
+            Asked::Compact(file, other) | Asked::Salvage(file, other) => {
+                About::new(file).and(other)
+            }
             _ => About::new(""),
         }
     }

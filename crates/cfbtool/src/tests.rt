@@ -25,6 +25,7 @@ mod opening;
 mod puts;
 mod refusals;
 mod runs;
+mod salvages;
 mod samples;
 mod shows;
 mod trees;

@@ -8,6 +8,7 @@ use changes::{change_one, put_from, put_input, run_explained, run_input};
 use compact::compact;
 use files::{create, is_there};
 use looks::look;
+use salvage::salvage;
 use std::fs::File;
 use std::io::{Read, Write};
 use std::process::ExitCode;
@@ -19,6 +20,7 @@ mod details;
 mod files;
 mod lines;
 mod looks;
+mod salvage;
 mod tree;
 
 /// Does what the words say, with `input` as standard input, `out` as standard output and `faults`
@@ -40,6 +42,8 @@ mod tree;
 ///   first refusal, with the status 1 and nothing on `faults`. A line that is no command makes the
 ///   words wrong, and then nothing is done. `run -e FILE` explains both on `faults`.
 /// - `compact FILE NEW`: a copy in a new file, in which no sector is free.
+/// - `salvage FILE NEW`: what can be read of a damaged file, or of one that was cut short, in a new
+///   file, and on `out` what is not whole; the status is 1 then.
 /// - `help`, `--help`, `-h`, `help WORD`, `WORD --help`, `--version`: what the words are.
 pub fn tool<H: Files<File = File> + AllocGlobal, R: Read, W: Output, E: Output>(
     rt: &H,
@@ -93,6 +97,7 @@ fn answer<H: Files<File = File> + AllocGlobal, R: Read, W: Output, E: Output>(
         Asked::Run(path) => run_input(rt, path, input, out),
         Asked::RunExplained(path) => run_explained(rt, path, input, out, faults),
         Asked::Compact(path, target) => compact(rt, path, target),
+        Asked::Salvage(path, target) => salvage(rt, path, target, out),
         _ => look(rt, asked, out),
     }
 }

@@ -227,3 +227,17 @@ version 3 sound
 
 Fails if NEW is there, or a stream cannot be read whole.
 ";
+
+pub(super) const SALVAGE: &str = "cfbtool salvage FILE NEW
+
+Copies what can be read of FILE into the new file NEW: each storage, and of each
+stream the bytes up to the first that cannot be read. FILE is only read.
+Of a file that was cut short it reads what is left.
+'cut' GOT OF PATH, 'lost' 0 OF PATH: GOT of OF bytes of a stream were read.
+
+Example: cfbtool salvage a.cfb b.cfb
+kept\t1 of 1 streams\t6 of 6 bytes
+
+Fails if NEW is there, or nothing can be read (status 1), and has status 1 where
+not all is kept, or FILE was cut short.
+";

@@ -18,6 +18,7 @@ const SCREEN: &[u8] =
   mkdir mkdirs rmdir rmtree rm touch bits len clsid add FILE PATH ...
   run [-e] FILE           such lines from standard input; -e: explains refusals
   compact FILE NEW        a copy without free sectors
+  salvage FILE NEW        what can be read of a damaged file
 
 PATH is /storage/stream, in any case of letters; \\u0005 is the character U+0005.
 Status: 0 done, 1 refused, 2 wrong words. More: cfbtool help WORD.
@@ -36,6 +37,7 @@ const SCREENS: &[Run<'static>] = &[
 const ALL: &[&str] = &[
     "ls", "tree", "check", "cat", "create", "put", "mkdir", "mkdirs", "rmdir", "rmtree", "rm",
     "touch", "bits", "len", "clsid", "add", "run", "compact",
+    "salvage",
 ];
 
 /// Whether it begins with this word behind the program's name, and each line has 80 bytes at most.

@@ -9,7 +9,6 @@ use crate::output::Output;
 use crate::refusal::Refusal;
 use cfb::{Command, Error, Medium};
 use cfb_text::meant::meant;
-use cfb_tool::content::put_content;
 use cfb_tool::explaining::play_explained;
 use std::alloc::Global;
 use std::fs;
@@ -69,7 +68,7 @@ fn put_into<F: Medium>(
     bytes: &[u8],
 ) -> Result<(), Refusal> {
     let mut file = opened(alloc, medium)?;
-    put_content(&mut file, stream, bytes).map_err(Refusal::Of)
+    cfb::write_stream(&mut file, stream, bytes).map_err(Refusal::Of)
 }
 
 /// One change.

@@ -9,7 +9,6 @@ use crate::refusal::{About, Refusal};
 use cfb::{CompoundFile, ReadMedium};
 use cfb_text::meant::meant;
 use cfb_tool::asking::Asked;
-use cfb_tool::content::content_at;
 use cfb_tool::listing::{listing, listing_at, shown_listing, shown_listing_at};
 use cfb_tool::soundness::soundness_line;
 use std::alloc::Global;
@@ -109,7 +108,7 @@ fn cat<F: ReadMedium, W: Output>(
     stream: &str,
     out: &mut W,
 ) -> Result<(), Refusal> {
-    let bytes = content_at(alloc, file, stream)?;
+    let bytes = cfb::read_stream(alloc, file, stream)?;
     if out.is_terminal() && !is_plain_text(bytes.as_slice()) {
         return Err(Refusal::NotText);
     }

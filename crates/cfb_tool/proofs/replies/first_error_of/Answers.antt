@@ -1,7 +1,7 @@
 use Rattle.std.proofs.Common.{◌≡◌, ◌∙◌, ap, arith, drop, map, sym}
 use Rattle.std.proofs.lemmas.List.{drop_all}
 use Rattle.cfb_commands.specs.Commands.{refusal_of_result, stream_reply_of}
-use Rattle.cfb_tool.specs.Playing.{first_refusal}
+use Rattle.cfb_whole_streams.specs.Told.{first_refusal}
 use Rattle.cfb_tool.proofs.Telling.{caught_at, passed_at}
 use Rattle.cfb_tool.proofs.replies.first_error_of.Goals as goal
 

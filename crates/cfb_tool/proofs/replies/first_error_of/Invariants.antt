@@ -1,6 +1,6 @@
 use Rattle.std.proofs.Common.{◌≡◌, drop, map}
 use Rattle.cfb_commands.specs.Commands.{refusal_of_result, stream_reply_of}
-use Rattle.cfb_tool.specs.Playing.{first_refusal}
+use Rattle.cfb_whole_streams.specs.Told.{first_refusal}
 use Rattle.cfb_tool.proofs.replies.first_error_of.Given as goal
 
 abbrev pub invariant-loop-reply : goal.invariant-loop-reply

@@ -1,8 +1,8 @@
 use Rattle.std.proofs.Common.{◌≡◌, length}
 use Rattle.std.specs.Prelude.{◌||◌, IsTrue}
-use Rattle.cfb_tool.specs.cfb_compound_file.Streams.{file_of, open_of}
-use Rattle.cfb_tool.proofs.WholeWrites.{IsBegun}
-use Rattle.cfb_tool.proofs.content.write_all.Given as goal
+use Rattle.cfb_whole_streams.specs.cfb_compound_file.Streams.{file_of, open_of}
+use Rattle.cfb_whole_streams.proofs.WholeWrites.{IsBegun}
+use Rattle.cfb_whole_streams.proofs.content.write_all.Given as goal
 
 abbrev pub invariant-loop-rest : goal.invariant-loop-rest
 invariant-loop-rest g l = record {

@@ -12,16 +12,16 @@ use Rattle.cfb_rules.specs.Lists.{CommandReply, creates, on_stream, replied, str
 use Rattle.cfb_rules.specs.Refusal.{Refusal}
 use Rattle.cfb_rules.specs.Runs.{StreamCallRuns, StreamRun, opened_by_path}
 use Rattle.cfb_rules.specs.StreamCalls.{StreamCall, StreamReply, answered, count, got, not_done, offset, read_to_end, ready, write}
-use Rattle.cfb_tool.specs.cfb_mini_sectors.State.{cases_of}
-use Rattle.cfb_tool.specs.cfb_agreement.Files.{Agrees, FileState, SameSetting, failures_of, is_failed}
-use Rattle.cfb_tool.specs.cfb_path_changes.Answers.{Answers, AnswersNot, MeansTree, setting_of}
-use Rattle.cfb_tool.specs.cfb_compound_file.Stored.{kept_of}
-use Rattle.cfb_tool.specs.cfb_compound_file.StreamAnswers.{OpenStream, causes_of_reading}
+use Rattle.cfb_whole_streams.specs.cfb_mini_sectors.State.{cases_of}
+use Rattle.cfb_whole_streams.specs.cfb_agreement.Files.{Agrees, FileState, SameSetting, failures_of, is_failed}
+use Rattle.cfb_whole_streams.specs.cfb_path_changes.Answers.{Answers, AnswersNot, MeansTree, setting_of}
+use Rattle.cfb_whole_streams.specs.cfb_compound_file.Stored.{kept_of}
+use Rattle.cfb_whole_streams.specs.cfb_compound_file.StreamAnswers.{OpenStream, causes_of_reading}
 use Rattle.cfb_commands.specs.Commands.{refusal_of_error}
 use Rattle.cfb_commands.specs.Promised.{IsOpenSince}
 use Rattle.cfb_commands.specs.Working.{LendsNothing, Works}
 use Rattle.cfb_commands.specs.Working as commands
-use Rattle.cfb_tool.specs.Playing.{first_refusal, refusal_in}
+use Rattle.cfb_whole_streams.specs.Told.{first_refusal, refusal_in}
 
 -- ---- what is stored
 
@@ -96,3 +96,25 @@ module _ (can_give : MediumFault → Bool) where
     pub tells : told ≡ refusal_in reply
     pub agrees : Agrees new
     pub answers : commands.AnswersCommand can_give old (on_stream creates path calls) reply new
+
+-- ---- copied
+
+module _ (can_give : MediumFault → Bool) where
+  -- so many bytes, all that the stream at the one path has, were put at the other
+  pub record IsCopied (from : FileState) (from_path : List ℕ) (old : FileState) (path : List ℕ) (new : FileState) (n : ℕ) : Type 0 where
+    pub bytes : List ℕ
+    pub had : HoldsStream from from_path bytes
+    pub count : n ≡ length bytes
+    pub put : IsPut can_give old path bytes None new
+    pub has : HoldsStream new path bytes
+
+  -- all bytes of the one stream were read, but putting them at the other path was refused so
+  pub record IsPutNot (from : FileState) (from_path : List ℕ) (old : FileState) (path : List ℕ) (new : FileState) (e : Error) : Type 0 where
+    pub bytes : List ℕ
+    pub had : HoldsStream from from_path bytes
+    pub put : IsPut can_give old path bytes (Some (refusal_of_error e)) new
+
+  -- the one was not read, and then the other file is as it was; or it was not put
+  abbrev pub IsNotCopied : (from : FileState) → List ℕ → (from_now : FileState) → (old : FileState) → List ℕ → (new : FileState) → Error → Type 0
+  IsNotCopied from from_path from_now old path new e =
+      (IsNotRead from from_path from_now e × (new ≡ old)) ⊎ IsPutNot from from_path old path new e

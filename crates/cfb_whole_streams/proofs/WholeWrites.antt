@@ -10,19 +10,19 @@ use Rattle.cfb_rules.specs.Calls.{create_stream, refused}
 use Rattle.cfb_rules.specs.Refusal.{Refusal, invalid_input, not_sound}
 use Rattle.cfb_rules.specs.Runs.{Causes, IsStreamBroken, StreamCallRuns, StreamOnFailed, StreamRun, is_served}
 use Rattle.cfb_rules.specs.StreamCalls.{Moves, StreamCall, StreamReply, StreamSetting, StreamState, StreamStep, Write, Wrote, count, not_done, write}
-use Rattle.cfb_tool.specs.cfb_agreement.Changes.{StaysOrFails}
-use Rattle.cfb_tool.specs.cfb_agreement.Files.{Agrees, FileState, SameSetting}
-use Rattle.cfb_tool.proofs.cfb_compound_file.StoredStreams.{agrees_as_before}
-use Rattle.cfb_tool.specs.cfb_stream_buffer.Contents.{stream_setting_of}
-use Rattle.cfb_tool.specs.cfb_stream_window.Windows.{Runs}
-use Rattle.cfb_tool.specs.cfb_path_changes.Answers.{IsRefusedBy, causes_of}
-use Rattle.cfb_tool.specs.cfb_compound_file.StreamAnswers.{OpenStream, StreamRunsOn, run_in, stored_in}
+use Rattle.cfb_whole_streams.specs.cfb_agreement.Changes.{StaysOrFails}
+use Rattle.cfb_whole_streams.specs.cfb_agreement.Files.{Agrees, FileState, SameSetting}
+use Rattle.cfb_whole_streams.proofs.cfb_compound_file.StoredStreams.{agrees_as_before}
+use Rattle.cfb_whole_streams.specs.cfb_stream_buffer.Contents.{stream_setting_of}
+use Rattle.cfb_whole_streams.specs.cfb_stream_window.Windows.{Runs}
+use Rattle.cfb_whole_streams.specs.cfb_path_changes.Answers.{IsRefusedBy, causes_of}
+use Rattle.cfb_whole_streams.specs.cfb_compound_file.StreamAnswers.{OpenStream, StreamRunsOn, run_in, stored_in}
 use Rattle.cfb_commands.specs.Promised.{CallKeeps, IsClosedOf, IsOpenSince, IsWorkedOn}
 use Rattle.cfb_commands.specs.Working.{AnswersCommand, IsOpenedBy, LendsNothing, Works}
 use Rattle.cfb_commands.proofs.Openings.{done_so, refused_so}
 use Rattle.cfb_commands.proofs.Working.{works_none, works_on}
-use Rattle.cfb_tool.specs.Content.{IsPut, IsWrittenWhole, WritesAll}
-use Rattle.cfb_tool.specs.Playing.{first_of, first_refusal, refusal_of_work, taken_by_work}
+use Rattle.cfb_whole_streams.specs.Content.{IsPut, IsWrittenWhole, WritesAll}
+use Rattle.cfb_whole_streams.specs.Told.{first_of, first_refusal, refusal_of_work, taken_by_work}
 
 -- ---- a write takes something
 

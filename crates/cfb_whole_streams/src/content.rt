@@ -1,19 +1,22 @@
 //! All bytes of a stream, read and written.
-ghost use Rattle.std.specs.Prelude.{◌≡◌, ◌||◌, IsTrue, IfErr, IfOk, OnOk, chars};
+ghost use Rattle.std.specs.Prelude.{◌≡◌, ◌||◌, IsTrue, IfErr, IfOk, OnOk, chars, drop};
 ghost use Rattle.cfb_commands.specs.Commands.{refusal_of_result};
 ghost use Rattle.cfb_commands.specs.Faults.{CanBeGiven};
-ghost use Rattle.cfb_tool.specs.cfb_compound_file.Streams.{file_of, open_of};
-ghost use Rattle.cfb_tool.specs.Content.{CountsReading, HoldsStream, IsNotRead, IsOnlyRead, IsPut, IsWrittenWhole};
+ghost use Rattle.cfb_whole_streams.specs.cfb_compound_file.Streams.{file_of, open_of};
+ghost use Rattle.cfb_whole_streams.specs.Content.{CountsReading, HoldsStream, IsNotRead, IsOnlyRead, IsPut, IsWrittenWhole};
 
-use crate::playing::behind;
 use cfb_commands::{CompoundFile, Stream};
 use cfb_format::error::Error;
 use cfb_format::medium::{Medium, MediumFault, ReadMedium};
 use std::alloc::Allocator as Heap;
 
-/// All bytes of the stream at this path. It is refused as `open_read_stream` and `read_to_end` are.
-/// Nothing changes but the count of failures.
-pub fn content_at<F: ReadMedium, A: Heap + Clone>(
+/// All bytes of the stream at this path, in memory of `alloc`. Nothing of the file changes but the count of failures.
+///
+/// # Errors
+///
+/// As `open_read_stream` and `read_to_end`: `NotFound` and `InvalidInput` for the path, `InvalidData` where the bytes can't all be read
+/// (MS-CFB 2.3), `Medium`, `Memory`, `Failed`.
+pub fn read_stream<F: ReadMedium, A: Heap + Clone>(
     alloc: A,
     file: &mut CompoundFile<F, A>,
     path: &str,
@@ -36,10 +39,13 @@ pub fn content_at<F: ReadMedium, A: Heap + Clone>(
     Ok(bytes)
 }
 
-/// Makes a stream with these bytes at this path, or gives them to the one that is there in place of
-/// its own. It is refused as `create_stream`, `write` and `close` are; and then it may be there with
-/// a beginning of the bytes.
-pub fn put_content<F: Medium, A: Heap + Clone>(
+/// Makes a stream with exactly these bytes at this path, or gives them to the one that is there in place of its own.
+///
+/// # Errors
+///
+/// As `create_stream`, `write` and `close`: `NotFound` and `InvalidInput` for the path, `InvalidInput` past the greatest length that the
+/// version has, `Unsound`, `Full`, `Medium`, `Memory`, `Failed`. The stream may be there then, with a beginning of the bytes.
+pub fn write_stream<F: Medium, A: Heap + Clone>(
     file: &mut CompoundFile<F, A>,
     path: &str,
     bytes: &[u8],
@@ -84,4 +90,15 @@ fn write_all<F: Medium, A: Heap + Clone>(
         rest = behind(rest, count);
     }
     Ok(())
+}
+
+/// What is left behind so many bytes.
+#[tactic(auto, using(crate::proofs::Behind::past_end))]
+pub fn behind(bytes: &[u8], count: usize) -> &[u8]
+    ensures { result.now ≡ drop count bytes.now }
+{
+    if bytes.len() <= count {
+        return &[];
+    }
+    &bytes[count..]
 }

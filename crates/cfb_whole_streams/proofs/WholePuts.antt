@@ -7,16 +7,16 @@ use Rattle.cfb_format.specs.Names.{Cases}
 use Rattle.cfb_format.specs.Tree.{Tree}
 use Rattle.cfb_format.proofs.Unique.{Means-unique}
 use Rattle.cfb_rules.specs.Lists.{creates, on_stream}
-use Rattle.cfb_tool.specs.cfb_mini_sectors.State.{bytes_of, cases_of}
-use Rattle.cfb_tool.specs.cfb_agreement.Files.{Agrees, FileState}
-use Rattle.cfb_tool.specs.cfb_path_changes.Answers.{MeansTree, setting_of}
+use Rattle.cfb_whole_streams.specs.cfb_mini_sectors.State.{bytes_of, cases_of}
+use Rattle.cfb_whole_streams.specs.cfb_agreement.Files.{Agrees, FileState}
+use Rattle.cfb_whole_streams.specs.cfb_path_changes.Answers.{MeansTree, setting_of}
 use Rattle.cfb_commands.specs.Promised.{promised}
 use Rattle.cfb_commands.specs.Seen.{seen_as, standing_at}
 use Rattle.cfb_commands.proofs.Made.{run_stays}
 use Rattle.cfb_commands.specs.Commands.{refusal_of_result}
-use Rattle.cfb_tool.specs.Content.{HasStream, HoldsStream, IsPut}
-use Rattle.cfb_tool.proofs.Stored.{written_is_stored}
-use Rattle.cfb_tool.proofs.cfb_volume.Settings.{setting-same}
+use Rattle.cfb_whole_streams.specs.Content.{HasStream, HoldsStream, IsPut}
+use Rattle.cfb_whole_streams.proofs.Stored.{written_is_stored}
+use Rattle.cfb_whole_streams.proofs.cfb_volume.Settings.{setting-same}
 use Rattle.cfb_commands.proofs.Runs.{some_tree}
 
 module _ (can_give : MediumFault → Bool) (old new : FileState) (path bytes : List ℕ) where

@@ -1,0 +1,16 @@
+//! Files in memory.
+use cfb::{CompoundFile, Error, MemoryMedium, SliceMedium};
+use std::alloc::Global;
+
+/// The bytes of a file with one stream.
+pub fn packed(alloc: Global, bytes: &[u8]) -> Result<Vec<u8>, Error> {
+    let mut file = CompoundFile::create(alloc, MemoryMedium::new(alloc))?;
+    cfb::write_stream(&mut file, "/data", bytes)?;
+    Ok(file.into_inner().into_bytes())
+}
+
+/// The stream of such a file, which is read where it stands.
+pub fn unpacked(alloc: Global, file: &[u8]) -> Result<Vec<u8>, Error> {
+    let mut file = CompoundFile::open(alloc, SliceMedium::new(file))?;
+    cfb::read_stream(alloc, &mut file, "/data")
+}

@@ -1,0 +1,188 @@
+//! `salvage`.
+use super::files::{is_there, to_make, to_read};
+use super::print;
+use crate::lent::Lent;
+use crate::refusal::Refusal;
+use crate::shown::Shown;
+use cfb::{CompoundFile, Entry, Error, Extent, FileMedium, FileReadMedium, ReadMedium, Salvaged};
+use cfb_mending::mending::mended;
+use cfb_mending::patches::Mended;
+use std::alloc::Global;
+use std::fs;
+use std::fs::File;
+use std::io::Write;
+use std::rt::Files;
+
+/// `salvage`. Something at the target is found before the file is opened, and where nothing comes of it
+/// nothing stays there.
+pub(super) fn salvage<H: Files<File = File> + AllocGlobal, W: Write>(
+    rt: &H,
+    path: &str,
+    target: &str,
+    out: &mut W,
+) -> Result<(), Refusal> {
+    if is_there(rt, target) {
+        return Err(Refusal::TargetExists);
+    }
+    let mut medium = to_read(rt, path)?;
+    match salvaged(rt, &mut medium, target) {
+        Ok(report) => report.print(out),
+        Err(refusal) => Err(refusal.because(medium.last_error())),
+    }
+}
+
+/// What is told of a run.
+#[derive(Drop)]
+struct Report {
+    lines: String,
+    /// Whether all is kept.
+    is_whole: bool,
+}
+
+impl Report {
+    fn print<W: Write>(&self, out: &mut W) -> Result<(), Refusal> {
+        print(self.lines.as_bytes(), out)?;
+        if self.is_whole {
+            Ok(())
+        } else {
+            Err(Refusal::Told)
+        }
+    }
+}
+
+/// A file that is not accepted is read once more as one that was cut short. What that lost can't be
+/// told, so not all of it is kept.
+fn salvaged<H: Files<File = File> + AllocGlobal>(
+    rt: &H,
+    medium: &mut FileReadMedium,
+    target: &str,
+) -> Result<Report, Refusal> {
+    let refused = match CompoundFile::open(rt.alloc(), Lent(medium)) {
+        Ok(mut file) => return salvage_to(rt, &mut file, target),
+        Err(refused) => refused,
+    };
+    if !is_of_bytes(refused) {
+        return Err(Refusal::Opening(refused));
+    }
+    match opened_cut(rt.alloc(), Lent(medium)) {
+        Ok(mut file) => {
+            let report = salvage_to(rt, &mut file, target)?;
+            Ok(Report {
+                is_whole: false,
+                ..report
+            })
+        }
+        Err(e) if is_of_bytes(e) => Err(Refusal::Opening(refused)),
+        Err(e) => Err(Refusal::Opening(e)),
+    }
+}
+
+fn opened_cut<F: ReadMedium>(alloc: Global, medium: F) -> Result<CompoundFile<Mended<F>>, Error> {
+    CompoundFile::open(alloc, mended(alloc, medium)?)
+}
+
+/// Whether a file was refused for its bytes.
+fn is_of_bytes(e: Error) -> bool {
+    matches!(e, Error::InvalidData(_))
+}
+
+fn salvage_to<H: Files<File = File> + AllocGlobal, F: ReadMedium>(
+    rt: &H,
+    file: &mut CompoundFile<F>,
+    target: &str,
+) -> Result<Report, Refusal> {
+    let made = to_make(rt, target)?;
+    let told = salvage_into(rt.alloc(), file, made);
+    if told.is_err() {
+        let _ = fs::remove_file(rt, target);
+    }
+    told
+}
+
+fn salvage_into<F: ReadMedium>(
+    alloc: Global,
+    file: &mut CompoundFile<F>,
+    mut made: FileMedium,
+) -> Result<Report, Refusal> {
+    let extents = extents_of(file, Lent(&mut made));
+    match (extents, made.last_error()) {
+        (Ok(extents), _) => Ok(report_of(alloc, file, &extents)?),
+        (Err(Error::Medium(_)), Some(e)) => Err(Refusal::of_other_system(e)),
+        (Err(e), _) => Err(Refusal::Of(e)),
+    }
+}
+
+/// Fills the new file, and lets it go.
+fn extents_of<F: ReadMedium>(
+    file: &mut CompoundFile<F>,
+    made: Lent<'_, FileMedium>,
+) -> Result<Vec<Extent>, Error> {
+    let Salvaged { file: _, extents } = file.salvage_to(made)?;
+    Ok(extents)
+}
+
+/// The streams that are not whole, and what is kept in all. `Memory`.
+fn report_of<F: ReadMedium>(
+    alloc: Global,
+    file: &CompoundFile<F>,
+    extents: &[Extent],
+) -> Result<Report, Error> {
+    let mut lines = String::new(alloc);
+    let mut sums = Sums::default();
+    let streams = file.walk()?.filter(|entry| entry.is_stream());
+    for (entry, extent) in streams.zip(extents) {
+        sums.add(extent);
+        push_line(&mut lines, &entry, extent)?;
+    }
+    sums.push_line(&mut lines)?;
+    Ok(Report {
+        lines,
+        is_whole: sums.whole == sums.streams,
+    })
+}
+
+/// Appends a line on a stream that is not whole. `Memory`.
+fn push_line(lines: &mut String, entry: &Entry, extent: &Extent) -> Result<(), Error> {
+    let Extent { kept, len } = *extent;
+    let path = Shown(entry.path());
+    match kept {
+        _ if kept == len => {}
+        0 => writeln!(lines, "lost\t0\t{len}\t{path}")?,
+        _ => writeln!(lines, "cut\t{kept}\t{len}\t{path}")?,
+    }
+    Ok(())
+}
+
+/// How many streams there are, and how many of them are whole; how many bytes they are told to have, and
+/// how many are kept. A sum past the greatest number stops there.
+#[derive(Clone, Copy, Default)]
+struct Sums {
+    streams: u64,
+    whole: u64,
+    told: u64,
+    kept: u64,
+}
+
+impl Sums {
+    fn add(&mut self, extent: &Extent) {
+        let whole = u64::from(extent.kept == extent.len);
+        self.streams = self.streams.saturating_add(1);
+        self.whole = self.whole.saturating_add(whole);
+        self.told = self.told.saturating_add(extent.len);
+        self.kept = self.kept.saturating_add(extent.kept);
+    }
+
+    fn push_line(&self, lines: &mut String) -> Result<(), Error> {
+        let Sums {
+            streams,
+            whole,
+            told,
+            kept,
+        } = *self;
+        writeln!(
+            lines,
+            "kept\t{whole} of {streams} streams\t{kept} of {told} bytes"
+        )?;
+        Ok(())
+    }
+}
