@@ -1,7 +1,7 @@
 //! Copies of which each call of a medium and each request for memory goes wrong in turn.
 ghost use Rattle.std.specs.Prelude.{◌≡◌, [], IsTrue};
 
-use crate::objects::{SHORT_STREAMS, are_alike, filled, put};
+use crate::objects::{SHORT_STREAMS, StreamRow, are_alike, filled, put};
 use cfb_compound_file::compound_file::CompoundFile;
 use cfb_format::error::Error;
 use cfb_format::medium::{Medium, MediumFault, ReadMedium};
@@ -29,6 +29,16 @@ const FAULTS: [(Fault, Error, u64); 4] = [
     (Fault::Read, Error::Medium(MediumFault::Read), 2), (Fault::Write, Error::Medium(MediumFault::Write), 4),
     (Fault::Request, Error::Memory, 1), (Fault::Growth, Error::Medium(MediumFault::Memory), 1),
 ];
+
+/// The call that copies.
+#[derive(Clone, Copy)]
+enum Call {
+    Copy,
+    Salvage,
+}
+
+/// One in mini sectors and one in sectors.
+const SHORTER_STREAMS: [StreamRow; 2] = [("/Été/ß", 100, 0), ("/Été/Ω", 4096, 2)];
 
 /// More of each than a copy has.
 const TURNS: u64 = 5000;
@@ -60,14 +70,29 @@ fn is_kept<F: ReadMedium, A: Allocator + Clone>(
     are_alike(alloc, source, &mut copy)
 }
 
+/// How a call is refused, if it is.
+fn refusal<F: ReadMedium, A: Allocator + Clone, W: Medium>(
+    source: &mut CompoundFile<F, A>,
+    dest: W,
+    call: Call,
+) -> Option<Error>
+    requires empty_medium { IsTrue W.tells → W.bytes dest ≡ [] }
+{
+    match call {
+        Call::Copy => source.copy_to(dest).err(),
+        Call::Salvage => source.salvage_to(dest).err(),
+    }
+}
+
 fn turn_of<F: ReadMedium, A: Allocator + Clone, W: Medium>(
     alloc: Global,
     source: &mut CompoundFile<F, A>,
     dest: W,
+    call: Call,
 ) -> Result<Turn, Error>
     requires empty_medium { IsTrue W.tells → W.bytes dest ≡ [] }
 {
-    let Some(refused) = source.copy_to(dest).err() else {
+    let Some(refused) = refusal(source, dest, call) else {
         return Ok(Turn::Copied);
     };
     if is_kept(alloc, source)? {
@@ -92,7 +117,7 @@ fn copied(
     heap: &Refusing<Global>,
     growth: &Refusing<Global>,
     bytes: Vec<u8>,
-    (fault, before): (Fault, u64),
+    (call, fault, before): (Call, Fault, u64),
 ) -> Result<Turn, Error> {
     let (read, write) = failing_calls(fault, before);
     let medium = Failing::once(MemoryMedium::from_bytes(bytes), Kind::Read, read);
@@ -105,23 +130,35 @@ fn copied(
         _ => {}
     }
     let dest = Failing::once(MemoryMedium::new(growth), Kind::Write, write);
-    turn_of(alloc, &mut source, dest)
+    turn_of(alloc, &mut source, dest, call)
 }
 
-fn played(alloc: Global, bytes: &[u8], fault: Fault, before: u64) -> Result<Turn, Error> {
+fn played(
+    alloc: Global,
+    bytes: &[u8],
+    call: Call,
+    fault: Fault,
+    before: u64,
+) -> Result<Turn, Error> {
     let bytes = Vec::from_slice(alloc, bytes)?;
     let heap = Refusing::new(alloc);
     let growth = Refusing::new(alloc);
-    copied(alloc, &heap, &growth, bytes, (fault, before))
+    copied(alloc, &heap, &growth, bytes, (call, fault, before))
 }
 
 /// Plays a fault at each place in turn, up to some copies without one: how many were refused as they are to be, and whether no turn
 /// was wrong.
-fn refusals(alloc: Global, bytes: &[u8], fault: Fault, error: Error) -> Result<(u64, bool), Error> {
+fn refusals(
+    alloc: Global,
+    bytes: &[u8],
+    call: Call,
+    fault: Fault,
+    error: Error,
+) -> Result<(u64, bool), Error> {
     let mut refusals = 0u64;
     let mut copies = 0u64;
     for before in 0..TURNS {
-        match played(alloc, bytes, fault, before)? {
+        match played(alloc, bytes, call, fault, before)? {
             Turn::Copied => copies = copies.saturating_add(1),
             Turn::Refused(e) if e == error && copies == 0 => refusals = refusals.saturating_add(1),
             Turn::Unopened if refusals == 0 => {}
@@ -174,10 +211,10 @@ fn turned(alloc: Global, cut: bool) -> Result<Vec<u8>, Fail> {
     Ok(file.into_inner().into_bytes())
 }
 
-/// Whether each fault is told and leaves a file with these bytes as it was.
-fn are_told(alloc: Global, bytes: &[u8]) -> Result<bool, Error> {
+/// Whether each fault is told so wherever it comes, often enough.
+fn are_told(alloc: Global, bytes: &[u8], call: Call) -> Result<bool, Error> {
     for (fault, error, at_least) in &FAULTS {
-        let (count, is_right) = refusals(alloc, bytes, *fault, *error)?;
+        let (count, is_right) = refusals(alloc, bytes, call, *fault, *error)?;
         if !is_right || count < *at_least {
             return Ok(false);
         }
@@ -188,7 +225,14 @@ fn are_told(alloc: Global, bytes: &[u8]) -> Result<bool, Error> {
 #[test]
 fn faults_are_told_and_leave_the_file(rt: HostRuntime) -> Result<(), Fail> {
     let bytes = filled(rt.alloc(), Version::V3, &SHORT_STREAMS)?;
-    assert!(rt; are_told(rt.alloc(), &bytes)?);
+    assert!(rt; are_told(rt.alloc(), &bytes, Call::Copy)?);
+    Ok(())
+}
+
+#[test]
+fn faults_of_salvaging_are_told(rt: HostRuntime) -> Result<(), Fail> {
+    let bytes = filled(rt.alloc(), Version::V3, &SHORTER_STREAMS)?;
+    assert!(rt; are_told(rt.alloc(), &bytes, Call::Salvage)?);
     Ok(())
 }
 
@@ -196,7 +240,7 @@ fn faults_are_told_and_leave_the_file(rt: HostRuntime) -> Result<(), Fail> {
 fn faults_leave_a_file_whose_stream_has_moved(rt: HostRuntime) -> Result<(), Fail> {
     for cut in [false, true] {
         let bytes = turned(rt.alloc(), cut)?;
-        assert!(rt; are_told(rt.alloc(), &bytes)?, "{cut}");
+        assert!(rt; are_told(rt.alloc(), &bytes, Call::Copy)?, "{cut}");
     }
     Ok(())
 }

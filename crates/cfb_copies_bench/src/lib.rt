@@ -4,6 +4,10 @@
 #[cfg(test)]
 mod copying;
 #[cfg(test)]
+mod cut;
+#[cfg(test)]
 mod faults;
 #[cfg(test)]
 mod objects;
+#[cfg(test)]
+mod salvaging;

@@ -2,7 +2,7 @@
 use Rattle.std.specs.Prelude.{ℕ, ◌≢◌, List, [], ◌∷◌, codes}
 use Rattle.cfb_format.specs.declared.version.Version.TheVariants.{V3, V4}
 use Rattle.cfb_tool.specs.declared.asking.Asked.{Asked}
-use Rattle.cfb_tool.specs.declared.asking.Asked.TheVariants.{Create, ListAll, ListAt, DetailsAll, DetailsAt, TreeAll, TreeAt, Cat, Put, PutFrom, Check, CheckStrict, Compact, Salvage, Run, RunExplained, OneChange, OneChangeBy, Help, LongHelp, ShortHelp, HelpOn, HelpBehind, Version}
+use Rattle.cfb_tool.specs.declared.asking.Asked.TheVariants.{Create, ListAll, ListAt, DetailsAll, DetailsAt, TreeAll, TreeAt, Cat, Put, PutFrom, Check, CheckStrict, Compact, Salvage, Run, RunExplained, OneChange, OneChangeBy, Help, LongHelp, ShortHelp, HelpOn, HelpBehind, Version, Info, Map, ExtractAll, ExtractAt}
 use Rattle.cfb_tool.specs.Word.{change_text, word_text}
 
 -- the words that ask for this
@@ -15,11 +15,15 @@ words_for (DetailsAll file) = codes "ls" ∷ codes "-l" ∷ file.now ∷ []
 words_for (DetailsAt file path) = codes "ls" ∷ codes "-l" ∷ file.now ∷ path.now ∷ []
 words_for (TreeAll file) = codes "tree" ∷ file.now ∷ []
 words_for (TreeAt file path) = codes "tree" ∷ file.now ∷ path.now ∷ []
+words_for (Info file) = codes "info" ∷ file.now ∷ []
+words_for (Map file) = codes "map" ∷ file.now ∷ []
 words_for (Cat file path) = codes "cat" ∷ file.now ∷ path.now ∷ []
 words_for (Put file path) = codes "put" ∷ file.now ∷ path.now ∷ []
 words_for (PutFrom file path from) = codes "put" ∷ file.now ∷ path.now ∷ from.now ∷ []
 words_for (Check file) = codes "check" ∷ file.now ∷ []
 words_for (CheckStrict file) = codes "check" ∷ file.now ∷ codes "strict" ∷ []
+words_for (ExtractAll file folder) = codes "extract" ∷ file.now ∷ folder.now ∷ []
+words_for (ExtractAt file path folder) = codes "extract" ∷ file.now ∷ path.now ∷ folder.now ∷ []
 words_for (Compact file target) = codes "compact" ∷ file.now ∷ target.now ∷ []
 words_for (Salvage file target) = codes "salvage" ∷ file.now ∷ target.now ∷ []
 words_for (Run file) = codes "run" ∷ file.now ∷ []
@@ -38,6 +42,8 @@ abbrev pub TakesOptions : Asked → Type 0
 TakesOptions (ListAll file) = file.now ≢ codes "--help"
 TakesOptions (ListAt file _) = file.now ≢ codes "-l"
 TakesOptions (TreeAll file) = file.now ≢ codes "--help"
+TakesOptions (Info file) = file.now ≢ codes "--help"
+TakesOptions (Map file) = file.now ≢ codes "--help"
 TakesOptions (Check file) = file.now ≢ codes "--help"
 TakesOptions (Run file) = file.now ≢ codes "--help"
 TakesOptions _ = Unit {0}

@@ -25,6 +25,10 @@ pub enum Asked<'a> {
     TreeAll(&'a str),
     /// `tree FILE PATH`: the same from the object at this path on.
     TreeAt(&'a str, &'a str),
+    /// `info FILE`: a report on the file, and why it is not sound.
+    Info(&'a str),
+    /// `map FILE`: which sectors belong to what.
+    Map(&'a str),
     /// `cat FILE PATH`: the bytes of the stream at this path.
     Cat(&'a str, &'a str),
     /// `put FILE PATH`: a stream at this path, with the bytes of standard input.
@@ -35,6 +39,10 @@ pub enum Asked<'a> {
     Check(&'a str),
     /// `check FILE strict`: the same, and what does no harm is refused too.
     CheckStrict(&'a str),
+    /// `extract FILE DIR`: all streams as files of a new folder.
+    ExtractAll(&'a str, &'a str),
+    /// `extract FILE PATH DIR`: the same of the object at this path.
+    ExtractAt(&'a str, &'a str, &'a str),
     /// `compact FILE NEW`: a copy in which no sector is free.
     Compact(&'a str, &'a str),
     /// `salvage FILE NEW`: a new file with what can be read of this one.
@@ -148,6 +156,8 @@ fn asked_of_file<'a>(call: &str, file: &'a str) -> Option<Asked<'a>>
     match call {
         "ls" => Some(Asked::ListAll(file)),
         "tree" => Some(Asked::TreeAll(file)),
+        "info" => Some(Asked::Info(file)),
+        "map" => Some(Asked::Map(file)),
         "check" => Some(Asked::Check(file)),
         "run" => Some(Asked::Run(file)),
         _ => None,
@@ -168,6 +178,7 @@ fn asked_of_two<'a>(call: &str, first: &'a str, second: &'a str) -> Option<Asked
         "cat" => Some(Asked::Cat(first, second)),
         "put" => Some(Asked::Put(first, second)),
         "check" => asked_of_mode(first, second),
+        "extract" => Some(Asked::ExtractAll(first, second)),
         "compact" => Some(Asked::Compact(first, second)),
         "salvage" => Some(Asked::Salvage(first, second)),
         "run" => asked_of_option(first, second),
@@ -246,6 +257,7 @@ fn asked_of_three<'a>(
     match call {
         "ls" => asked_of_details(first, second, third),
         "put" => Some(Asked::PutFrom(first, second, third)),
+        "extract" => Some(Asked::ExtractAt(first, second, third)),
         _ => match change_by(call) {
             Some(change) => Some(Asked::OneChangeBy(change, first, second, third)),
             None => None,

@@ -8,6 +8,7 @@ pub mod laws;
 pub mod listing;
 pub mod playing;
 mod replies;
+pub mod reports;
 pub mod soundness;
 pub mod tree;
 pub mod word;

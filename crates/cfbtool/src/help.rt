@@ -9,8 +9,11 @@ pub(crate) const HELP: &str =
 
   ls [-l] FILE [PATH]     objects: d or f, length, path; -l: ids, bits, times
   tree FILE [PATH]        the same as a tree
+  info FILE               header, sectors, and why the file is not sound
+  map FILE                which sectors belong to what
   check FILE [strict]     sound (status 0) or not (1)
   cat FILE PATH           the bytes of a stream
+  extract FILE [PATH] DIR all streams into a new folder
   create 3|4 FILE         an empty file; EMPTIES one that is there
   put FILE PATH [FROM]    a stream, from FROM or standard input
   mkdir mkdirs rmdir rmtree rm touch bits len clsid add FILE PATH ...
@@ -46,8 +49,11 @@ pub(crate) fn help_on(word: Word) -> &'static str {
     match word {
         Word::Ls => texts::LS,
         Word::Tree => texts::TREE,
+        Word::Info => texts::INFO,
+        Word::Map => texts::MAP,
         Word::Check => texts::CHECK,
         Word::Cat => texts::CAT,
+        Word::Extract => texts::EXTRACT,
         Word::Create => texts::CREATE,
         Word::Put => texts::PUT,
         Word::Changing(change) => help_on_change(change),

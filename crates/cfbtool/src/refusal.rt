@@ -153,6 +153,8 @@ impl<'a> About<'a> {
             | Asked::ListAll(file)
             | Asked::DetailsAll(file)
             | Asked::TreeAll(file)
+            | Asked::Info(file)
+            | Asked::Map(file)
             | Asked::Check(file)
             | Asked::CheckStrict(file)
             | Asked::Run(file)
@@ -164,10 +166,12 @@ impl<'a> About<'a> {
             | Asked::Put(file, path)
             | Asked::OneChange(_, file, path)
             | Asked::OneChangeBy(_, file, path, _) => About::new(file).at(path),
-            Asked::PutFrom(file, path, other) => About::new(file).at(path).and(other),
-            Asked::Compact(file, other) | Asked::Salvage(file, other) => {
-                About::new(file).and(other)
+            Asked::PutFrom(file, path, other) | Asked::ExtractAt(file, path, other) => {
+                About::new(file).at(path).and(other)
             }
+            Asked::ExtractAll(file, other)
+            | Asked::Compact(file, other)
+            | Asked::Salvage(file, other) => { About::new(file).and(other) }
             _ => About::new(""),
         }
     }

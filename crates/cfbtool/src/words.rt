@@ -6,7 +6,9 @@ use cfb_tool::asking::{Asked, asked_by};
 use cfb_tool::word::{Word, word_by};
 use changes::{change_one, put_from, put_input, run_explained, run_input};
 use compact::compact;
+use extract::extract_to;
 use files::{create, is_there};
+use info::info;
 use looks::look;
 use salvage::salvage;
 use std::fs::File;
@@ -17,7 +19,9 @@ use std::rt::Files;
 mod changes;
 mod compact;
 mod details;
+mod extract;
 mod files;
+mod info;
 mod lines;
 mod looks;
 mod salvage;
@@ -31,9 +35,13 @@ mod tree;
 /// - `ls [-l] FILE [PATH]`: a line for each object, or for each from the one at this path on: `d` or
 ///   `f`, its length, and its path; with `-l` all of its fields.
 /// - `tree FILE [PATH]`: the same objects as a tree.
+/// - `info FILE`: a report on the file, and why it is not sound, with the status 1 and nothing on
+///   `faults` where it is not.
+/// - `map FILE`: which sectors belong to what.
 /// - `check FILE`, `check FILE strict`: prints `version V sound`, or `version V not sound` with the
 ///   status 1 and nothing on `faults`.
 /// - `cat FILE PATH`: the bytes of this stream on `out`, none where it is refused.
+/// - `extract FILE [PATH] DIR`: all streams as files of a new folder.
 /// - `create 3 FILE`, `create 4 FILE`: a new empty file of this version; an old one is overwritten.
 /// - `put FILE PATH [FROM]`: a stream at this path, with the bytes of `input`, or those of FROM.
 /// - `mkdir`, `mkdirs`, `rmdir`, `rmtree`, `rm`, `touch`, `bits`, `len`, `clsid`, `add`, then
@@ -98,6 +106,11 @@ fn answer<H: Files<File = File> + AllocGlobal, R: Read, W: Output, E: Output>(
         Asked::RunExplained(path) => run_explained(rt, path, input, out, faults),
         Asked::Compact(path, target) => compact(rt, path, target),
         Asked::Salvage(path, target) => salvage(rt, path, target, out),
+        Asked::Info(path) => info(rt, path, out),
+        Asked::ExtractAll(_, folder) | Asked::ExtractAt(_, _, folder) if is_there(rt, folder) => {
+            Err(Refusal::TargetExists)
+        }
+        Asked::ExtractAll(..) | Asked::ExtractAt(..) => extract_to(rt, About::of(asked), faults),
         _ => look(rt, asked, out),
     }
 }

@@ -32,6 +32,35 @@ Example: cfbtool tree a.cfb
 Fails if FILE is no compound file, or nothing is at PATH.
 ";
 
+pub(super) const INFO: &str = "cfbtool info FILE
+
+Version and length, what sectors, mini sectors and directory entries are used
+for, whether strict opening takes the file, and whether it is sound. If not
+(status 1), up to 20 reasons: what is used twice, which chains break, and which
+streams cannot be read to their ends.
+
+Example: cfbtool info a.cfb | tail -n 2
+strict            yes
+sound             yes
+
+Fails if FILE is no compound file.
+";
+
+pub(super) const MAP: &str = "cfbtool map FILE
+
+A line for each run of sectors: the first and the last, a tab, and what has
+them: a part of the file, or the stream at a path. 'free' says that they are
+marked as free, 'unused' that nothing has them though they are not.
+What is used twice has both users, with a tab between.
+
+Example: cfbtool map a.cfb
+0\tthe FAT
+1\tthe directory
+2\tthe MiniFAT
+3\tthe mini stream
+Fails if FILE is no compound file.
+";
+
 pub(super) const CHECK: &str = "cfbtool check FILE [strict]
 
 'version V sound' (status 0) or 'version V not sound' (1): a file is sound if no
@@ -54,6 +83,20 @@ Example: cfbtool cat a.cfb /docs/note
 hello
 
 Fails if no stream is at PATH, or it cannot be read whole.
+";
+
+pub(super) const EXTRACT: &str = "cfbtool extract FILE [PATH] DIR
+
+Makes the folder DIR: a folder for each storage, a file for each stream, or what
+is at PATH. In names control characters and \" * / : < > ? \\ | % become % and two
+hexadecimal digits (%u and four above U+00FF); an empty name and a first '.' or
+'-' get a '%' in front.
+
+Example: cfbtool extract a.cfb out && cat out/docs/note
+hello
+
+Fails if DIR is there. Of a stream that cannot be read whole it writes the first
+bytes, says so and goes on; the status is 1.
 ";
 
 pub(super) const CREATE: &str = "cfbtool create 3|4 FILE

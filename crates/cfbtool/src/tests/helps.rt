@@ -11,8 +11,11 @@ const SCREEN: &[u8] =
 
   ls [-l] FILE [PATH]     objects: d or f, length, path; -l: ids, bits, times
   tree FILE [PATH]        the same as a tree
+  info FILE               header, sectors, and why the file is not sound
+  map FILE                which sectors belong to what
   check FILE [strict]     sound (status 0) or not (1)
   cat FILE PATH           the bytes of a stream
+  extract FILE [PATH] DIR all streams into a new folder
   create 3|4 FILE         an empty file; EMPTIES one that is there
   put FILE PATH [FROM]    a stream, from FROM or standard input
   mkdir mkdirs rmdir rmtree rm touch bits len clsid add FILE PATH ...
@@ -35,7 +38,7 @@ const SCREENS: &[Run<'static>] = &[
 /// The words of the screen.
 #[rattlefmt::skip]
 const ALL: &[&str] = &[
-    "ls", "tree", "check", "cat", "create", "put", "mkdir", "mkdirs", "rmdir", "rmtree", "rm",
+    "ls", "tree", "info", "map", "check", "cat", "extract", "create", "put", "mkdir", "mkdirs", "rmdir", "rmtree", "rm",
     "touch", "bits", "len", "clsid", "add", "run", "compact",
     "salvage",
 ];

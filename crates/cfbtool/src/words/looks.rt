@@ -10,6 +10,7 @@ use cfb::{CompoundFile, ReadMedium};
 use cfb_text::meant::meant;
 use cfb_tool::asking::Asked;
 use cfb_tool::listing::{listing, listing_at, shown_listing, shown_listing_at};
+use cfb_tool::reports::map;
 use cfb_tool::soundness::soundness_line;
 use std::alloc::Global;
 use std::fs::File;
@@ -80,6 +81,7 @@ fn show<F: ReadMedium, W: Output>(
         Asked::TreeAll(_) | Asked::TreeAt(..) => tree(alloc, file, at, out),
         Asked::Check(_) | Asked::CheckStrict(_) => print_soundness(alloc, file, out),
         Asked::Cat(..) => cat(alloc, file, at.unwrap_or(""), out),
+        Asked::Map(_) => print_map(alloc, file, out),
         _ => Err(Refusal::WrongWords),
     }
 }
@@ -124,6 +126,16 @@ fn is_plain_text(bytes: &[u8]) -> bool {
             && letter != '\n'),
         Err(_) => false,
     }
+}
+
+/// `map`.
+fn print_map<F: ReadMedium, W: Output>(
+    alloc: Global,
+    file: &CompoundFile<F>,
+    out: &mut W,
+) -> Result<(), Refusal> {
+    let lines = map(&alloc, file)?;
+    print(lines.as_bytes(), out)
 }
 
 /// `check`.

@@ -1,0 +1,16 @@
+pub use Rattle.cfb_compound_file.specs.cfb_entries
+pub use Rattle.cfb_compound_file.specs.cfb_rules
+pub use Rattle.cfb_compound_file.specs.cfb_mini_sectors
+pub use Rattle.cfb_compound_file.specs.cfb_objects
+pub use Rattle.cfb_compound_file.specs.cfb_agreement
+pub use Rattle.cfb_compound_file.specs.cfb_path_changes
+pub mod Items
+pub mod Walks
+pub mod Memory
+pub mod Pieces
+pub mod Breaks
+pub mod Sources
+pub mod Extracted
+pub mod Steps
+pub mod Cuts
+pub mod Answered

@@ -1,0 +1,8 @@
+//! Texts of what the sectors of a file are used for, and of why it is not sound.
+#![tactic(auto)]
+
+pub mod mapping;
+pub mod names;
+mod reasons;
+pub mod report;
+pub mod runs;

@@ -1,0 +1,66 @@
+//! `info`.
+use super::files::{opened, to_read};
+use super::print;
+use crate::lent::Lent;
+use crate::output::Output;
+use crate::refusal::Refusal;
+use cfb::{CompoundFile, Error, ReadMedium};
+use cfb_tool::reports::{About, report};
+use std::alloc::Global;
+use std::fs::File;
+use std::rt::Files;
+
+/// Where the minor version stands in the header (MS-CFB 2.2).
+const MINOR_AT: u64 = 24;
+
+/// Prints the report on FILE; refused with nothing more to tell where the file is not sound.
+pub(super) fn info<H: Files<File = File> + AllocGlobal, W: Output>(
+    rt: &H,
+    path: &str,
+    out: &mut W,
+) -> Result<(), Refusal> {
+    let mut medium = to_read(rt, path)?;
+    let done = report_on(rt.alloc(), path, &mut medium, out);
+    done.map_err(|refusal| refusal.because(medium.last_error()))
+}
+
+fn report_on<F: ReadMedium, W: Output>(
+    alloc: Global,
+    path: &str,
+    medium: &mut F,
+    out: &mut W,
+) -> Result<(), Refusal> {
+    let about = About {
+        name: path,
+        minor: minor_of(medium)?,
+        strict: strict_error(alloc, Lent(medium))?,
+    };
+    let file = opened(alloc, Lent(medium))?;
+    let text = report(&alloc, &file, &about)?;
+    print(text.as_bytes(), out)?;
+    if file.is_sound() {
+        Ok(())
+    } else {
+        Err(Refusal::Told)
+    }
+}
+
+/// The minor version in the header; 0 where the file is too short to have one, which opening refuses
+/// then.
+fn minor_of<F: ReadMedium>(medium: &mut F) -> Result<u16, Error> {
+    let mut bytes = [0u8; 2];
+    let count = medium.read_at(MINOR_AT, &mut bytes)?;
+    if count < bytes.len() {
+        return Ok(0);
+    }
+    Ok(u16::from_le_bytes(bytes))
+}
+
+/// Why strict opening refuses the bytes of a medium, if it does. `Medium`, `Memory`.
+fn strict_error<F: ReadMedium>(alloc: Global, medium: F) -> Result<Option<Error>, Error> {
+    match CompoundFile::open_strict(alloc, medium) {
+        Ok(_) => Ok(None),
+        Err(Error::InvalidData(detail)) => Ok(Some(Error::InvalidData(detail))),
+        Err(e) => Err(e),
+    }
+}
