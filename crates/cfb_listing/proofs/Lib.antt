@@ -11,3 +11,4 @@ pub mod FoundNames
 pub mod ReachedFound
 pub mod MeantNames
 pub mod PathFacts
+pub mod Compared

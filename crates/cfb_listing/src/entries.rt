@@ -4,6 +4,7 @@ ghost use Rattle.std.specs.Iterator.{YieldsFirst, item_count};
 
 use crate::entry::Entry;
 use std::alloc::{Allocator, Global};
+use std::fmt;
 use std::marker::PhantomData;
 
 /// An iterator over what is told of a file's objects. Its list was taken when it was made, so
@@ -43,5 +44,12 @@ impl<'a, F, A: Allocator> Iterator for Entries<'a, F, A> {
 
     fn size_hint(&self) -> (usize, Option<usize>) {
         self.left.size_hint()
+    }
+}
+
+impl<'a, F, A: Allocator> fmt::Debug for Entries<'a, F, A> {
+    fn fmt<W: fmt::Write>(&self, f: &mut fmt::Formatter<W>) -> fmt::Result {
+        let (left, _) = self.left.size_hint();
+        write!(f, "Entries {{ left: {left} }}")
     }
 }

@@ -1,5 +1,6 @@
 //! What is told of one object.
 ghost use Rattle.std.specs.Prelude.{◌≡◌, ◌<◌, ◌||◌, ◌==◌, length, chars, string_bytes, IfOk, IfErr};
+ghost use Rattle.std.specs.Str.{bytes_eq};
 ghost use Rattle.cfb_codecs.specs.EntryModel.{entries_of};
 ghost use Rattle.cfb_format.specs.DirectoryEntry.{name_for, nil_clsid, unless_storage, unless_stream};
 ghost use Rattle.cfb_format.specs.Siblings.{entry_at};
@@ -152,6 +153,33 @@ impl<A: Allocator> fmt::Debug for Entry<A> {
     fn fmt<W: fmt::Write>(&self, f: &mut fmt::Formatter<W>) -> fmt::Result {
         write!(f, "{} ({} bytes)", self.path(), self.len())
     }
+}
+
+impl<A: Allocator> PartialEq for Entry<A> {
+    ghost use Rattle.cfb_listing.specs.Compared.{same_entry, same_entry_laws};
+
+    ghost eq = { same_entry };
+
+    ghost laws = { same_entry_laws };
+
+    /// Whether the same is told of both. How far they stand below the ones that their lists begin with is no part of it.
+    fn eq(&self, other: &Entry<A>) -> bool {
+        is_same_text(self.name(), other.name())
+            && is_same_text(self.path(), other.path())
+            && self.obj_type.as_byte() == other.obj_type.as_byte()
+            && self.len == other.len
+            && self.clsid == other.clsid
+            && self.state_bits == other.state_bits
+            && self.created.value() == other.created.value()
+            && self.modified.value() == other.modified.value()
+    }
+}
+
+/// Whether two texts are the same.
+fn is_same_text(a: &str, b: &str) -> bool
+    ensures { result ≡ bytes_eq (chars a.now) (chars b.now) }
+{
+    a == b
 }
 
 /// What is told of the entry of this number, with this path: what an object of its kind has
