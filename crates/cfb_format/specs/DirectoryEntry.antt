@@ -76,23 +76,17 @@ stored_len version slot = long_at slot 120 % stream_len_modulus version
 
 abbrev pub name_for : ObjType → List ℕ → List ℕ
 name_for Root name = root_entry_name
-name_for Unallocated name = name
-name_for Storage name = name
-name_for Stream name = name
+name_for other name = name
 
 -- class id and moments are a storage's, and the root's
 abbrev pub unless_stream : {X : Type 0} → ObjType → X → X → X
 unless_stream Stream none x = none
-unless_stream Unallocated none x = x
-unless_stream Storage none x = x
-unless_stream Root none x = x
+unless_stream other none x = x
 
 -- start and length are a stream's, and the root's
 abbrev pub unless_storage : ObjType → ℕ → ℕ
 unless_storage Storage n = 0
-unless_storage Unallocated n = n
-unless_storage Stream n = n
-unless_storage Root n = n
+unless_storage other n = n
 
 -- every name but the root's has none of the forbidden characters
 abbrev pub IsAllowedName : ObjType → List ℕ → Type 0
@@ -107,9 +101,7 @@ is_entry_link word = is_regular word || word == no_stream
 -- a stream has no child
 abbrev pub IsAllowedChild : ObjType → ℕ → Type 0
 IsAllowedChild Stream child = child ≡ no_stream
-IsAllowedChild Unallocated child = IsTrue (is_entry_link child)
-IsAllowedChild Storage child = IsTrue (is_entry_link child)
-IsAllowedChild Root child = IsTrue (is_entry_link child)
+IsAllowedChild other child = IsTrue (is_entry_link child)
 
 -- e is what the 128 bytes of a slot hold
 pub record IsEntry (version : Version) (slot : List ℕ) (e : Entry) : Type 0 where

@@ -3,7 +3,7 @@ use Rattle.std.specs.Prelude.{ℕ, ◌+◌, ◌-◌, ◌*◌, ◌/◌, ◌≡◌
 use Rattle.cfb_format.specs.declared.version.Version.{Version}
 use Rattle.cfb_format.specs.declared.version.Version.TheVariants.{V3, V4}
 use Rattle.cfb_format.specs.declared.objtype.ObjType.{ObjType}
-use Rattle.cfb_format.specs.declared.objtype.ObjType.TheVariants.{Unallocated, Storage, Stream, Root}
+use Rattle.cfb_format.specs.declared.objtype.ObjType.TheVariants.{Unallocated}
 use Rattle.cfb_format.specs.Bytes.{sector_len, words_per_sector, entries_per_sector, free_sector}
 use Rattle.cfb_format.specs.Header.{header_difat_len}
 use Rattle.cfb_format.specs.Reading.{Reading, HasReading}
@@ -49,9 +49,7 @@ max_entries = 0xFFFF_FFFB
 -- the entry is not used (MS-CFB 2.6.1)
 abbrev pub is_unallocated : ObjType → Bool
 is_unallocated Unallocated = true
-is_unallocated Storage = false
-is_unallocated Stream = false
-is_unallocated Root = false
+is_unallocated other = false
 
 -- what a length needs: sectors from the cutoff on
 abbrev pub sectors_for : Version → ℕ → ℕ

@@ -133,31 +133,16 @@ changed_names (walk_storage path) = None
 -- the tree after a call that isn't refused
 abbrev pub tree_after : Cases → Call → Tree → Tree
 tree_after cases (create_storage path moment) tree = at_path (storage_added_at cases moment) path tree
-tree_after cases (create_storage_all path moment) tree =
-    at_path (λ names before. with_objects before (storages_added cases moment names before.objects)) path tree
+tree_after cases (create_storage_all path moment) tree = at_path (λ names before. with_objects before (storages_added cases moment names before.objects)) path tree
 tree_after cases (create_stream path) tree = at_path (stream_created_at cases) path tree
 tree_after cases (create_new_stream path) tree = at_path (stream_added_at cases) path tree
-tree_after cases (open_stream path) tree = tree
-tree_after cases (open_read_stream path) tree = tree
 tree_after cases (remove_storage path) tree = at_path (removed_at cases) path tree
 tree_after cases (remove_storage_all path) tree = at_path (removed_at cases) path tree
 tree_after cases (remove_stream path) tree = at_path (removed_at cases) path tree
-tree_after cases (set_storage_clsid path clsid) tree =
-    at_path (fields_changed_at cases (λ info. record info { clsid = clsid }) same_stream) path tree
+tree_after cases (set_storage_clsid path clsid) tree = at_path (fields_changed_at cases (λ info. record info { clsid = clsid }) same_stream) path tree
 tree_after cases (set_state_bits path bits) tree =
     at_path (fields_changed_at cases (λ info. record info { state_bits = bits }) (λ info. record info { state_bits = bits })) path tree
-tree_after cases (set_created_time path moment) tree =
-    at_path (fields_changed_at cases (λ info. record info { created = moment }) same_stream) path tree
-tree_after cases (set_modified_time path moment) tree =
-    at_path (fields_changed_at cases (λ info. record info { modified = moment }) same_stream) path tree
+tree_after cases (set_created_time path moment) tree = at_path (fields_changed_at cases (λ info. record info { created = moment }) same_stream) path tree
+tree_after cases (set_modified_time path moment) tree = at_path (fields_changed_at cases (λ info. record info { modified = moment }) same_stream) path tree
 tree_after cases (touch path moment) tree = at_path (touched_at cases moment) path tree
-tree_after cases flush tree = tree
-tree_after cases (exists path) tree = tree
-tree_after cases (is_stream path) tree = tree
-tree_after cases (is_storage path) tree = tree
-tree_after cases root_entry tree = tree
-tree_after cases read_root_storage tree = tree
-tree_after cases walk tree = tree
-tree_after cases (entry path) tree = tree
-tree_after cases (read_storage path) tree = tree
-tree_after cases (walk_storage path) tree = tree
+tree_after cases call tree = tree

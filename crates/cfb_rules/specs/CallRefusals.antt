@@ -6,7 +6,7 @@ use Rattle.cfb_format.specs.Names.{Cases, is_valid_name}
 use Rattle.cfb_format.specs.Path.{names_of_path}
 use Rattle.cfb_rules.specs.Refusal.{Refusal, not_found, already_exists, invalid_input}
 use Rattle.cfb_format.specs.Tree.{nothing, storage, stream, Tree, Object, object_named, a_storage, a_stream}
-use Rattle.cfb_rules.specs.Calls.{Call, create_storage, create_storage_all, create_stream, create_new_stream, open_stream, open_read_stream, remove_storage, remove_storage_all, remove_stream, set_storage_clsid, set_state_bits, set_created_time, set_modified_time, touch, flush, exists, is_stream, is_storage, root_entry, read_root_storage, walk, entry, read_storage, walk_storage}
+use Rattle.cfb_rules.specs.Calls.{Call, create_storage, create_storage_all, create_stream, create_new_stream, open_stream, open_read_stream, remove_storage, remove_storage_all, remove_stream, set_storage_clsid, set_state_bits, set_created_time, set_modified_time, touch, entry, read_storage, walk_storage}
 use Rattle.cfb_rules.specs.Finding.{root_of, last_name, parent_names, object_at}
 
 -- tests on an object
@@ -79,29 +79,27 @@ inner_refusal cases tree is_right (name ∷ names) = object_refusal is_right (ob
 abbrev pub path_refusal : (List (List ℕ) → Option Refusal) → List ℕ → Option Refusal
 path_refusal rule path = option_map_or rule (names_of_path path) (Some invalid_input)
 
+-- what stands at these names is there, and of the right kind
+abbrev pub at_names : Cases → Tree → (Object → Bool) → List ℕ → Option Refusal
+at_names cases tree is_right path = path_refusal (λ names. object_refusal is_right (object_at cases tree names)) path
+
 -- what the rules refuse of a call on a file with this tree, if anything
 abbrev pub refusal_of : Cases → Tree → Call → Option Refusal
 refusal_of cases tree (create_storage path moment) = path_refusal (creation_refusal cases tree never) path
 refusal_of cases tree (create_storage_all path moment) = path_refusal (all_creation_refusal cases tree) path
 refusal_of cases tree (create_stream path) = path_refusal (creation_refusal cases tree is_a_stream) path
 refusal_of cases tree (create_new_stream path) = path_refusal (creation_refusal cases tree never) path
-refusal_of cases tree (open_stream path) = path_refusal (λ names. object_refusal is_a_stream (object_at cases tree names)) path
-refusal_of cases tree (open_read_stream path) = path_refusal (λ names. object_refusal is_a_stream (object_at cases tree names)) path
+refusal_of cases tree (open_stream path) = at_names cases tree is_a_stream path
+refusal_of cases tree (open_read_stream path) = at_names cases tree is_a_stream path
 refusal_of cases tree (remove_storage path) = path_refusal (inner_refusal cases tree is_empty_storage) path
-refusal_of cases tree (remove_storage_all path) = path_refusal (λ names. object_refusal always (object_at cases tree names)) path
-refusal_of cases tree (remove_stream path) = path_refusal (λ names. object_refusal is_a_stream (object_at cases tree names)) path
-refusal_of cases tree (set_storage_clsid path clsid) = path_refusal (λ names. object_refusal is_a_storage (object_at cases tree names)) path
-refusal_of cases tree (set_state_bits path bits) = path_refusal (λ names. object_refusal always (object_at cases tree names)) path
-refusal_of cases tree (set_created_time path moment) = path_refusal (λ names. object_refusal always (object_at cases tree names)) path
-refusal_of cases tree (set_modified_time path moment) = path_refusal (λ names. object_refusal always (object_at cases tree names)) path
-refusal_of cases tree (touch path moment) = path_refusal (λ names. object_refusal always (object_at cases tree names)) path
-refusal_of cases tree flush = None
-refusal_of cases tree (exists path) = None
-refusal_of cases tree (is_stream path) = None
-refusal_of cases tree (is_storage path) = None
-refusal_of cases tree root_entry = None
-refusal_of cases tree read_root_storage = None
-refusal_of cases tree walk = None
-refusal_of cases tree (entry path) = path_refusal (λ names. object_refusal always (object_at cases tree names)) path
-refusal_of cases tree (read_storage path) = path_refusal (λ names. object_refusal is_a_storage (object_at cases tree names)) path
-refusal_of cases tree (walk_storage path) = path_refusal (λ names. object_refusal always (object_at cases tree names)) path
+refusal_of cases tree (remove_stream path) = at_names cases tree is_a_stream path
+refusal_of cases tree (set_storage_clsid path clsid) = at_names cases tree is_a_storage path
+refusal_of cases tree (read_storage path) = at_names cases tree is_a_storage path
+refusal_of cases tree (remove_storage_all path) = at_names cases tree always path
+refusal_of cases tree (set_state_bits path bits) = at_names cases tree always path
+refusal_of cases tree (set_created_time path moment) = at_names cases tree always path
+refusal_of cases tree (set_modified_time path moment) = at_names cases tree always path
+refusal_of cases tree (touch path moment) = at_names cases tree always path
+refusal_of cases tree (entry path) = at_names cases tree always path
+refusal_of cases tree (walk_storage path) = at_names cases tree always path
+refusal_of cases tree call = None

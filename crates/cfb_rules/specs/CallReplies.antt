@@ -8,7 +8,7 @@ use Rattle.cfb_format.specs.Path.{names_of_path, path_of_names, child_path}
 use Rattle.cfb_format.specs.DirectoryEntry.{nil_clsid, root_entry_name}
 use Rattle.cfb_rules.specs.Refusal.{not_found, invalid_input}
 use Rattle.cfb_format.specs.Tree.{StorageInfo, StreamInfo, Objects, nothing, storage, stream, Tree, Object, a_storage, a_stream}
-use Rattle.cfb_rules.specs.Calls.{Call, EntryInfo, Reply, create_storage, create_storage_all, create_stream, create_new_stream, open_stream, open_read_stream, remove_storage, remove_storage_all, remove_stream, set_storage_clsid, set_state_bits, set_created_time, set_modified_time, touch, flush, exists, is_stream, is_storage, root_entry, read_root_storage, walk, entry, read_storage, walk_storage, done, flag, one_entry, entries, refused}
+use Rattle.cfb_rules.specs.Calls.{Call, EntryInfo, Reply, exists, is_stream, is_storage, root_entry, read_root_storage, walk, entry, read_storage, walk_storage, done, flag, one_entry, entries, refused}
 use Rattle.cfb_rules.specs.Finding.{found_at, parent_names, object_at}
 use Rattle.cfb_rules.specs.CallRefusals.{is_a_storage, is_a_stream, always}
 
@@ -103,21 +103,6 @@ path_reply rule path = option_map_or rule (names_of_path path) (refused invalid_
 
 -- what a call that isn't refused answers; root_len is the length of entry 0
 abbrev pub reply_of : Cases → ℕ → Tree → Call → Reply
-reply_of cases root_len tree (create_storage path moment) = done
-reply_of cases root_len tree (create_storage_all path moment) = done
-reply_of cases root_len tree (create_stream path) = done
-reply_of cases root_len tree (create_new_stream path) = done
-reply_of cases root_len tree (open_stream path) = done
-reply_of cases root_len tree (open_read_stream path) = done
-reply_of cases root_len tree (remove_storage path) = done
-reply_of cases root_len tree (remove_storage_all path) = done
-reply_of cases root_len tree (remove_stream path) = done
-reply_of cases root_len tree (set_storage_clsid path clsid) = done
-reply_of cases root_len tree (set_state_bits path bits) = done
-reply_of cases root_len tree (set_created_time path moment) = done
-reply_of cases root_len tree (set_modified_time path moment) = done
-reply_of cases root_len tree (touch path moment) = done
-reply_of cases root_len tree flush = done
 reply_of cases root_len tree (exists path) = flag (has_object cases tree always path)
 reply_of cases root_len tree (is_stream path) = flag (has_object cases tree is_a_stream path)
 reply_of cases root_len tree (is_storage path) = flag (has_object cases tree is_a_storage path)
@@ -127,3 +112,4 @@ reply_of cases root_len tree walk = entries (all_walked root_len tree)
 reply_of cases root_len tree (entry path) = path_reply (entry_reply cases root_len tree) path
 reply_of cases root_len tree (read_storage path) = path_reply (read_reply cases tree) path
 reply_of cases root_len tree (walk_storage path) = path_reply (walk_reply cases root_len tree) path
+reply_of cases root_len tree call = done

@@ -4,9 +4,9 @@ use Rattle.cfb_format.specs.Medium.{Rises}
 use Rattle.cfb_format.specs.Path.{names_of_path}
 use Rattle.cfb_format.specs.Tree.{Tree}
 use Rattle.cfb_rules.specs.Refusal.{Refusal, medium_failed, refusal_number}
-use Rattle.cfb_rules.specs.Calls.{Call, create_stream, create_new_stream, open_stream, Reply, done, flag, one_entry, entries, refused}
+use Rattle.cfb_rules.specs.Calls.{Call, create_stream, create_new_stream, open_stream, Reply, done, refused}
 use Rattle.cfb_rules.specs.Steps.{kind_of, is_changing}
-use Rattle.cfb_rules.specs.StreamCalls.{StreamState, StreamCall, set_len, StreamReply, ready, got, count, offset, answered, not_done}
+use Rattle.cfb_rules.specs.StreamCalls.{StreamState, StreamCall, set_len, StreamReply, count, answered, not_done}
 use Rattle.cfb_rules.specs.Runs.{Setting, TreeState, Causes, CallRuns, work_of, may_leave_failed, StreamRun, StreamCallRuns, Closes, opened_by_path, ClosedTree}
 
 pub data Opening : Type 0 where
@@ -34,19 +34,12 @@ abbrev pub blame_of : (blamed : Refusal) → Refusal → ℕ
 blame_of blamed refusal = if refusal_number refusal == refusal_number blamed then 1 else 0
 
 abbrev pub reply_blame : (blamed : Refusal) → Reply → ℕ
-reply_blame blamed done = 0
-reply_blame blamed (flag b) = 0
-reply_blame blamed (one_entry e) = 0
-reply_blame blamed (entries es) = 0
 reply_blame blamed (refused refusal) = blame_of blamed refusal
+reply_blame blamed reply = 0
 
 abbrev pub stream_reply_blame : (blamed : Refusal) → StreamReply → ℕ
-stream_reply_blame blamed ready = 0
-stream_reply_blame blamed (got bytes) = 0
-stream_reply_blame blamed (count n) = 0
-stream_reply_blame blamed (offset at) = 0
-stream_reply_blame blamed (answered b) = 0
 stream_reply_blame blamed (not_done refusal) = blame_of blamed refusal
+stream_reply_blame blamed reply = 0
 
 abbrev pub stream_replies_blame : (blamed : Refusal) → List StreamReply → ℕ
 stream_replies_blame blamed [] = 0

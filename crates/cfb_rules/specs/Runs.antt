@@ -3,12 +3,12 @@ use Rattle.std.specs.Prelude.{ℕ, ◌≡◌, ◌<◌, ◌≤◌, ◌⊎◌, Lis
 use Rattle.cfb_format.specs.Names.{Cases}
 use Rattle.cfb_format.specs.Path.{names_of_path}
 use Rattle.cfb_format.specs.Tree.{StreamInfo, Tree, Object, a_storage, a_stream}
-use Rattle.cfb_rules.specs.Refusal.{Refusal, not_found, already_exists, invalid_input, invalid_data, medium_failed, out_of_memory, file_full, not_sound, failed_earlier}
-use Rattle.cfb_rules.specs.Calls.{Call, Reply, done, flag, one_entry, entries, refused}
-use Rattle.cfb_rules.specs.Steps.{CallKind, creating, emptying, changing, flushing, opening, opening_to_read, asking, asking_freely, kind_of, kind_on, outcome, Step}
+use Rattle.cfb_rules.specs.Refusal.{Refusal, medium_failed, out_of_memory, file_full, failed_earlier}
+use Rattle.cfb_rules.specs.Calls.{Call, Reply, done, refused}
+use Rattle.cfb_rules.specs.Steps.{CallKind, creating, emptying, changing, flushing, opening_to_read, asking, asking_freely, kind_of, kind_on, outcome, Step}
 use Rattle.cfb_rules.specs.Finding.{object_at}
 use Rattle.cfb_rules.specs.CallChanges.{new_stream, content_changed_at}
-use Rattle.cfb_rules.specs.StreamCalls.{StreamSetting, StreamState, StreamCall, read, fill_buf, consume, read_to_end, write, seek, set_len, flush, ask_len, ask_position, ask_is_empty, StreamReply, ready, got, count, offset, answered, not_done, StreamStep, opened, sought}
+use Rattle.cfb_rules.specs.StreamCalls.{StreamSetting, StreamState, StreamCall, read, fill_buf, consume, read_to_end, write, seek, set_len, flush, ask_len, ask_position, ask_is_empty, StreamReply, not_done, StreamStep, opened, sought}
 
 -- what stays the same in a run: the letters, and what stays the same for its streams
 pub record Setting : Type 0 where
@@ -37,35 +37,22 @@ abbrev pub BlamesOneOf : (medium memory full : Type 0) → Refusal → Type 0
 BlamesOneOf medium memory full medium_failed = medium
 BlamesOneOf medium memory full out_of_memory = memory
 BlamesOneOf medium memory full file_full = full
-BlamesOneOf medium memory full not_found = ⊥
-BlamesOneOf medium memory full already_exists = ⊥
-BlamesOneOf medium memory full invalid_input = ⊥
-BlamesOneOf medium memory full invalid_data = ⊥
-BlamesOneOf medium memory full not_sound = ⊥
-BlamesOneOf medium memory full failed_earlier = ⊥
+BlamesOneOf medium memory full refusal = ⊥
 
 -- a refusal that blames the medium or the numbers has its cause
 abbrev pub MayBlame : Causes → Refusal → Type 0
 MayBlame causes medium_failed = causes.medium
 MayBlame causes file_full = causes.full
-MayBlame causes not_found = ⊤
-MayBlame causes already_exists = ⊤
-MayBlame causes invalid_input = ⊤
-MayBlame causes invalid_data = ⊤
-MayBlame causes out_of_memory = ⊤
-MayBlame causes not_sound = ⊤
-MayBlame causes failed_earlier = ⊤
+MayBlame causes refusal = ⊤
 
 -- which of them a call by path can answer: only one that makes an object needs a number
 abbrev pub MayBreak : Causes → CallKind → Refusal → Type 0
 MayBreak causes creating refusal = BlamesOneOf causes.medium ⊤ causes.full refusal
-MayBreak causes emptying refusal = BlamesOneOf causes.medium ⊤ ⊥ refusal
-MayBreak causes changing refusal = BlamesOneOf causes.medium ⊤ ⊥ refusal
 MayBreak causes flushing refusal = BlamesOneOf causes.medium ⊥ ⊥ refusal
-MayBreak causes opening refusal = BlamesOneOf causes.medium ⊤ ⊥ refusal
 MayBreak causes opening_to_read refusal = BlamesOneOf ⊥ ⊤ ⊥ refusal
 MayBreak causes asking refusal = BlamesOneOf ⊥ ⊤ ⊥ refusal
 MayBreak causes asking_freely refusal = BlamesOneOf ⊥ ⊥ ⊥ refusal
+MayBreak causes kind refusal = BlamesOneOf causes.medium ⊤ ⊥ refusal
 
 -- only calls that write can leave the file failed, where they broke off
 abbrev pub may_fail : CallKind → Bool
@@ -73,21 +60,12 @@ may_fail creating = true
 may_fail emptying = true
 may_fail changing = true
 may_fail flushing = true
-may_fail opening = false
-may_fail opening_to_read = false
-may_fail asking = false
-may_fail asking_freely = false
+may_fail kind = false
 
 -- only a refused flush always leaves the file failed
 abbrev pub may_stay : CallKind → Bool
-may_stay creating = true
-may_stay emptying = true
-may_stay changing = true
 may_stay flushing = false
-may_stay opening = true
-may_stay opening_to_read = true
-may_stay asking = true
-may_stay asking_freely = true
+may_stay kind = true
 
 -- all is as before, or the file is failed
 abbrev pub CallBreaksOff : CallKind → TreeState → TreeState → Type 0
@@ -97,22 +75,14 @@ CallBreaksOff kind old new = (IsTrue (may_stay kind) × (new ≡ old)) ⊎ (IsTr
 
 -- what is blamed holds
 abbrev pub HasCause : Causes → Reply → Type 0
-HasCause causes done = ⊤
-HasCause causes (flag b) = ⊤
-HasCause causes (one_entry e) = ⊤
-HasCause causes (entries es) = ⊤
 HasCause causes (refused refusal) = MayBlame causes refusal
+HasCause causes reply = ⊤
 
 -- on a failed file queries answer anything, but they blame nothing without cause
 abbrev pub OnFailed : Causes → CallKind → Reply → TreeState → Type 0
-OnFailed causes creating reply new = (reply ≡ refused failed_earlier) × (new.failed ≡ true)
-OnFailed causes emptying reply new = (reply ≡ refused failed_earlier) × (new.failed ≡ true)
-OnFailed causes changing reply new = (reply ≡ refused failed_earlier) × (new.failed ≡ true)
-OnFailed causes flushing reply new = (reply ≡ refused failed_earlier) × (new.failed ≡ true)
-OnFailed causes opening reply new = (reply ≡ refused failed_earlier) × (new.failed ≡ true)
-OnFailed causes opening_to_read reply new = (reply ≡ refused failed_earlier) × (new.failed ≡ true)
 OnFailed causes asking reply new = HasCause causes reply × (new.failed ≡ true)
 OnFailed causes asking_freely reply new = HasCause causes reply × (new.failed ≡ true)
+OnFailed causes kind reply new = (reply ≡ refused failed_earlier) × (new.failed ≡ true)
 
 -- only a call that takes bytes away and was done gives the root's entry another length
 abbrev pub KeepsRootLen : CallKind → TreeState → Reply → TreeState → Type 0
@@ -148,35 +118,26 @@ pub data Work : Type 0 where
 abbrev pub work_of : StreamState → StreamCall → Work
 work_of old (read wanted) = reading
 work_of old fill_buf = reading
-work_of old (consume amount) = no_work
 work_of old read_to_end = reading
 work_of old (write bytes) = if length bytes == 0 then no_work else if nat_lt old.position old.len then overwriting else appending
 work_of old (seek whence) = moving
 work_of old (set_len len) = if len == old.len then no_work else resizing
 work_of old flush = writing_out
-work_of old ask_len = no_work
-work_of old ask_position = no_work
-work_of old ask_is_empty = no_work
+work_of old call = no_work
 
 -- with nothing pending: only bytes at the end and a change of the length need numbers; neither moving nor flushing needs memory
 abbrev pub CalmWorkMayBreak : Causes → Work → Refusal → Type 0
 CalmWorkMayBreak causes no_work refusal = ⊥
-CalmWorkMayBreak causes reading refusal = BlamesOneOf causes.medium ⊤ ⊥ refusal
 CalmWorkMayBreak causes moving refusal = BlamesOneOf causes.medium ⊥ ⊥ refusal
 CalmWorkMayBreak causes writing_out refusal = BlamesOneOf causes.medium ⊥ ⊥ refusal
-CalmWorkMayBreak causes overwriting refusal = BlamesOneOf causes.medium ⊤ ⊥ refusal
 CalmWorkMayBreak causes appending refusal = BlamesOneOf causes.medium ⊤ causes.full refusal
 CalmWorkMayBreak causes resizing refusal = BlamesOneOf causes.medium ⊤ causes.full refusal
+CalmWorkMayBreak causes work refusal = BlamesOneOf causes.medium ⊤ ⊥ refusal
 
 -- pending bytes may have to be written out first, which can be refused by all three
 abbrev pub PendingWorkMayBreak : Causes → Work → Refusal → Type 0
 PendingWorkMayBreak causes no_work refusal = ⊥
-PendingWorkMayBreak causes reading refusal = BlamesOneOf causes.medium ⊤ causes.full refusal
-PendingWorkMayBreak causes moving refusal = BlamesOneOf causes.medium ⊤ causes.full refusal
-PendingWorkMayBreak causes writing_out refusal = BlamesOneOf causes.medium ⊤ causes.full refusal
-PendingWorkMayBreak causes overwriting refusal = BlamesOneOf causes.medium ⊤ causes.full refusal
-PendingWorkMayBreak causes appending refusal = BlamesOneOf causes.medium ⊤ causes.full refusal
-PendingWorkMayBreak causes resizing refusal = BlamesOneOf causes.medium ⊤ causes.full refusal
+PendingWorkMayBreak causes work refusal = BlamesOneOf causes.medium ⊤ causes.full refusal
 
 -- which refusals beside the rules a call on a stream can answer
 abbrev pub WorkMayBreak : Causes → (pending : Bool) → Work → Refusal → Type 0
@@ -186,23 +147,16 @@ WorkMayBreak causes pending work refusal = MatchBool pending
 
 -- With nothing pending all can be as before, but after a flush: what is refused then is the medium's own, which leaves the file failed
 abbrev pub CalmStaysUnfailed : Work → Type 0
-CalmStaysUnfailed no_work = ⊤
-CalmStaysUnfailed reading = ⊤
-CalmStaysUnfailed moving = ⊤
 CalmStaysUnfailed writing_out = ⊥
-CalmStaysUnfailed overwriting = ⊤
-CalmStaysUnfailed appending = ⊤
-CalmStaysUnfailed resizing = ⊤
+CalmStaysUnfailed work = ⊤
 
 -- with bytes pending, only where the buffer couldn't grow, and where a length was too long or needed too much memory before anything was written
 abbrev pub PendingStaysUnfailed : Work → Refusal → Type 0
 PendingStaysUnfailed no_work refusal = ⊥
-PendingStaysUnfailed reading refusal = refusal ≡ out_of_memory
 PendingStaysUnfailed moving refusal = ⊥
 PendingStaysUnfailed writing_out refusal = ⊥
-PendingStaysUnfailed overwriting refusal = refusal ≡ out_of_memory
-PendingStaysUnfailed appending refusal = refusal ≡ out_of_memory
 PendingStaysUnfailed resizing refusal = (refusal ≡ out_of_memory) ⊎ (refusal ≡ file_full)
+PendingStaysUnfailed work refusal = refusal ≡ out_of_memory
 
 -- whether a refused call can leave the file unfailed
 abbrev pub StaysUnfailed : (pending : Bool) → Work → Refusal → Type 0
@@ -213,10 +167,7 @@ abbrev pub may_leave_failed : (pending : Bool) → Work → Bool
 may_leave_failed pending no_work = false
 may_leave_failed pending reading = pending
 may_leave_failed pending moving = pending
-may_leave_failed pending writing_out = true
-may_leave_failed pending overwriting = true
-may_leave_failed pending appending = true
-may_leave_failed pending resizing = true
+may_leave_failed pending work = true
 
 -- a stream while it is open, and whether the file has failed meanwhile
 pub record StreamRun : Type 0 where
@@ -231,26 +182,16 @@ StreamBreaksOff old work refusal new =
 
 -- `len`, `position`, `is_empty` and `consume` are never refused
 abbrev pub is_never_refused : StreamCall → Bool
-is_never_refused (read wanted) = false
-is_never_refused fill_buf = false
 is_never_refused (consume amount) = true
-is_never_refused read_to_end = false
-is_never_refused (write bytes) = false
-is_never_refused (seek whence) = false
-is_never_refused (set_len len) = false
-is_never_refused flush = false
 is_never_refused ask_len = true
 is_never_refused ask_position = true
 is_never_refused ask_is_empty = true
+is_never_refused call = false
 
 -- it isn't refused
 abbrev pub is_served : StreamReply → Bool
-is_served ready = true
-is_served (got bytes) = true
-is_served (count n) = true
-is_served (offset at) = true
-is_served (answered b) = true
 is_served (not_done refusal) = false
+is_served reply = true
 
 -- on a failed file those four answer anything but a refusal
 abbrev pub StreamOnFailed : StreamCall → StreamReply → StreamRun → Type 0

@@ -5,7 +5,7 @@ use Rattle.cfb_format.specs.Names.{Cases}
 use Rattle.cfb_format.specs.Path.{names_of_path}
 use Rattle.cfb_rules.specs.Refusal.{Refusal, not_sound}
 use Rattle.cfb_format.specs.Tree.{Tree}
-use Rattle.cfb_rules.specs.Calls.{Call, Reply, create_storage, create_storage_all, create_stream, create_new_stream, open_stream, open_read_stream, remove_storage, remove_storage_all, remove_stream, set_storage_clsid, set_state_bits, set_created_time, set_modified_time, touch, flush, exists, is_stream, is_storage, root_entry, read_root_storage, walk, entry, read_storage, walk_storage, refused}
+use Rattle.cfb_rules.specs.Calls.{Call, Reply, create_storage, create_storage_all, create_stream, create_new_stream, open_stream, open_read_stream, remove_storage, remove_storage_all, remove_stream, set_storage_clsid, set_state_bits, set_created_time, set_modified_time, touch, flush, exists, is_stream, is_storage, refused}
 use Rattle.cfb_rules.specs.Finding.{object_at}
 use Rattle.cfb_rules.specs.CallRefusals.{unless, refusal_of}
 use Rattle.cfb_rules.specs.CallChanges.{tree_after}
@@ -23,24 +23,19 @@ kind_of (create_stream path) = creating
 kind_of (create_new_stream path) = creating
 kind_of (open_stream path) = opening
 kind_of (open_read_stream path) = opening_to_read
-kind_of (remove_storage path) = changing
 kind_of (remove_storage_all path) = emptying
 kind_of (remove_stream path) = emptying
+kind_of flush = flushing
+kind_of (exists path) = asking_freely
+kind_of (is_stream path) = asking_freely
+kind_of (is_storage path) = asking_freely
+kind_of (remove_storage path) = changing
 kind_of (set_storage_clsid path clsid) = changing
 kind_of (set_state_bits path bits) = changing
 kind_of (set_created_time path moment) = changing
 kind_of (set_modified_time path moment) = changing
 kind_of (touch path moment) = changing
-kind_of flush = flushing
-kind_of (exists path) = asking_freely
-kind_of (is_stream path) = asking_freely
-kind_of (is_storage path) = asking_freely
-kind_of root_entry = asking
-kind_of read_root_storage = asking
-kind_of walk = asking
-kind_of (entry path) = asking
-kind_of (read_storage path) = asking
-kind_of (walk_storage path) = asking
+kind_of question = asking
 
 -- whether something stands at this path
 abbrev pub is_there : Cases → Tree → List ℕ → Bool
@@ -57,11 +52,7 @@ abbrev pub is_changing : CallKind → Bool
 is_changing creating = true
 is_changing emptying = true
 is_changing changing = true
-is_changing flushing = false
-is_changing opening = false
-is_changing opening_to_read = false
-is_changing asking = false
-is_changing asking_freely = false
+is_changing kind = false
 
 -- a change that the rules allow is refused for a file that is not sound, even where nothing would change
 abbrev pub unsound_refusal : Bool → Call → Option Refusal
