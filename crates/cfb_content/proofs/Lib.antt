@@ -18,6 +18,7 @@ pub mod Outlines
 pub mod Owned
 pub mod Apart
 pub mod Kept
+pub mod Erased
 pub mod Readable
 pub mod Rewritten
 pub mod InUse

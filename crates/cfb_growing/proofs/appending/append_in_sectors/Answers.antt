@@ -84,6 +84,7 @@ named g c told validation change = record {
   others = (c.put_at_end.ensures.spares told).others validation change;
   held = c.in_ok-start.ensures.holds told validation change;
   spares = c.name_content.ensures.spares told;
+  slots = c.name_content.ensures.others told;
   system = c.name_content.ensures.system;
   mini = c.name_content.ensures.mini;
   limits = c.name_content.ensures.limits;

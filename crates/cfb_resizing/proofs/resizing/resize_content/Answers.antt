@@ -49,6 +49,7 @@ returns-then-size-len-clause-content g c told = record {
       resized-same (content_of s (entry_at (entries_of s) c.args.entry)) c.args.size
       (whole-of v s c.args.entry change c.requires.stream ∙ sym c.content_in-len.ensures.len ∙ sym c.if-size-len.true);
   wiped = λ v change m mine out. absurd (out mine);
+  erased = λ v change m mine out other. absurd (out mine);
   stays_full = λ v change more leaves none. none;
 }
 
@@ -131,6 +132,7 @@ named g c told validation change = record {
   others = (c.turn.ensures.spares told).others validation change;
   held = (c.in_ok-start.ensures.turned told).holds validation change;
   spares = c.name_content.ensures.spares told;
+  slots = c.name_content.ensures.others told;
   system = c.name_content.ensures.system;
   mini = c.name_content.ensures.mini;
   limits = c.name_content.ensures.limits;
@@ -189,6 +191,7 @@ returns-clause-content g c told =
     all-resized c.name_content.result s new c.args.entry c.args.size
     (λ v change. on_ok_weaker c.name_content.result (λ t. t.1.content) (turned-then g c told v change))
     (λ v change. on_ok_weaker c.name_content.result (λ t. t.1.wiped) (turned-then g c told v change))
+    (λ v change. on_ok_weaker c.name_content.result (λ t. t.1.erased) (turned-then g c told v change))
     (λ v change longer stays none.
     let full = turned-stays-full s c.turn.new.mini c.args.entry c.args.size c.in_ok-start.start longer stays ((c.in_ok-start.ensures.turned told).turned v change) none in
     subst (λ (t : TableState). NoneFree t.fat) (sym c.name_content.ensures.system.tables) full)
