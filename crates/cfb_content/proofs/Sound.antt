@@ -100,9 +100,9 @@ changed-loses-none v i old new change uses_change after is =
       change.stream.is,
       subst (λ (w : Outline). LosesNoneUnder old new q w)
           (IsOutline-unique (cases_of new) (entries_of new) q after (now v i old new change uses_change) is) (record {
-        sectors = changes-lose-none (tables_in old).fat (used_sectors (parts_with old q)) (tables_in new).fat (used_sectors (parts_with new q))
-            (uses_change.sectors q change.stream.is);
-        mini_sectors = changes-lose-none old.minifat (used_mini_sectors (parts_with old q)) new.minifat (used_mini_sectors (parts_with new q))
-            (uses_change.mini_sectors q change.stream.is);
-      }),
+            sectors = changes-lose-none (tables_in old).fat (used_sectors (parts_with old q)) (tables_in new).fat (used_sectors (parts_with new q))
+                (uses_change.sectors q change.stream.is);
+            mini_sectors = changes-lose-none old.minifat (used_mini_sectors (parts_with old q)) new.minifat (used_mini_sectors (parts_with new q))
+                (uses_change.mini_sectors q change.stream.is);
+          }),
     )
