@@ -142,7 +142,7 @@ content-keeps-parts i old new moves stream strict tidy used exact snug snug_mini
   strict = strict;
   whole = tidy.whole;
   counted = same-counted old new moves.limits moves.directory tidy.counted;
-  ended = λ ended. moved-starts-at-end old new i moves.limits moves.entries stream (empty ended) ended;
+  ended = λ ended. moved-starts-at-end old new i moves.limits moves.entries stream (empty (ended i stream)) ended;
   used = used;
   exact = exact;
   snug = snug;

@@ -12,6 +12,7 @@ use Rattle.cfb_agreement.specs.Files.{FileState, GrowsTightly, SameSetting, fail
 use Rattle.cfb_agreement.specs.Laws.{AsBeforeIsNone, ContentsInTurn, OneChangeKeepsRest, RestIsKeptInTurn, SameContentIsNone, with_flags}
 use Rattle.cfb_agreement.proofs.Flags.{as-before-same, flagged, parts-flagged}
 use Rattle.cfb_agreement.proofs.Parts.{parts-then}
+use Rattle.cfb_agreement.proofs.Settled.{settled-flagged, settled-then}
 use Rattle.cfb_agreement.proofs.cfb_mini_changes.MiniExtended.{limits-then}
 
 pub setting-then : (a b c : FileState) → SameSetting a b → SameSetting b c → SameSetting a c
@@ -35,6 +36,7 @@ flags-are-none i file n b = record {
   entries = same-entries-moved file.base (flagged file.base n b) i refl;
   others = others-flagged i file.base n b;
   header = bytes-keep-header file.base (flagged file.base n b) refl;
+  sized = λ calm. settled-flagged i file.base n b;
   parts = λ calm. parts-flagged file.base n b;
   grows = λ calm longer. absurd (omega (arith, longer));
 }
@@ -71,6 +73,7 @@ contents-in-turn i old mid new p q failed no_shorter stays = record {
   entries = content-moves-then old.base mid.base new.base i p.entries q.entries;
   others = others-kept-then i old.base mid.base new.base p.setting.limits p.entries p.others q.others;
   header = header-then old.base mid.base new.base p.setting.limits.version p.header q.header;
+  sized = λ calm. settled-then i old.base mid.base new.base (p.sized (before calm)) (q.sized calm);
   parts = λ calm. parts-then old.base mid.base new.base (p.parts (before calm)) (q.parts calm);
   grows = λ calm. grows-then old.base mid.base new.base p.setting.limits.max_sectors (p.grows (before calm)) (q.grows calm) (no_shorter calm) (stays calm);
 }
@@ -81,7 +84,7 @@ contents-in-turn i old mid new p q failed no_shorter stays = record {
 -- ---- any number of them
 
 pub one-change-keeps-rest : OneChangeKeepsRest
-one-change-keeps-rest i old new k = record { setting = k.setting; entries = k.entries; others = k.others; header = k.header; parts = k.parts }
+one-change-keeps-rest i old new k = record { setting = k.setting; entries = k.entries; others = k.others; header = k.header; sized = k.sized; parts = k.parts }
 
 pub rest-then : RestIsKeptInTurn
 rest-then i old mid new p q failed = record {
@@ -89,5 +92,6 @@ rest-then i old mid new p q failed = record {
   entries = content-moves-then old.base mid.base new.base i p.entries q.entries;
   others = others-kept-then i old.base mid.base new.base p.setting.limits p.entries p.others q.others;
   header = header-then old.base mid.base new.base p.setting.limits.version p.header q.header;
+  sized = λ calm. settled-then i old.base mid.base new.base (p.sized (calm-before (is_failed mid) (is_failed new) failed calm)) (q.sized calm);
   parts = λ calm. parts-then old.base mid.base new.base (p.parts (calm-before (is_failed mid) (is_failed new) failed calm)) (q.parts calm);
 }

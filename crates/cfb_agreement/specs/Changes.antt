@@ -1,8 +1,9 @@
 -- One change of a file, and what it leaves alone.
-use Rattle.std.specs.Prelude.{ℕ, ◌≡◌, ◌⊎◌, List, true, false, Contains}
+use Rattle.std.specs.Prelude.{ℕ, ◌≡◌, ◌<◌, ◌≤◌, ◌⊎◌, List, true, false, Contains}
 use Rattle.cfb_format.specs.declared.objtype.ObjType.{ObjType}
 use Rattle.cfb_format.specs.declared.objtype.ObjType.TheVariants.{Unallocated, Storage, Stream, Root}
 use Rattle.cfb_format.specs.declared.validate.Validation.TheVariants.{Strict}
+use Rattle.cfb_format.specs.Content.{mini_stream_cutoff}
 use Rattle.cfb_format.specs.Names.{Cases}
 use Rattle.cfb_format.specs.Reading.{IsOutline, Outline, stream_numbers}
 use Rattle.cfb_format.specs.Siblings.{entry_at}
@@ -14,8 +15,8 @@ use Rattle.cfb_agreement.specs.cfb_mini_sectors.State.{IsChangeable, MiniState, 
 use Rattle.cfb_agreement.specs.cfb_mini_sectors.Steps.{IsSnugMini}
 use Rattle.cfb_agreement.specs.cfb_mini_changes.MiniSectors.{IsOfWholeSectors}
 use Rattle.cfb_content.specs.Changed.{FreesMini}
-use Rattle.cfb_content.specs.Contents.{AreSnug, KeepsContent, KeepsFixedHeader, KeepsOthers, LosesNone, MovesContent}
-use Rattle.cfb_agreement.specs.Files.{EmptyStartAtEnd, FileState, IsAsBefore, IsCounted, GrowsTightly, SameSetting, is_failed}
+use Rattle.cfb_content.specs.Contents.{AreSnug, IsSnug, KeepsContent, KeepsFixedHeader, KeepsOthers, LosesNone, MovesContent, len_of}
+use Rattle.cfb_agreement.specs.Files.{EmptyStartAtEnd, FileState, IsAsBefore, IsCounted, GrowsTightly, SameSetting, StartsAtEndIfEmpty, is_failed}
 
 -- ---- files that were made here or elsewhere
 
@@ -36,13 +37,23 @@ pub record KeepsParts (old new : MiniState) : Type 0 where
 
 -- ---- the content of one stream
 
+-- the stream of that entry has exactly what its length needs where it was cut and where it moved across 4096 bytes, and else if it had; and it
+-- starts at END where nothing is left of it, or if it did where it had been empty
+pub record SettlesStream (entry : ℕ) (old new : MiniState) : Type 0 where
+  pub cut : len_of new entry < len_of old entry → IsSnug new (entry_at (entries_of new) entry)
+  pub moved : len_of old entry < mini_stream_cutoff → mini_stream_cutoff ≤ len_of new entry → IsSnug new (entry_at (entries_of new) entry)
+  pub kept : IsSnug old (entry_at (entries_of old) entry) → IsSnug new (entry_at (entries_of new) entry)
+  pub ended : StartsAtEndIfEmpty old entry → StartsAtEndIfEmpty new entry
+
 -- of the file the content of this one stream may have changed, and nothing else, not even bytes of the header that nobody reads; unless it
--- failed it keeps each part of a file that was made here; and where sectors were appended none is free then, and the limit is kept
+-- failed the stream's chain is settled, and each part of a file that was made here kept; and where sectors were appended none is free then, and
+-- the limit is kept
 pub record ChangesOneContent (entry : ℕ) (old new : FileState) : Type 0 where
   pub setting : SameSetting old new
   pub entries : MovesContent old.base new.base entry
   pub others : KeepsOthers entry old.base new.base
   pub header : KeepsFixedHeader old.base new.base
+  pub sized : is_failed new ≡ false → SettlesStream entry old.base new.base
   pub parts : is_failed new ≡ false → KeepsParts old.base new.base
   pub grows : is_failed new ≡ false → GrowsTightly old.base new.base
 
@@ -52,6 +63,7 @@ pub record KeepsAllButContent (entry : ℕ) (old new : FileState) : Type 0 where
   pub entries : MovesContent old.base new.base entry
   pub others : KeepsOthers entry old.base new.base
   pub header : KeepsFixedHeader old.base new.base
+  pub sized : is_failed new ≡ false → SettlesStream entry old.base new.base
   pub parts : is_failed new ≡ false → KeepsParts old.base new.base
 
 -- ---- a new object

@@ -19,7 +19,7 @@ use Rattle.cfb_agreement.specs.cfb_mini_sectors.State.{IsChangeable, MiniState, 
 use Rattle.cfb_agreement.specs.cfb_mini_sectors.Steps.{IsSnugMini}
 use Rattle.cfb_content.specs.Changed.{FreesMini, MovesAlone, StaysTidy}
 use Rattle.cfb_content.specs.Contents.{AreSnug, IsStreamOf, KeepsOthers, LosesNone, MovesContent, len_of}
-use Rattle.cfb_agreement.specs.Files.{EmptyStartAtEnd, FileState, Holds, IsAsBefore, IsAsMade, IsMadeFile, SameSetting, failures_of, is_failed}
+use Rattle.cfb_agreement.specs.Files.{FileState, Holds, IsAsBefore, IsAsMade, IsMadeFile, SameSetting, StartsAtEndIfEmpty, failures_of, is_failed}
 use Rattle.cfb_agreement.specs.Changes.{ChangesOneContent, KeepsAllButContent, KeepsParts}
 
 -- ---- what is held
@@ -96,7 +96,7 @@ ContentKeepsParts = (i : ℕ) (old new : MiniState) → MovesAlone old new i →
     → (IsChangeable Strict old → IsChangeable Strict new) → StaysTidy old new → LosesNone old new
     → (AreExactTables (tables_in old) → AreExactTables (tables_in new)) → (AreSnug old → AreSnug new)
     → (IsSnugMini old → IsSnugMini new) → (FreesMini old new → IsSnugMini new)
-    → (EmptyStartAtEnd old → len_of new i ≡ 0 → (entry_at (entries_of new) i).start_sector ≡ end_of_chain) → KeepsParts old new
+    → (StartsAtEndIfEmpty old i → StartsAtEndIfEmpty new i) → KeepsParts old new
 
 -- a file that was made here is as made again where each part is kept
 abbrev pub PartsKeepMade : Type 0

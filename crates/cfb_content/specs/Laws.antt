@@ -125,6 +125,11 @@ abbrev pub SizedIsSnug : Type 0
 SizedIsSnug = (old new : MiniState) (i : ℕ) → KeepsLimits old new → MovesContent old new i → KeepsOthers i old new → IsStreamOf old i
     → SizesChain old new i → AreSnug old → AreSnug new
 
+-- and so has the one stream, whatever the others have
+abbrev pub SizedStaysSnug : Type 0
+SizedStaysSnug = (old new : MiniState) (i : ℕ) → version_of new ≡ version_of old → SizesChain old new i
+    → IsSnug old (entry_at (entries_of old) i) → IsSnug new (entry_at (entries_of new) i)
+
 -- a stream whose length and chain stay has what it had
 abbrev pub SameIsSized : Type 0
 SameIsSized = (validation : Validation) (old new : MiniState) (i : ℕ) → IsChangeable validation old → IsStreamOf old i

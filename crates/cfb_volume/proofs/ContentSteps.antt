@@ -11,14 +11,15 @@ use Rattle.cfb_volume.specs.cfb_mini.MiniSectors.{IsStill}
 use Rattle.cfb_volume.specs.cfb_content.Changed.{MovesAlone, SparesOthers, WasChanged}
 use Rattle.cfb_volume.specs.cfb_content.Contents.{IsStreamOf, MovesContent, len_of}
 use Rattle.cfb_volume.proofs.cfb_content.Outlines.{moved-is-outline, stream-stays}
-use Rattle.cfb_volume.proofs.cfb_content.Snug.{sized-is-snug}
+use Rattle.cfb_volume.proofs.cfb_content.Snug.{sized-is-snug, sized-stays-snug}
 use Rattle.cfb_volume.specs.cfb_resizing.Turning.{KeepsTablesTight}
 use Rattle.cfb_agreement.specs.Changes.{ChangesOneContent, KeepsParts, StaysOrFails}
-use Rattle.cfb_agreement.specs.Files.{Agrees, EmptyStartAtEnd, FileState, Holds, SameSetting, failures_of, is_failed}
+use Rattle.cfb_agreement.specs.Files.{Agrees, FileState, Holds, SameSetting, StartsAtEndIfEmpty, failures_of, is_failed}
 use Rattle.cfb_agreement.proofs.ContentChanges.{content-keeps-parts}
 use Rattle.cfb_agreement.proofs.Flags.{as-before-same, flags-not-read}
 use Rattle.cfb_agreement.proofs.HeldBytes.{changeable-is-held}
 use Rattle.cfb_agreement.proofs.InTurn.{as-before-is-none}
+use Rattle.cfb_agreement.proofs.Settled.{settled-flagged, settled-then}
 use Rattle.cfb_volume.proofs.InsertedObjects.{ended, parts-ended}
 
 -- the file that stands on this
@@ -32,7 +33,7 @@ pub record WentWell (old new : MiniState) (i : ℕ) : Type 0 where
   pub spares : SparesOthers old new i
   pub changed : WasChanged old new i
   pub tight : KeepsTablesTight old new
-  pub at_end : EmptyStartAtEnd old → len_of new i ≡ 0 → (entry_at (entries_of new) i).start_sector ≡ end_of_chain
+  pub at_end : StartsAtEndIfEmpty old i → StartsAtEndIfEmpty new i
 
 -- and of one that was refused
 pub record WasRefused (old new : MiniState) (i : ℕ) : Type 0 where
@@ -90,6 +91,14 @@ module _ (old : FileState) (mid : MiniState) (i : ℕ) (sound : Bool) (limit : �
             let kept = was.spares.others Permissive (held.sound certain) o is k m ne in
             record { chain = kept.chain; sectors = kept.sectors; places = kept.places; mini_sectors = kept.mini_sectors };
         header = record { no_shorter = was.spares.header.no_shorter; bytes = was.spares.header.bytes };
+        sized = λ calm.
+            let sized = was.changed.sized Permissive (held.sound certain) in
+            settled-then i old.base mid (ended mid) (record {
+              cut = sized.shorter;
+              moved = sized.moved;
+              kept = sized-stays-snug old.base mid i was.moves.limits.version sized;
+              ended = was.at_end;
+            }) (settled-flagged i mid (table_of mid).file.failures false);
         parts = λ calm. parts-ended old.base mid content-parts;
         grows = λ calm. was.tight.none_free;
       }
@@ -129,6 +138,7 @@ module _ (old : FileState) (mid : MiniState) (i : ℕ) (sound : Bool) (limit : �
           entries = was.moves.entries;
           others = was.spares.others Permissive (held.sound certain);
           header = was.spares.header;
+          sized = λ down. up-is-not-down (table_of mid).file.begun up down;
           parts = λ down. up-is-not-down (table_of mid).file.begun up down;
           grows = λ down longer. up-is-not-down (table_of mid).file.begun up down;
         }

@@ -74,7 +74,7 @@ returns-in_ok-resize_content-in-Stream-clause-emptied g c told =
           let made = ok.changed told in
           content-keeps-parts i s new e.moves at (made.holds Strict) (made.tidy v change) (made.owned v change) ok.tight.exact
           (sized-is-snug s new i e.moves.limits e.moves.entries ((e.spares told).others v change) at (made.sized v change)) (made.snug_mini v change) (made.gives_back v change)
-          (λ ended. sized-at-end s new i 0 ok.len (λ same. ap entries_of (ok.none same).1) ok.trimmed (ended i at));
+          (sized-at-end s new i 0 ok.len (λ same. ap entries_of (ok.none same).1) ok.trimmed);
       empty = λ stream. ok.len;
     }
 
