@@ -26,7 +26,6 @@ use Rattle.cfb_objects.proofs.Fields.{content-changes-in-place}
 use Rattle.cfb_agreement.specs.cfb_mini_sectors.State.{IsChangeable, MiniState, bytes_of, cases_of, content_of, entries_of, reading_of}
 use Rattle.cfb_agreement.specs.cfb_mini_sectors.Steps.{KeepsLimits}
 use Rattle.cfb_agreement.proofs.cfb_mini_sectors.HeldMini.{held-mini-is-read}
-use Rattle.cfb_content.specs.Changed.{StaysTidy}
 use Rattle.cfb_content.specs.Contents.{IsStreamOf, KeepsOthers, MovesContent, dir_count_of, len_of}
 use Rattle.cfb_content.proofs.Apart.{content-is}
 use Rattle.cfb_content.proofs.Outlines.{moved-at, moved-is-outline, no-root-stream, stream-is-no-root, stream-stays}

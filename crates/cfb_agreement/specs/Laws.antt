@@ -1,7 +1,6 @@
 -- What follows from what a file keeps.
 use Rattle.std.specs.Prelude.{ℕ, ◌≡◌, ◌<◌, ◌≤◌, ◌↔◌, List, Bool, true, false, length, Some}
 use Rattle.cfb_format.specs.declared.validate.Validation.TheVariants.{Permissive, Strict}
-use Rattle.cfb_format.specs.Bytes.{end_of_chain}
 use Rattle.cfb_format.specs.Full.{HasExactTablesFile}
 use Rattle.cfb_format.specs.Meaning.{Means}
 use Rattle.cfb_format.specs.Reading.{IsOutline, IsStrictFile, Outline}
@@ -18,7 +17,7 @@ use Rattle.cfb_agreement.specs.cfb_mini_sectors.Held.{with_table}
 use Rattle.cfb_agreement.specs.cfb_mini_sectors.State.{IsChangeable, MiniState, bytes_of, cases_of, content_of, entries_of, table_of, tables_in}
 use Rattle.cfb_agreement.specs.cfb_mini_sectors.Steps.{IsSnugMini}
 use Rattle.cfb_content.specs.Changed.{FreesMini, MovesAlone, StaysTidy}
-use Rattle.cfb_content.specs.Contents.{AreSnug, IsStreamOf, KeepsOthers, LosesNone, MovesContent, len_of}
+use Rattle.cfb_content.specs.Contents.{AreSnug, IsStreamOf, KeepsOthers, LosesNone, MovesContent}
 use Rattle.cfb_agreement.specs.Files.{FileState, Holds, IsAsBefore, IsAsMade, IsMadeFile, SameSetting, StartsAtEndIfEmpty, failures_of, is_failed}
 use Rattle.cfb_agreement.specs.Changes.{ChangesOneContent, KeepsAllButContent, KeepsParts}
 

@@ -1,8 +1,5 @@
 -- Sectors and mini sectors that are neither free nor in use: none comes to be so.
 use Rattle.std.proofs.Common.{◌≢◌, inl, inr, ℕ, List, ◌∙◌}
-use Rattle.std.specs.Prelude.{Contains}
-use Rattle.cfb_format.specs.Bytes.{free_sector}
-use Rattle.cfb_format.specs.Chain.{value}
 use Rattle.cfb_format.specs.Soundness.{used_mini_sectors, used_sectors}
 use Rattle.cfb_format.proofs.Members.{Contains-or}
 use Rattle.cfb_tables.specs.Owners.{AllUsed, UseChanges}
@@ -14,7 +11,7 @@ use Rattle.cfb_content.specs.Laws.{AllUsedIsKept, NoneIsLostInTurn}
 pub changes-lose-none : (old used new used' : List ℕ) → UseChanges old used new used' → LosesNoneOf old used new used'
 changes-lose-none old used new used' c i busy out = elim (Contains-or used i) [
   | inl was ↦ absurd (busy (c.given_back i was out))
-  | inr not ↦ (λ free. busy (c.stays i not out ∙ free), not)
+  | inr unused ↦ (λ free. busy (c.stays i unused out ∙ free), unused)
 ]
 
 -- where nothing was lost, nothing is

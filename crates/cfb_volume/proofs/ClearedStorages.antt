@@ -1,5 +1,5 @@
 -- A file from one of whose storages all was taken, where the streams in it were empty.
-use Rattle.std.proofs.Common.{◌≡◌, ℕ, List, true, false, sym, subst}
+use Rattle.std.proofs.Common.{◌≡◌, ℕ, List, true, false, subst}
 use Rattle.std.specs.Prelude.{Contains, Some}
 use Rattle.cfb_format.specs.declared.error.Error.{Error}
 use Rattle.cfb_format.specs.declared.error.Error.TheVariants.{AlreadyExists, Failed, Full, InvalidData, InvalidInput, Medium, Memory, NotFound, Unsound}

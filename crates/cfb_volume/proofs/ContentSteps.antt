@@ -1,15 +1,13 @@
 -- What the layers below made of one stream's content is one change of the file: once it has ended, and where it broke off.
 use Rattle.std.proofs.Common.{◌≡◌, ◌⊎◌, inl, inr, ℕ, Bool, true, false, sym, ◌∙◌, ap, subst}
 use Rattle.cfb_format.specs.declared.validate.Validation.TheVariants.{Permissive, Strict}
-use Rattle.cfb_format.specs.Bytes.{end_of_chain}
 use Rattle.cfb_format.specs.Reading.{IsOutline}
-use Rattle.cfb_format.specs.Siblings.{entry_at}
 use Rattle.cfb_volume.specs.cfb_mini_sectors.Held.{with_table}
 use Rattle.cfb_volume.specs.cfb_mini_sectors.State.{MiniState, cases_of, entries_of, table_of}
 use Rattle.cfb_volume.specs.cfb_mini_sectors.Steps.{KeepsLimits}
 use Rattle.cfb_volume.specs.cfb_mini.MiniSectors.{IsStill}
 use Rattle.cfb_volume.specs.cfb_content.Changed.{MovesAlone, SparesOthers, WasChanged}
-use Rattle.cfb_volume.specs.cfb_content.Contents.{IsStreamOf, MovesContent, len_of}
+use Rattle.cfb_volume.specs.cfb_content.Contents.{IsStreamOf, MovesContent}
 use Rattle.cfb_volume.proofs.cfb_content.Outlines.{moved-is-outline, stream-stays}
 use Rattle.cfb_volume.proofs.cfb_content.Snug.{sized-is-snug, sized-stays-snug}
 use Rattle.cfb_volume.specs.cfb_resizing.Turning.{KeepsTablesTight}

@@ -1,5 +1,5 @@
 -- A file in which an object has other fields.
-use Rattle.std.proofs.Common.{◌≡◌, ℕ, List, Bool, false, true, sym, subst}
+use Rattle.std.proofs.Common.{◌≡◌, ℕ, List, Bool, false, true}
 use Rattle.std.specs.Prelude.{IsTrue, Some}
 use Rattle.cfb_format.specs.declared.error.Error.{Error}
 use Rattle.cfb_format.specs.declared.error.Error.TheVariants.{AlreadyExists, Failed, Full, InvalidData, InvalidInput, Medium, Memory, NotFound, Unsound}

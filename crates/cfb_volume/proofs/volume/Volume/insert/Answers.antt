@@ -1,7 +1,7 @@
 use Rattle.std.proofs.Common.{◌≡◌, ◌≤◌, ◌∷◌, ℕ, List, refl, sym, ap, subst, chars, length}
 use Rattle.std.specs.Prelude.{Some}
 use Rattle.std.proofs.lemmas.Result.{err_from_is_err_and}
-use Rattle.cfb_format.specs.declared.validate.Validation.TheVariants.{Permissive, Strict}
+use Rattle.cfb_format.specs.declared.validate.Validation.TheVariants.{Permissive}
 use Rattle.cfb_format.specs.Bytes.{no_stream}
 use Rattle.cfb_format.specs.Reading.{IsOutline, Outline}
 use Rattle.cfb_format.specs.Siblings.{entry_at}
