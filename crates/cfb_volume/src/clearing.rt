@@ -13,7 +13,7 @@ ghost use Rattle.cfb_volume.specs.cfb_trees.Reached.{IsReached};
 ghost use Rattle.cfb_volume.specs.cfb_objects.Laws.{BecomesTree};
 ghost use Rattle.cfb_volume.specs.cfb_mini_sectors.State.{bytes_of, cases_of, entries_of, tables_in};
 ghost use Rattle.cfb_volume.specs.cfb_content.Contents.{IsStreamOf, KeepsFixedHeader, len_of};
-ghost use Rattle.cfb_agreement.specs.Changes.{KeepsStreams, StaysOrFails};
+ghost use Rattle.cfb_agreement.specs.Changes.{KeepsParts, KeepsStreams, StaysOrFails};
 ghost use Rattle.cfb_agreement.specs.Files.{Agrees, Holds, GrowsTightly, SameSetting, failures_of, is_failed};
 ghost use Rattle.cfb_agreement.specs.Laws.{with_flags};
 ghost use Rattle.cfb_entry_changes.specs.Clearing.{ClearsStorage};
