@@ -23,6 +23,7 @@ pub mod Readable
 pub mod Rewritten
 pub mod InUse
 pub mod Changing
+pub mod Lost
 pub mod Sound
 pub mod Snug
 pub mod SnugMini

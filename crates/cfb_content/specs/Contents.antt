@@ -2,7 +2,8 @@
 use Rattle.std.specs.Prelude.{ℕ, ◌≡◌, ◌≢◌, ◌+◌, ◌*◌, ◌/◌, ◌%◌, ◌<◌, ◌≤◌, ◌⊎◌, List, [], true, false, length, max, slice_index, unwrap_or, Contains}
 use Rattle.cfb_format.specs.declared.error.Error.{Error}
 use Rattle.cfb_format.specs.declared.validate.Validation.{Validation}
-use Rattle.cfb_format.specs.Bytes.{sector_len, word_at}
+use Rattle.cfb_format.specs.Bytes.{sector_len, word_at, free_sector}
+use Rattle.cfb_format.specs.Chain.{value}
 use Rattle.cfb_format.specs.Content.{content_chain, is_large, mini_chain, mini_sector_len, mini_stream_chain, mini_stream_cutoff, sector_chain}
 use Rattle.cfb_format.specs.DirectoryEntry.{Entry, ButContent}
 use Rattle.cfb_format.specs.Full.{IsTooLong, mini_sectors_for, minifat_len_for, sectors_for}
@@ -91,6 +92,20 @@ pub record KeepsFixedHeader (old new : MiniState) : Type 0 where
 pub record AreAllUsed (s : MiniState) : Type 0 where
   pub sectors : (o : Outline) → IsOutline (cases_of s) (entries_of s) o → AllUsed (tables_in s).fat (used_sectors (parts_with s o))
   pub mini_sectors : (o : Outline) → IsOutline (cases_of s) (entries_of s) o → AllUsed s.minifat (used_mini_sectors (parts_with s o))
+
+-- of a table what is neither free nor in use was so before, too
+abbrev pub LosesNoneOf : List ℕ → List ℕ → List ℕ → List ℕ → Type 0
+LosesNoneOf old used new used' = (i : ℕ) → value new i ≢ free_sector → (Contains used' i → ⊥) → (value old i ≢ free_sector) × (Contains used i → ⊥)
+
+-- under these outlines no sector and no mini sector is lost that was not lost before
+pub record LosesNoneUnder (old new : MiniState) (before after : Outline) : Type 0 where
+  pub sectors : LosesNoneOf (tables_in old).fat (used_sectors (parts_with old before)) (tables_in new).fat (used_sectors (parts_with new after))
+  pub mini_sectors : LosesNoneOf old.minifat (used_mini_sectors (parts_with old before)) new.minifat (used_mini_sectors (parts_with new after))
+
+-- no sector and no mini sector is lost, neither free nor in use, that was not lost before
+abbrev pub LosesNone : MiniState → MiniState → Type 0
+LosesNone old new = (after : Outline) → IsOutline (cases_of new) (entries_of new) after
+    → (before : Outline) × IsOutline (cases_of old) (entries_of old) before × LosesNoneUnder old new before after
 
 -- ---- how long a chain is
 

@@ -18,6 +18,7 @@ use Rattle.cfb_copies.specs.cfb_agreement.Files.{Agrees, FileState, Holds, SameS
 use Rattle.cfb_copies.specs.Steps.{FillsStream, GrowsTree, StaysWithoutFree}
 use Rattle.cfb_volume.proofs.Settings.{setting-same}
 use Rattle.cfb_copies.proofs.cfb_agreement.InTurn.{setting-then}
+use Rattle.cfb_copies.proofs.cfb_agreement.Parts.{parts-keep-made}
 
 pub fills_none : (tells : Bool) (i : ℕ) (file : FileState) → is_failed file ≡ false → IsStreamOf file.base i → FillsStream tells i file file
 fills_none tells i file calm stream = record {
@@ -46,7 +47,7 @@ fills_written tells i old new setting calm stream moves agrees changes full coun
   holds = λ told holds. agrees told holds calm;
   others = λ told holds. (changes told holds).others;
   header = λ told holds. (changes told holds).header;
-  made = λ told holds made. (changes told holds).made calm made;
+  made = λ told holds made. parts-keep-made old.base new.base ((changes told holds).parts calm) made;
   none_free = full;
   calm = counted;
 }

@@ -18,7 +18,7 @@ use Rattle.cfb_resizing.specs.cfb_mini_sectors.Held.{with_table}
 use Rattle.cfb_resizing.specs.cfb_mini.MiniSectors.{IsStill}
 use Rattle.cfb_resizing.proofs.cfb_mini.WholeFiles.{same-whole}
 use Rattle.cfb_content.specs.Changed.{MovesAlone, StaysTidy}
-use Rattle.cfb_content.specs.Contents.{AreAllUsed, IsNotChangeable, MovesContent, SizesChain, StopsStillOrBegun, dir_count_of}
+use Rattle.cfb_content.specs.Contents.{IsNotChangeable, LosesNone, MovesContent, SizesChain, StopsStillOrBegun, dir_count_of}
 use Rattle.cfb_content.proofs.Outlines.{same-entries-moved}
 use Rattle.cfb_resizing.specs.Turning.{KeepsTablesTight, StopsOrIsFull}
 use Rattle.cfb_resizing.proofs.cfb_rules.StreamBounds.{length_resized}
@@ -63,8 +63,9 @@ module _ (old new : MiniState) (rest : new ≡ with_table old (record (table_of 
     directory = moves.directory;
   })
 
-  pub filed-used : AreAllUsed old → AreAllUsed new
-  filed-used used = subst AreAllUsed (sym rest) (record { sectors = used.sectors; mini_sectors = used.mini_sectors })
+  pub filed-loses-none : LosesNone old new
+  filed-loses-none = subst (λ (s : MiniState). LosesNone old s) (sym rest)
+      (λ after is. (after, is, record { sectors = λ i busy out. (busy, out); mini_sectors = λ i busy out. (busy, out) }))
 
   pub filed-tidy : (v : Validation) (before : MiniState) → HoldsMini v new → dir_count_of new ≡ dir_count_of old → length (bytes_of old) ≤ length (bytes_of new)
       → StaysTidy before old → StaysTidy before new

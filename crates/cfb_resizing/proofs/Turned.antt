@@ -25,7 +25,7 @@ use Rattle.cfb_resizing.specs.cfb_chains.ChainPlaces.{place_along}
 use Rattle.cfb_resizing.specs.cfb_mini_table.MiniTable.{MiniGivesBack, TakesMini}
 use Rattle.cfb_resizing.specs.cfb_mini_sectors.State.{HoldsMini, MiniState, bytes_of, content_of, entries_of, mini_stream_of, parts_of, tables_in, version_of, IsChangeable}
 use Rattle.cfb_resizing.specs.cfb_mini_sectors.Steps.{IsInMiniStream, IsZeroMini, IsSnugMini}
-use Rattle.cfb_content.specs.Contents.{SizesChain, ErasesMinis, WipesMinis, len_of, mini_place_along, mini_sectors_owned, sector_of_mini, sectors_owned, AreAllUsed}
+use Rattle.cfb_content.specs.Contents.{SizesChain, ErasesMinis, WipesMinis, len_of, mini_place_along, mini_sectors_owned, sector_of_mini, sectors_owned, AreAllUsed, LosesNone}
 use Rattle.cfb_content.specs.Laws.{StandsResized}
 use Rattle.cfb_content.specs.Uses.{ChangesContent, ChangesUse, Owns}
 use Rattle.cfb_content.specs.Changed.{FreesMini, StaysTidy, WasChanged}
@@ -73,7 +73,7 @@ always-on-ok (Err e) p = tt
 
 -- what a step answers of each mode, it answers of all
 pub all-changed : {T E : Type 0} (r : Result T E) (old new : MiniState) (i : ℕ) → ((v : Validation) → IsChangeable v old → OnOk r (IsChangeable v new))
-    → ((v : Validation) → IsChangeable v old → AreAllUsed old → OnOk r (AreAllUsed new)) → ((v : Validation) → IsChangeable v old → OnOk r (SizesChain old new i))
+    → ((v : Validation) → IsChangeable v old → OnOk r (LosesNone old new)) → ((v : Validation) → IsChangeable v old → OnOk r (SizesChain old new i))
     → ((v : Validation) → IsChangeable v old → IsSnugMini old → IsSnugMini new) → ((v : Validation) → IsChangeable v old → FreesMini old new → IsSnugMini new)
     → ((v : Validation) → IsChangeable v old → OnOk r (StaysTidy old new)) → OnOk r (WasChanged old new i)
 all-changed (Ok x) old new i holds owned sized snug freed tidy =

@@ -12,8 +12,8 @@ ghost use Rattle.cfb_volume.specs.cfb_trees.Reached.{IsReached};
 ghost use Rattle.cfb_volume.specs.cfb_objects.Laws.{BecomesTree};
 ghost use Rattle.cfb_volume.specs.cfb_mini_sectors.State.{bytes_of, cases_of, entries_of, tables_in, version_of};
 ghost use Rattle.cfb_volume.specs.cfb_content.Contents.{KeepsFixedHeader, len_of};
-ghost use Rattle.cfb_agreement.specs.Changes.{KeepsStreams, StaysOrFails};
-ghost use Rattle.cfb_agreement.specs.Files.{Agrees, Holds, IsAsMade, SameSetting, failures_of, is_failed};
+ghost use Rattle.cfb_agreement.specs.Changes.{KeepsParts, KeepsStreams, StaysOrFails};
+ghost use Rattle.cfb_agreement.specs.Files.{Agrees, Holds, SameSetting, failures_of, is_failed};
 ghost use Rattle.cfb_entry_changes.specs.Kept.{AllStayBalanced, FindsTheSame};
 ghost use Rattle.cfb_entry_changes.specs.Marking.{GivesFields};
 
@@ -70,8 +70,8 @@ impl<F: Medium, A: Heap> Volume<F, A> {
         ensures others { IsTrue F.tells → Holds self.old
             → KeepsStreams self.old.base self.new.base }
         ensures header { IsTrue F.tells → KeepsFixedHeader self.old.base self.new.base }
-        ensures made { IsTrue F.tells → Holds self.old → IsAsMade self.old.base
-            → OnOk result (IsAsMade self.new.base) }
+        ensures parts { IsTrue F.tells → Holds self.old
+            → OnOk result (KeepsParts self.old.base self.new.base) }
         ensures balanced { OnOk result (AllStayBalanced self.old.base self.new.base) }
         ensures root_len { OnOk result (len_of self.new.base 0 ≡ len_of self.old.base 0) }
         ensures agrees { IsTrue F.tells → Holds self.old → Agrees self.new }

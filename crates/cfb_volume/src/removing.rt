@@ -17,8 +17,8 @@ ghost use Rattle.cfb_volume.specs.cfb_mini.MiniSectors.{IsStill};
 ghost use Rattle.cfb_volume.specs.cfb_content.Changed.{MovesAlone, SparesOthers};
 ghost use Rattle.cfb_volume.specs.cfb_content.Contents.{KeepsFixedHeader, KeepsOthers, len_of};
 ghost use Rattle.cfb_entry_changes.specs.Kept.{AllStayBalancedBut, FindsAllBut};
-ghost use Rattle.cfb_agreement.specs.Changes.{StaysOrFails};
-ghost use Rattle.cfb_agreement.specs.Files.{Agrees, Holds, IsAsMade, GrowsTightly, SameSetting, failures_of, is_failed};
+ghost use Rattle.cfb_agreement.specs.Changes.{KeepsParts, StaysOrFails};
+ghost use Rattle.cfb_agreement.specs.Files.{Agrees, Holds, GrowsTightly, SameSetting, failures_of, is_failed};
 ghost use Rattle.cfb_volume.specs.Removing.{StaysOrGaveBack, WasEmptied};
 ghost use Rattle.cfb_volume.specs.Slots.{TakesNoSlot};
 
@@ -101,8 +101,8 @@ impl<F: Medium, A: Heap + Clone> Volume<F, A> {
         ensures others { IsTrue F.tells → Holds self.old
             → KeepsOthers child self.old.base self.new.base }
         ensures header { IsTrue F.tells → KeepsFixedHeader self.old.base self.new.base }
-        ensures made { IsTrue F.tells → Holds self.old → IsAsMade self.old.base
-            → OnOk result (IsAsMade self.new.base) }
+        ensures parts { IsTrue F.tells → Holds self.old
+            → OnOk result (KeepsParts self.old.base self.new.base) }
         ensures grows { OnOk result (GrowsTightly self.old.base self.new.base) }
         ensures takes_none { length (tables_in self.new.base).fat ≡ length
             (tables_in self.old.base).fat }

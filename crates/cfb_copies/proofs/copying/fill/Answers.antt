@@ -18,6 +18,7 @@ use Rattle.cfb_copies.specs.Steps.{fields_like}
 use Rattle.cfb_copies.proofs.Faults.{medium_breaks}
 use Rattle.cfb_copies.proofs.Filled.{ends, means_cut, root_alone, starts, starts_allowed}
 use Rattle.cfb_copies.proofs.Growing.{grows_by, grows_then, ordered, same_tables}
+use Rattle.cfb_copies.proofs.cfb_agreement.Parts.{parts-keep-made}
 use Rattle.cfb_copies.proofs.Likes.{gives_all, like_len, like_start, like_valid}
 use Rattle.cfb_copies.proofs.copying.fill.Goals as goal
 
@@ -55,7 +56,7 @@ returns-clause-grows g c =
     let mid = c.set_fields.new.self in
     let s = c.in_ok-set_fields.ensures in
     let first = grows_by tells old mid s.setting s.ended (ordered old c.entries-before.ensures.in_order) (ordered mid c.entries-behind.ensures.in_order)
-    (λ before after was is names k at. s.finds before after was is names ∙ at) (λ told holds. s.agrees told holds) (λ told. s.header told) (λ told holds made. s.made told holds made) (same_tables old mid s.tables) (λ told. s.counts told) in
+    (λ before after was is names k at. s.finds before after was is names ∙ at) (λ told holds. s.agrees told holds) (λ told. s.header told) (λ told holds made. parts-keep-made old.base mid.base (s.parts told holds) made) (same_tables old mid s.tables) (λ told. s.counts told) in
     on_ok_weaker c.copy_listed.result (λ more. grows_then tells old mid c.copy_listed.new.target first more) c.copy_listed.ensures.grows
 
 pub returns-clause-tree : goal.returns-clause-tree

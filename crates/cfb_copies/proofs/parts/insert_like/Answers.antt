@@ -17,6 +17,7 @@ use Rattle.cfb_copies.specs.Steps.{IsLikeIn, TakesName, fields_like, like_added}
 use Rattle.cfb_copies.proofs.Adding.{like_joins, set_like}
 use Rattle.cfb_copies.proofs.Faults.{break_at_all, counted_gives, medium_breaks}
 use Rattle.cfb_copies.proofs.Growing.{grows_by, grows_then, leads_still, ordered, reached_still, same_tables}
+use Rattle.cfb_copies.proofs.cfb_agreement.Parts.{parts-keep-made}
 use Rattle.cfb_copies.proofs.Likes.{like_len, like_start, like_valid}
 use Rattle.cfb_copies.proofs.parts.insert_like.Goals as goal
 
@@ -39,9 +40,9 @@ returns-clause-grows g c =
     let s = c.in_ok-set_fields.ensures in
     grows_then tells old mid new
     (grows_by tells old mid w.setting w.ended (ordered old c.entries-before.ensures.in_order) (ordered mid c.entries-between.ensures.in_order) w.stays (λ told holds. w.agrees told holds)
-    (λ told. w.header told) (λ told holds made. w.made told holds made) w.stays_full (λ told. w.counts told))
+    (λ told. w.header told) (λ told holds made. parts-keep-made old.base mid.base (w.parts told holds) made) w.stays_full (λ told. w.counts told))
     (grows_by tells mid new s.setting s.ended (ordered mid c.entries-between.ensures.in_order) (ordered new c.entries-behind.ensures.in_order)
-    (λ before after was is names k at. s.finds before after was is names ∙ at) (λ told holds. s.agrees told holds) (λ told. s.header told) (λ told holds made. s.made told holds made) (same_tables mid new s.tables) (λ told. s.counts told))
+    (λ before after was is names k at. s.finds before after was is names ∙ at) (λ told holds. s.agrees told holds) (λ told. s.header told) (λ told holds made. parts-keep-made mid.base new.base (s.parts told holds) made) (same_tables mid new s.tables) (λ told. s.counts told))
 
 pub returns-then-not-takes_name-clause-err : goal.returns-then-not-takes_name-clause-err
 returns-then-not-takes_name-clause-err g c told holds takes =

@@ -18,7 +18,7 @@ use Rattle.cfb_growing.proofs.cfb_content.Changed.{moves-same, spares-same}
 use Rattle.cfb_growing.proofs.cfb_content.FreedMinis.{frees-before}
 use Rattle.cfb_growing.proofs.cfb_content.SnugMini.{kept-is-snug-mini}
 use Rattle.cfb_resizing.proofs.SnugMinis.{puts-frees}
-use Rattle.cfb_growing.proofs.cfb_content.Sound.{all-used-kept, changed-is-changeable}
+use Rattle.cfb_growing.proofs.cfb_content.Sound.{changed-is-changeable, changed-loses-none}
 use Rattle.cfb_growing.proofs.cfb_content.StreamEntry.{stream-inside}
 use Rattle.cfb_resizing.proofs.LengthenedMinis.{not-both}
 use Rattle.cfb_resizing.proofs.Named.{WasNamed, around-moves, moves-then, named-changes, named-keeps-others, named-tidy, placed-stays}
@@ -145,8 +145,8 @@ returns-clause-changed g c told =
     (λ v change. on_ok_weaker c.name_content.result
     (λ t. changed-is-changeable v i s new (named-changes v s c.put_at_end.new.mini new i (named g c told v change) t.0) t.1.used t.1.chain t.1.whole)
     (appended-then g c told v change))
-    (λ v change all. on_ok_weaker c.name_content.result
-    (λ t. all-used-kept v i s new (named-changes v s c.put_at_end.new.mini new i (named g c told v change) t.0) t.1.used all) (appended-then g c told v change))
+    (λ v change. on_ok_weaker c.name_content.result
+    (λ t. changed-loses-none v i s new (named-changes v s c.put_at_end.new.mini new i (named g c told v change) t.0) t.1.used) (appended-then g c told v change))
     (λ v change. on_ok_weaker c.name_content.result (λ t. t.1.sized) (appended-then g c told v change))
     (λ v change snug. kept-is-snug-mini c.put_at_end.new.mini new c.name_content.ensures.limits.version c.name_content.ensures.mini
     (ap (λ (e : Entry). e.start_sector) c.name_content.ensures.root) (ap (λ (e : Entry). e.stream_len) c.name_content.ensures.root)

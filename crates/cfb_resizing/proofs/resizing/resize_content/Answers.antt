@@ -19,7 +19,7 @@ use Rattle.cfb_content.proofs.Fullness.{enough-is-not-too-long, lack-is-too-long
 use Rattle.cfb_content.proofs.Outlines.{moved-root-moved, stream-is-no-root, stream-stays}
 use Rattle.cfb_content.proofs.Readable.{whole-of}
 use Rattle.cfb_content.proofs.Rewritten.{resized-same}
-use Rattle.cfb_content.proofs.Sound.{all-used-kept, changed-is-changeable}
+use Rattle.cfb_content.proofs.Sound.{changed-is-changeable, changed-loses-none}
 use Rattle.cfb_content.proofs.StreamEntry.{stream-inside}
 use Rattle.cfb_content.proofs.FixedHeader.{header-then, spared-keeps-header}
 use Rattle.cfb_resizing.proofs.CarriedToMinis.{kept-after, medium-after}
@@ -216,8 +216,8 @@ returns-clause-changed g c told =
     (λ t at. changed-is-changeable v i s new (named-changes v s c.turn.new.mini new i (named g c told v change) t.0) t.1.used t.1.chain
     (turned-whole s new i c.args.size t.1 (ap (λ e. e.stream_len) at)))
     (turned-then g c told v change) c.name_content.ensures.named)
-    (λ v change all. on_ok_weaker c.name_content.result
-    (λ t. all-used-kept v i s new (named-changes v s c.turn.new.mini new i (named g c told v change) t.0) t.1.used all) (turned-then g c told v change))
+    (λ v change. on_ok_weaker c.name_content.result
+    (λ t. changed-loses-none v i s new (named-changes v s c.turn.new.mini new i (named g c told v change) t.0) t.1.used) (turned-then g c told v change))
     (λ v change. on_ok_weaker c.name_content.result (λ t. t.1.sized) (turned-then g c told v change))
     (λ v change snug. kept-is-snug-mini c.turn.new.mini new c.name_content.ensures.limits.version c.name_content.ensures.mini
     (ap (λ (e : Entry). e.start_sector) c.name_content.ensures.root) (ap (λ (e : Entry). e.stream_len) c.name_content.ensures.root)

@@ -12,7 +12,7 @@ use Rattle.cfb_volume.specs.cfb_mini_sectors.Steps.{KeepsLimits}
 use Rattle.cfb_volume.specs.cfb_content.Contents.{IsNotChangeable, IsStreamOf, IsTooLongFor, MovesContent, len_of}
 use Rattle.cfb_volume.specs.cfb_resizing.Turning.{LeavesNoMinis}
 use Rattle.cfb_agreement.specs.Changes.{ChangesOneContent}
-use Rattle.cfb_agreement.specs.Files.{EmptyStartAtEnd, FileState, Holds, SameSetting}
+use Rattle.cfb_agreement.specs.Files.{FileState, Holds, SameSetting, StartsAtEndIfEmpty}
 use Rattle.cfb_volume.proofs.ContentSteps.{WasRefused, WentWell, ended-changes, ended-entries, ended-holds, ended-same, ended-setting, ended-stream, file_on, refused-agrees, refused-changes, refused-setting, refused-stays, refused-stream}
 use Rattle.cfb_volume.proofs.EmptyStreams.{put-in-at-end}
 use Rattle.cfb_volume.proofs.Refusals.{append-break, why-full}
@@ -102,9 +102,9 @@ changed g c told =
     let s = c.self.inside.mini in
     let i = c.args.entry in
     let longer : 0 < length c.args.bytes.now → 0 < len_of c.append_all.new.mini i = λ more. let len = ok.len in omega (arith, len, more) in
-    let at-end = λ (at : IsStreamOf s i) (all : EmptyStartAtEnd s). put-in-at-end s c.append_all.new.mini i (length c.args.bytes.now) longer (λ none. ap entries_of (ok.none none).1) (all i at) in
+    let at-end = λ (was : StartsAtEndIfEmpty s i). put-in-at-end s c.append_all.new.mini i (length c.args.bytes.now) longer (λ none. ap entries_of (ok.none none).1) was in
     subst (λ (f : FileState). IsStreamOf f.base c.args.entry → WentWell f.base c.append_all.new.mini c.args.entry) c.self.view_is
-    (λ at. record { stream = at; moves = e.moves; spares = e.spares told; changed = ok.changed told; tight = ok.tight; at_end = at-end at }) c.requires.stream
+    (λ at. record { stream = at; moves = e.moves; spares = e.spares told; changed = ok.changed told; tight = ok.tight; at_end = at-end }) c.requires.stream
 
 pub returns-clause-stream : goal.returns-clause-stream
 returns-clause-stream g c =

@@ -152,7 +152,7 @@ returns-clause-emptied g c =
     let same = hand-ok step c.hand_on.new.self c.in_ok-some.some c.clear-cleared.result c.hand_on.ensures.fails _ is in
     subst (λ (f : FileState). EmptiesStorage g.F.ReadMedium.tells c.args.top start f) (sym same)
     (empties-storage g.F.ReadMedium.tells c.args.top start mid x.outline c.requires.top x.has i step w.setting (step-ok c.clear-cleared.result _ is w.cleared)
-    (step-ok c.clear-cleared.result _ is w.ended) w.same_tables (λ told held. w.agrees told held) (λ told held made. step-ok c.clear-cleared.result _ is (w.made told held made))
+    (step-ok c.clear-cleared.result _ is w.ended) w.same_tables (λ told held. w.agrees told held) (λ told held. step-ok c.clear-cleared.result _ is (w.parts told held))
     (λ told held. w.others told held) (λ told. w.header told) (λ told held. step-ok c.clear-cleared.result _ is (w.tree told held))
     (λ told. step-ok-counts g.F.Medium.write_faults (failures_of mid) (failures_of step) c.clear-cleared.result _ is (w.counts told)))
 

@@ -19,14 +19,14 @@ use Rattle.cfb_volume.specs.cfb_content.Changed.{MovesAlone}
 use Rattle.cfb_volume.specs.cfb_content.Contents.{KeepsFixedHeader, KeepsOthers, len_of}
 use Rattle.cfb_volume.proofs.cfb_content.FixedHeader.{header-then, spared-keeps-header}
 use Rattle.cfb_entry_changes.specs.Kept.{AllStayBalancedBut, FindsAllBut}
-use Rattle.cfb_agreement.specs.Changes.{StaysOrFails}
-use Rattle.cfb_agreement.specs.Files.{Agrees, FileState, Holds, IsAsMade}
+use Rattle.cfb_agreement.specs.Changes.{KeepsParts, StaysOrFails}
+use Rattle.cfb_agreement.specs.Files.{Agrees, FileState, Holds}
 use Rattle.cfb_volume.specs.Removing.{StaysOrGaveBack, WasEmptied}
 use Rattle.cfb_volume.specs.Slots.{TakesNoSlot}
 use Rattle.cfb_volume.proofs.ContentSteps.{file_on}
 use Rattle.cfb_volume.proofs.InsertedObjects.{ended, header-ended, same-file}
 use Rattle.cfb_volume.proofs.Refusals.{after-any, after-less, after-none, file-after}
-use Rattle.cfb_volume.proofs.RemovedObjects.{WasRemoved, child-stays, empty-break, others-ended, others-then, remove-balanced, remove-finds, remove-holds, remove-keeps-root, remove-made, remove-tree, stays-agrees, stays-by, stays-then, storage-stays, was-removed}
+use Rattle.cfb_volume.proofs.RemovedObjects.{WasRemoved, child-stays, empty-break, others-ended, others-then, remove-balanced, remove-finds, remove-holds, remove-keeps-root, remove-parts, remove-tree, stays-agrees, stays-by, stays-then, storage-stays, was-removed}
 use Rattle.cfb_volume.proofs.volume.Volume.remove.Goals.{After-remove_dir_entry, In_ok-remove_dir_entry}
 use Rattle.cfb_volume.proofs.volume.Volume.remove.Goals as goal
 
@@ -232,11 +232,10 @@ returns-clause-header g c told =
     subst (λ (m : MiniState). KeepsFixedHeader c.args.self.now.base m) (sym c.end_change.ensures)
     (header-ended c.args.self.now.base c.remove_dir_entry.new.self (header-kept g (goal.at.returns-clause-header g c).After-remove_dir_entry told))
 
-pub returns-clause-made : goal.returns-clause-made
-returns-clause-made g c told holds made =
-    let storage : IsReachedStorage (cases_of c.args.self.now.base) (entries_of c.args.self.now.base) c.args.parent = c.requires.parent in
-    subst (λ (m : MiniState). IsAsMade m) (sym c.end_change.ensures)
-    (remove-made (removed g (goal.at.returns-clause-made g c).In_ok-remove_dir_entry told) storage.outline storage.is made)
+pub returns-clause-parts : goal.returns-clause-parts
+returns-clause-parts g c told holds =
+    subst (λ (m : MiniState). KeepsParts c.args.self.now.base m) (sym c.end_change.ensures)
+    (remove-parts (removed g (goal.at.returns-clause-parts g c).In_ok-remove_dir_entry told) c.requires.sound holds)
 
 pub returns-clause-slots : goal.returns-clause-slots
 returns-clause-slots g c =

@@ -36,8 +36,8 @@ returns-in-Some-clause-counts g c told = counts-both (ClearingBreaksOff g.F.Read
 pub returns-in-Some-clause-balanced : goal.returns-in-Some-clause-balanced
 returns-in-Some-clause-balanced g c told = on-ok c.remove_with_all.result (λ w. w.balanced told) c.remove_with_all.ensures.removed
 
-pub returns-in-Some-clause-made : goal.returns-in-Some-clause-made
-returns-in-Some-clause-made g c told holds made = on-ok c.remove_with_all.result (λ w. w.made told holds made) c.remove_with_all.ensures.removed
+pub returns-in-Some-clause-parts : goal.returns-in-Some-clause-parts
+returns-in-Some-clause-parts g c told holds = on-ok c.remove_with_all.result (λ w. w.parts told holds) c.remove_with_all.ensures.removed
 
 pub returns-in-Some-clause-grows : goal.returns-in-Some-clause-grows
 returns-in-Some-clause-grows g c = on-ok c.remove_with_all.result (λ w. same-grows c.args.self.now.base c.remove_with_all.new.self.base w.same_length) c.remove_with_all.ensures.removed
@@ -71,8 +71,8 @@ returns-in-None-clause-root_tree g c told holds =
 pub returns-in-None-clause-balanced : goal.returns-in-None-clause-balanced
 returns-in-None-clause-balanced g c told = on-ok c.empty_storage.result (λ w. balanced-but c.args.self.now.base c.empty_storage.new.self.base c.args.top w.childless w.balanced) c.empty_storage.ensures.emptied
 
-pub returns-in-None-clause-made : goal.returns-in-None-clause-made
-returns-in-None-clause-made g c told holds made = on-ok c.empty_storage.result (λ w. w.made told holds made) c.empty_storage.ensures.emptied
+pub returns-in-None-clause-parts : goal.returns-in-None-clause-parts
+returns-in-None-clause-parts g c told holds = on-ok c.empty_storage.result (λ w. w.parts told holds) c.empty_storage.ensures.emptied
 
 pub returns-in-None-clause-slots : goal.returns-in-None-clause-slots
 returns-in-None-clause-slots g c = on-ok c.empty_storage.result (λ w. record { slots = w.longer; fat = w.same_length }) c.empty_storage.ensures.emptied

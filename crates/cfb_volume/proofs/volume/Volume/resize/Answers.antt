@@ -10,7 +10,7 @@ use Rattle.cfb_volume.specs.cfb_mini_sectors.State.{HoldsMini, IsChangeable, Min
 use Rattle.cfb_volume.specs.cfb_mini_sectors.Steps.{KeepsLimits}
 use Rattle.cfb_volume.specs.cfb_content.Contents.{IsNotChangeable, IsStreamOf, IsTooLongFor, MovesContent, len_of}
 use Rattle.cfb_agreement.specs.Changes.{ChangesOneContent}
-use Rattle.cfb_agreement.specs.Files.{EmptyStartAtEnd, FileState, Holds, SameSetting}
+use Rattle.cfb_agreement.specs.Files.{FileState, Holds, SameSetting, StartsAtEndIfEmpty}
 use Rattle.cfb_volume.proofs.ContentSteps.{WasRefused, WentWell, ended-changes, ended-entries, ended-holds, ended-same, ended-setting, ended-stream, file_on, refused-agrees, refused-changes, refused-setting, refused-stays, refused-stream}
 use Rattle.cfb_volume.proofs.Emptying.{emptying-fits}
 use Rattle.cfb_volume.proofs.EmptyStreams.{sized-at-end}
@@ -106,9 +106,9 @@ changed g c told =
     let ok = c.in_ok-resize_content.ensures in
     let s = c.self.inside.mini in
     let i = c.args.entry in
-    let at-end = λ (at : IsStreamOf s i) (all : EmptyStartAtEnd s). sized-at-end s c.resize_content.new.mini i c.args.len ok.len (λ same. ap entries_of (ok.none same).1) ok.trimmed (all i at) in
+    let at-end = λ (was : StartsAtEndIfEmpty s i). sized-at-end s c.resize_content.new.mini i c.args.len ok.len (λ same. ap entries_of (ok.none same).1) ok.trimmed was in
     subst (λ (f : FileState). IsStreamOf f.base c.args.entry → WentWell f.base c.resize_content.new.mini c.args.entry) c.self.view_is
-    (λ at. record { stream = at; moves = e.moves; spares = e.spares told; changed = ok.changed told; tight = ok.tight; at_end = at-end at }) c.requires.stream
+    (λ at. record { stream = at; moves = e.moves; spares = e.spares told; changed = ok.changed told; tight = ok.tight; at_end = at-end }) c.requires.stream
 
 pub returns-clause-len : goal.returns-clause-len
 returns-clause-len g c = ap (λ (s : MiniState). len_of s c.args.entry) c.end_change.ensures ∙ c.in_ok-resize_content.ensures.len

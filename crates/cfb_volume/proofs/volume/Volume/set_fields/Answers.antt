@@ -17,11 +17,11 @@ use Rattle.cfb_volume.specs.cfb_mini_sectors.State.{HoldsMini, MiniState, bytes_
 use Rattle.cfb_volume.specs.cfb_mini_sectors.Steps.{KeepsLimits, KeepsMini, StopsShort}
 use Rattle.cfb_volume.specs.cfb_content.Contents.{KeepsFixedHeader, len_of}
 use Rattle.cfb_volume.proofs.cfb_content.FixedHeader.{spared-keeps-header}
-use Rattle.cfb_agreement.specs.Changes.{KeepsStreams, StaysOrFails}
-use Rattle.cfb_agreement.specs.Files.{Agrees, FileState, Holds, IsAsMade}
+use Rattle.cfb_agreement.specs.Changes.{KeepsParts, KeepsStreams, StaysOrFails}
+use Rattle.cfb_agreement.specs.Files.{Agrees, FileState, Holds}
 use Rattle.cfb_entry_changes.specs.Kept.{AllStayBalanced, FindsTheSame}
 use Rattle.cfb_volume.proofs.InsertedObjects.{ended, header-ended, insert-keeps-streams, refused-agrees, refused-stays, same-file, streams-ended}
-use Rattle.cfb_volume.proofs.MarkedObjects.{WasMarked, mark-finds, mark-holds, mark-is-balanced, mark-keeps-root, mark-made, mark-refused, mark-tree, reached-valid}
+use Rattle.cfb_volume.proofs.MarkedObjects.{WasMarked, mark-finds, mark-holds, mark-is-balanced, mark-keeps-root, mark-parts, mark-refused, mark-tree, reached-valid}
 use Rattle.cfb_volume.proofs.volume.Volume.set_fields.Goals as goal
 use Rattle.cfb_volume.proofs.volume.Volume.set_fields.Goals.{In_ok-with_dir_entry_mut}
 
@@ -150,10 +150,10 @@ returns-clause-header g c told =
     subst (λ (s : MiniState). KeepsFixedHeader c.args.self.now.base s) (sym c.end_change.ensures) (header-ended c.args.self.now.base mid
     (subst (λ (f : FileState). KeepsFixedHeader f.base mid) c.self.view_is (spared-keeps-header _ c.self.inside.mini mid (c.with_dir_entry_mut.ensures.spares told))))
 
-pub returns-clause-made : goal.returns-clause-made
-returns-clause-made g c told holds made =
-    subst (λ (s : MiniState). IsAsMade s) (sym c.end_change.ensures)
-    (mark-made (marked g (goal.at.returns-clause-made g c).In_ok-with_dir_entry_mut) told made)
+pub returns-clause-parts : goal.returns-clause-parts
+returns-clause-parts g c told holds =
+    subst (λ (s : MiniState). KeepsParts c.args.self.now.base s) (sym c.end_change.ensures)
+    (mark-parts (marked g (goal.at.returns-clause-parts g c).In_ok-with_dir_entry_mut) told c.requires.sound holds)
 
 pub returns-clause-balanced : goal.returns-clause-balanced
 returns-clause-balanced g c =

@@ -13,7 +13,7 @@ use Rattle.cfb_volume.specs.cfb_content.Contents.{IsNotChangeable, IsStreamOf, I
 use Rattle.cfb_volume.specs.cfb_resizing.Turning.{LeavesNoMinis}
 use Rattle.cfb_growing.specs.Putting.{ChangesFileAlone}
 use Rattle.cfb_agreement.specs.Changes.{ChangesOneContent}
-use Rattle.cfb_agreement.specs.Files.{EmptyStartAtEnd, FileState, Holds, SameSetting}
+use Rattle.cfb_agreement.specs.Files.{FileState, Holds, SameSetting, StartsAtEndIfEmpty}
 use Rattle.cfb_volume.proofs.ContentSteps.{WasRefused, WentWell, ended-changes, ended-entries, ended-holds, ended-same, ended-setting, ended-stream, file_on, refused-agrees, refused-changes, refused-setting, refused-stays, refused-stream}
 use Rattle.cfb_volume.proofs.EmptyStreams.{put-in-at-end}
 use Rattle.cfb_volume.proofs.Refusals.{why-full, write-break}
@@ -109,9 +109,9 @@ changed g c told =
     let s = c.self.inside.mini in
     let i = c.args.entry in
     let longer : 0 < length c.args.bytes.now → 0 < len_of c.put_content.new.mini i = λ more. let len = ok.len in let some = ok.some more in omega (arith, len, some) in
-    let at-end = λ (at : IsStreamOf s i) (all : EmptyStartAtEnd s). put-in-at-end s c.put_content.new.mini i (length c.args.bytes.now) longer (λ none. ap entries_of (e.within (inr none))) (all i at) in
+    let at-end = λ (was : StartsAtEndIfEmpty s i). put-in-at-end s c.put_content.new.mini i (length c.args.bytes.now) longer (λ none. ap entries_of (e.within (inr none))) was in
     subst (λ (f : FileState). IsStreamOf f.base c.args.entry → WentWell f.base c.put_content.new.mini c.args.entry) c.self.view_is
-    (λ at. record { stream = at; moves = e.moves; spares = e.spares told; changed = ok.changed told; tight = ok.tight; at_end = at-end at }) c.requires.stream
+    (λ at. record { stream = at; moves = e.moves; spares = e.spares told; changed = ok.changed told; tight = ok.tight; at_end = at-end }) c.requires.stream
 
 pub returns-clause-stream : goal.returns-clause-stream
 returns-clause-stream g c =
