@@ -19,7 +19,8 @@ use Rattle.cfb_volume.specs.cfb_mini_sectors.State.{MiniState, bytes_of, cases_o
 use Rattle.cfb_volume.specs.cfb_content.Contents.{KeepsContent, KeepsFixedHeader, len_of}
 use Rattle.cfb_entry_changes.specs.Kept.{AllStayBalanced, AllStayBalancedBut}
 use Rattle.cfb_agreement.specs.Changes.{KeepsParts, StaysOrFails}
-use Rattle.cfb_agreement.specs.Files.{Agrees, FileState, Holds, SameSetting, failures_of, is_failed}
+use Rattle.cfb_agreement.specs.Files.{Agrees, FileState, Holds, SameSetting, failures_of, is_failed, IsAsMade}
+use Rattle.cfb_volume.specs.Answers.{StaysInMemoryOrFails}
 
 -- ---- what stays
 
@@ -137,5 +138,6 @@ pub record ClearingBreaksOff (tells : Bool) (can_give : MediumFault → Bool) (s
   pub header : IsTrue tells → Holds start → KeepsFixedHeader start.base now.base
   pub agrees : IsTrue tells → Holds start → Agrees now
   pub refused : IsTrue tells → Holds start → StaysOrFails start now
+  pub in_memory : StaysInMemoryOrFails start now
   pub err : IsTrue tells → Holds start → IsBreak ⊥ e
   pub counts : IsTrue tells → CountsError can_give (failures_of start) (failures_of now) e

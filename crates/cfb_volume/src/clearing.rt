@@ -18,6 +18,7 @@ ghost use Rattle.cfb_agreement.specs.Files.{Agrees, Holds, GrowsTightly, SameSet
 ghost use Rattle.cfb_agreement.specs.Laws.{with_flags};
 ghost use Rattle.cfb_entry_changes.specs.Clearing.{ClearsStorage};
 ghost use Rattle.cfb_entry_changes.specs.Kept.{AllStayBalancedBut};
+ghost use Rattle.cfb_volume.specs.Answers.{StaysInMemoryOrFails};
 ghost use Rattle.cfb_volume.specs.Clearing.{ClearingBreaksOff, EmptiesStorage, EmptiesStreams, KeepsStreamsBut, KeepsStreamsBeside, RemovesWithAll, StandsAs, emptied_at};
 ghost use Rattle.cfb_volume.specs.Slots.{TakesNoSlot};
 
@@ -281,6 +282,7 @@ impl<F: Medium, A: Heap + Clone> Volume<F, A> {
         ensures agrees { IsTrue F.tells → Holds self.old → Agrees self.new }
         ensures refused { IsTrue F.tells
             → Holds self.old → OnErr result (StaysOrFails self.old self.new) }
+        ensures in_memory { OnErr result (StaysInMemoryOrFails self.old self.new) }
         ensures err { IsTrue F.tells → Holds self.old → IfErr result (IsBreak ⊥) }
         ensures counts { IsTrue F.tells → CountsFailure (λ f. F.read_faults f
             || F.write_faults f) result (failures_of self.old) (failures_of self.new) }

@@ -16,6 +16,7 @@ ghost use Rattle.cfb_agreement.specs.Changes.{KeepsParts, KeepsStreams, StaysOrF
 ghost use Rattle.cfb_agreement.specs.Files.{Agrees, Holds, SameSetting, failures_of, is_failed};
 ghost use Rattle.cfb_entry_changes.specs.Kept.{AllStayBalanced, FindsTheSame};
 ghost use Rattle.cfb_entry_changes.specs.Marking.{GivesFields};
+ghost use Rattle.cfb_volume.specs.Answers.{StaysInMemoryOrFails};
 
 use crate::volume::Volume;
 use cfb_format::error::Error;
@@ -78,6 +79,7 @@ impl<F: Medium, A: Heap> Volume<F, A> {
         ensures ended { OnOk result (is_failed self.new ≡ false) }
         ensures refused { IsTrue F.tells → Holds self.old
             → OnErr result (StaysOrFails self.old self.new) }
+        ensures in_memory { OnErr result (StaysInMemoryOrFails self.old self.new) }
         ensures err { IsTrue F.tells → Holds self.old
             → IfErr result (IsMediumAnd (λ fault. is_failed self.new ≡ true)) }
         ensures counts { IsTrue F.tells

@@ -21,6 +21,7 @@ ghost use Rattle.cfb_agreement.specs.Changes.{KeepsParts, StaysOrFails};
 ghost use Rattle.cfb_agreement.specs.Files.{Agrees, Holds, GrowsTightly, SameSetting, failures_of, is_failed};
 ghost use Rattle.cfb_volume.specs.Removing.{StaysOrGaveBack, WasEmptied};
 ghost use Rattle.cfb_volume.specs.Slots.{TakesNoSlot};
+ghost use Rattle.cfb_volume.specs.Answers.{StaysInMemoryOrFails};
 
 use crate::volume::Volume;
 use cfb_format::error::Error;
@@ -114,6 +115,7 @@ impl<F: Medium, A: Heap + Clone> Volume<F, A> {
         ensures ended { OnOk result (is_failed self.new ≡ false) }
         ensures refused { IsTrue F.tells → Holds self.old
             → OnErr result (StaysOrFails self.old self.new) }
+        ensures in_memory { OnErr result (StaysInMemoryOrFails self.old self.new) }
         ensures first { (entry_at (entries_of self.old.base) child).obj_type ≢ Stream
             → IfErr result (AfterMedium Unit (self.new ≡ self.old)) }
         ensures gave_back { IsTrue F.tells → IfErr result

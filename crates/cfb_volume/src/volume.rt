@@ -28,7 +28,7 @@ ghost use Rattle.cfb_growing.specs.Putting.{ChangesFileAlone};
 ghost use Rattle.cfb_agreement.specs.Changes.{ChangesOneContent, KeepsStreams, StaysOrFails, object_added_at};
 ghost use Rattle.cfb_agreement.specs.Files.{Agrees, Holds, IsAsBefore, IsAsMade, IsFullFile, GrowsTightly, SameSetting, failures_of, is_failed};
 ghost use Rattle.cfb_agreement.specs.Laws.{with_flags};
-ghost use Rattle.cfb_volume.specs.Answers.{content_at};
+ghost use Rattle.cfb_volume.specs.Answers.{IsAsBeforeInMemory, StaysInMemoryOrFails, content_at};
 
 use cfb_codecs::direntry::DirEntry;
 use cfb_codecs::path::CaseMapper;
@@ -214,6 +214,7 @@ impl<F: ReadMedium, A: Heap + Clone> Volume<F, A> {
     pub fn read(&mut self, entry: u32, at: u64, into: &mut [u8]) -> Result<usize, Error>
         requires inside { entry < length (entries_of self.old.base) }
         ensures same { IsTrue F.tells → IsAsBefore self.old self.new }
+        ensures in_memory { IsAsBeforeInMemory self.old self.new }
         ensures flag { is_failed self.new ≡ is_failed self.old }
         ensures entries { entries_of self.new.base ≡ entries_of self.old.base }
         ensures setting { SameSetting self.old self.new }
@@ -304,6 +305,7 @@ impl<F: Medium, A: Heap + Clone> Volume<F, A> {
         ensures ended { OnOk result (is_failed self.new ≡ false) }
         ensures refused { IsTrue F.tells
             → Holds self.old → OnErr result (StaysOrFails self.old self.new) }
+        ensures in_memory { OnErr result (StaysInMemoryOrFails self.old self.new) }
         ensures err { IsTrue F.tells → Holds self.old
             → IfErr result (IsBreak ((len_of self.old.base entry ≤ at) × IsFullFile self.new)) }
         ensures foreseen { IsTrue F.tells → Holds self.old → IfErr result (λ e. e ≡ Full
@@ -349,6 +351,7 @@ impl<F: Medium, A: Heap + Clone> Volume<F, A> {
         ensures ended { OnOk result (is_failed self.new ≡ false) }
         ensures refused { IsTrue F.tells
             → Holds self.old → OnErr result (StaysOrFails self.old self.new) }
+        ensures in_memory { OnErr result (StaysInMemoryOrFails self.old self.new) }
         ensures err { IsTrue F.tells → Holds self.old
             → IfErr result (IsBreak (IsFullFile self.new)) }
         ensures foreseen { IsTrue F.tells → Holds self.old → IfErr result (λ e. e ≡ Full
@@ -385,6 +388,7 @@ impl<F: Medium, A: Heap + Clone> Volume<F, A> {
         ensures ended { OnOk result (is_failed self.new ≡ false) }
         ensures refused { IsTrue F.tells
             → Holds self.old → OnErr result (StaysOrFails self.old self.new) }
+        ensures in_memory { OnErr result (StaysInMemoryOrFails self.old self.new) }
         ensures enough { IsTrue F.tells → Holds self.old → len ≢ len_of self.old.base entry
             → OnOk result (IsTooLongFor self.old.base entry len → ⊥) }
         ensures emptied { Holds self.old → len ≡ 0 → IsTooLongFor self.old.base entry len → ⊥ }

@@ -12,7 +12,8 @@ use Rattle.cfb_volume.specs.cfb_mini_sectors.Steps.{KeepsLimits}
 use Rattle.cfb_volume.specs.cfb_content.Contents.{IsNotChangeable, IsStreamOf, IsTooLongFor, MovesContent, len_of}
 use Rattle.cfb_volume.specs.cfb_resizing.Turning.{LeavesNoMinis}
 use Rattle.cfb_agreement.specs.Changes.{ChangesOneContent}
-use Rattle.cfb_agreement.specs.Files.{FileState, Holds, SameSetting, StartsAtEndIfEmpty}
+use Rattle.cfb_agreement.specs.Files.{FileState, Holds, SameSetting, StartsAtEndIfEmpty, EmptyStartAtEnd}
+use Rattle.cfb_volume.proofs.InMemory.{still-in-memory}
 use Rattle.cfb_volume.proofs.ContentSteps.{WasRefused, WentWell, ended-changes, ended-entries, ended-holds, ended-same, ended-setting, ended-stream, file_on, refused-agrees, refused-changes, refused-setting, refused-stays, refused-stream}
 use Rattle.cfb_volume.proofs.EmptyStreams.{put-in-at-end}
 use Rattle.cfb_volume.proofs.Refusals.{append-break, why-full}
@@ -69,6 +70,11 @@ returns-in_err-append_all-clause-refused g c told held =
     rw p.1 (refused-stays c.args.self.now c.append_all.new.mini c.args.entry c.self.inside.is_sound c.self.inside.buffer_limit
     (ap (λ (f : FileState). f.is_sound) c.self.view_is) (ap (λ (f : FileState). f.buffer_limit) c.self.view_is)
     (refused g c told) c.requires.unfailed)
+
+pub returns-in_err-append_all-clause-in_memory : goal.returns-in_err-append_all-clause-in_memory
+returns-in_err-append_all-clause-in_memory g c =
+    let p = err_from_is_err_and c.from_residual.result c.from_residual.ensures.1 in
+    rw p.1 (still-in-memory c.self.inside.mini c.append_all.new.mini c.self.inside.is_sound c.self.inside.buffer_limit c.args.self.now c.self.view_is c.in_err-append_all.ensures.still)
 
 pub returns-in_err-append_all-clause-err : goal.returns-in_err-append_all-clause-err
 returns-in_err-append_all-clause-err g c told held =

@@ -24,6 +24,7 @@ use Rattle.cfb_agreement.specs.Files.{Agrees, FileState, Holds}
 use Rattle.cfb_volume.specs.Removing.{StaysOrGaveBack, WasEmptied}
 use Rattle.cfb_volume.specs.Slots.{TakesNoSlot}
 use Rattle.cfb_volume.proofs.ContentSteps.{file_on}
+use Rattle.cfb_volume.proofs.InMemory.{in-memory, still-in-memory}
 use Rattle.cfb_volume.proofs.InsertedObjects.{ended, header-ended, same-file}
 use Rattle.cfb_volume.proofs.Refusals.{after-any, after-less, after-none, file-after}
 use Rattle.cfb_volume.proofs.RemovedObjects.{WasRemoved, child-stays, empty-break, others-ended, others-then, remove-balanced, remove-finds, remove-holds, remove-keeps-root, remove-parts, remove-tree, stays-agrees, stays-by, stays-then, storage-stays, was-removed}
@@ -47,6 +48,12 @@ returns-in_err-empty_object-clause-agrees g c told holds =
     let calm = subst (λ (m : MiniState). (table_of mid).file.begun ≡ false → bytes_of mid ≡ bytes_of m) e (c.empty_object.ensures.spares told).unwritten in
     subst (λ (f : FileState). Agrees f) (same-file s mid mid c.self.inside.is_sound c.self.inside.buffer_limit old c.self.view_is refl)
     (stays-agrees old _ (stays-by old mid still calm c.requires.unfailed) holds)
+
+pub returns-in_err-empty_object-clause-in_memory : goal.returns-in_err-empty_object-clause-in_memory
+returns-in_err-empty_object-clause-in_memory g c =
+    let p = err_from_is_err_and c.from_residual.result c.from_residual.ensures.1 in
+    rw p.1 (still-in-memory c.self.inside.mini c.empty_object.new.mini c.self.inside.is_sound c.self.inside.buffer_limit c.args.self.now c.self.view_is
+    c.in_err-empty_object.ensures.still)
 
 pub returns-in_err-empty_object-clause-err : goal.returns-in_err-empty_object-clause-err
 returns-in_err-empty_object-clause-err g c told holds =
@@ -118,6 +125,18 @@ returns-in_err-remove_dir_entry-clause-refused g c told holds =
     let quiet = subst (λ (m : MiniState). (table_of mid).file.begun ≡ false → mid ≡ m) e c.in_ok-empty_object.ensures.quiet in
     rw p.1 (subst (λ (f : FileState). StaysOrFails old f) (same-file s new new c.self.inside.is_sound c.self.inside.buffer_limit old c.self.view_is refl)
     (stays-then old mid new c.in_err-remove_dir_entry.field-0.0 quiet c.in_err-remove_dir_entry.ensures.refused))
+
+pub returns-in_err-remove_dir_entry-clause-in_memory : goal.returns-in_err-remove_dir_entry-clause-in_memory
+returns-in_err-remove_dir_entry-clause-in_memory g c =
+    let old = c.args.self.now in
+    let s = c.self.inside.mini in
+    let mid = c.empty_object.new.mini in
+    let new = c.remove_dir_entry.new.self in
+    let e = ap (λ (f : FileState). f.base) c.self.view_is in
+    let p = err_from_is_err_and c.from_residual-in_err-remove_dir_entry.result c.from_residual-in_err-remove_dir_entry.ensures.1 in
+    let quiet = subst (λ (m : MiniState). (table_of mid).file.begun ≡ false → mid ≡ m) e c.in_ok-empty_object.ensures.quiet in
+    rw p.1 (in-memory old _ (subst (λ (f : FileState). StaysOrFails old f) (same-file s new new c.self.inside.is_sound c.self.inside.buffer_limit old c.self.view_is refl)
+    (stays-then old mid new c.in_err-remove_dir_entry.field-0.0 quiet c.in_err-remove_dir_entry.ensures.refused)))
 
 pub returns-in_err-remove_dir_entry-clause-err : goal.returns-in_err-remove_dir_entry-clause-err
 returns-in_err-remove_dir_entry-clause-err g c told holds =

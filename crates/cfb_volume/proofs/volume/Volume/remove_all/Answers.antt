@@ -54,6 +54,9 @@ returns-in-Some-clause-agrees g c told holds down = after-both (ClearingBreaksOf
 pub returns-in-Some-clause-refused : goal.returns-in-Some-clause-refused
 returns-in-Some-clause-refused g c told holds = on-refused (ClearingBreaksOff g.F.ReadMedium.tells (λ f. g.F.ReadMedium.read_faults f || g.F.Medium.write_faults f) c.args.self.now c.remove_with_all.new.self) c.remove_with_all.result c.remove_with_all.ensures.refused (λ e b. b.refused told holds)
 
+pub returns-in-Some-clause-in_memory : goal.returns-in-Some-clause-in_memory
+returns-in-Some-clause-in_memory g c = on-refused (ClearingBreaksOff g.F.ReadMedium.tells (λ f. g.F.ReadMedium.read_faults f || g.F.Medium.write_faults f) c.args.self.now c.remove_with_all.new.self) c.remove_with_all.result c.remove_with_all.ensures.refused (λ e b. b.in_memory)
+
 pub returns-in-Some-clause-err : goal.returns-in-Some-clause-err
 returns-in-Some-clause-err g c told holds = err_map (ClearingBreaksOff g.F.ReadMedium.tells (λ f. g.F.ReadMedium.read_faults f || g.F.Medium.write_faults f) c.args.self.now c.remove_with_all.new.self) (IsBreak ⊥) (λ e b. b.err told holds) c.remove_with_all.result c.remove_with_all.ensures.refused
 
@@ -91,6 +94,9 @@ returns-in-None-clause-agrees g c told holds down = after-both (ClearingBreaksOf
 
 pub returns-in-None-clause-refused : goal.returns-in-None-clause-refused
 returns-in-None-clause-refused g c told holds = on-refused (ClearingBreaksOff g.F.ReadMedium.tells (λ f. g.F.ReadMedium.read_faults f || g.F.Medium.write_faults f) c.args.self.now c.empty_storage.new.self) c.empty_storage.result c.empty_storage.ensures.refused (λ e b. b.refused told holds)
+
+pub returns-in-None-clause-in_memory : goal.returns-in-None-clause-in_memory
+returns-in-None-clause-in_memory g c = on-refused (ClearingBreaksOff g.F.ReadMedium.tells (λ f. g.F.ReadMedium.read_faults f || g.F.Medium.write_faults f) c.args.self.now c.empty_storage.new.self) c.empty_storage.result c.empty_storage.ensures.refused (λ e b. b.in_memory)
 
 pub returns-in-None-clause-err : goal.returns-in-None-clause-err
 returns-in-None-clause-err g c told holds = err_map (ClearingBreaksOff g.F.ReadMedium.tells (λ f. g.F.ReadMedium.read_faults f || g.F.Medium.write_faults f) c.args.self.now c.empty_storage.new.self) (IsBreak ⊥) (λ e b. b.err told holds) c.empty_storage.result c.empty_storage.ensures.refused

@@ -87,6 +87,7 @@ returns-in_err-hand_on-clause-refused g c =
       header = λ told held. w.header told;
       agrees = λ told held. w.agrees told held;
       refused = λ told held. step-on-err c.remove-removed.result e is (w.refused told held);
+      in_memory = step-on-err c.remove-removed.result e is w.in_memory;
       err = λ told held. step-err _ c.remove-removed.result e is (w.err told held);
       counts = λ told. step-err-counts faults (failures_of mid) (failures_of step) c.remove-removed.result e is (w.counts told);
     } in

@@ -20,6 +20,7 @@ use Rattle.cfb_volume.proofs.cfb_content.FixedHeader.{spared-keeps-header}
 use Rattle.cfb_agreement.specs.Changes.{KeepsParts, KeepsStreams, StaysOrFails}
 use Rattle.cfb_agreement.specs.Files.{Agrees, FileState, Holds}
 use Rattle.cfb_entry_changes.specs.Kept.{AllStayBalanced, FindsTheSame}
+use Rattle.cfb_volume.proofs.InMemory.{in-memory}
 use Rattle.cfb_volume.proofs.InsertedObjects.{ended, header-ended, insert-keeps-streams, refused-agrees, refused-stays, same-file, streams-ended}
 use Rattle.cfb_volume.proofs.MarkedObjects.{WasMarked, mark-finds, mark-holds, mark-is-balanced, mark-keeps-root, mark-parts, mark-refused, mark-tree, reached-valid}
 use Rattle.cfb_volume.proofs.volume.Volume.set_fields.Goals as goal
@@ -58,6 +59,15 @@ returns-in_err-with_dir_entry_mut-clause-refused g c told holds =
     rw p.1 (subst (λ (f : FileState). StaysOrFails c.args.self.now f)
     (same-file c.self.inside.mini mid mid c.self.inside.is_sound c.self.inside.buffer_limit c.args.self.now c.self.view_is refl)
     (refused-stays c.args.self.now mid c.in_err-with_dir_entry_mut.field-0.0 stops))
+
+pub returns-in_err-with_dir_entry_mut-clause-in_memory : goal.returns-in_err-with_dir_entry_mut-clause-in_memory
+returns-in_err-with_dir_entry_mut-clause-in_memory g c =
+    let mid = c.with_dir_entry_mut.new.self in
+    let p = err_from_is_err_and c.from_residual.result c.from_residual.ensures.1 in
+    let stops = subst (λ (f : FileState). StopsShort f.base mid c.in_err-with_dir_entry_mut.field-0.0) c.self.view_is c.in_err-with_dir_entry_mut.ensures.refused in
+    rw p.1 (in-memory c.args.self.now _ (subst (λ (f : FileState). StaysOrFails c.args.self.now f)
+    (same-file c.self.inside.mini mid mid c.self.inside.is_sound c.self.inside.buffer_limit c.args.self.now c.self.view_is refl)
+    (refused-stays c.args.self.now mid c.in_err-with_dir_entry_mut.field-0.0 stops)))
 
 pub returns-in_err-with_dir_entry_mut-clause-err : goal.returns-in_err-with_dir_entry_mut-clause-err
 returns-in_err-with_dir_entry_mut-clause-err g c told holds =
