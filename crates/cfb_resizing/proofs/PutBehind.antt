@@ -7,6 +7,7 @@ use Rattle.cfb_format.specs.declared.validate.Validation.{Validation}
 use Rattle.cfb_format.specs.declared.version.Version.{Version}
 use Rattle.cfb_format.specs.declared.version.Version.TheVariants.{V3, V4}
 use Rattle.cfb_format.specs.Bytes.{max_stream_len}
+use Rattle.cfb_format.specs.Full.{free_count}
 use Rattle.cfb_format.specs.Medium.{written}
 use Rattle.cfb_resizing.specs.cfb_rules.StreamCalls.{resized}
 use Rattle.cfb_tables.specs.Changes.{NoneFree}
@@ -34,6 +35,9 @@ fits-u64 V4 n le = omega (arith, le)
 module _ (old new : MiniState) (rest : new ≡ with_table old (record (table_of old) { file = (table_of new).file })) where
   pub filed-tables : tables_in new ≡ tables_in old
   filed-tables = ap (λ (s : MiniState). tables_in s) rest
+
+  pub filed-minis-full : free_count old.minifat ≡ 0 → free_count new.minifat ≡ 0
+  filed-minis-full none = ap (λ (s : MiniState). free_count s.minifat) rest ∙ none
 
   pub filed-entries : entries_of new ≡ entries_of old
   filed-entries = ap (λ (s : MiniState). entries_of s) rest

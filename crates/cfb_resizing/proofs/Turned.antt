@@ -10,7 +10,7 @@ use Rattle.cfb_format.specs.Bytes.{sector_len, sector_start}
 use Rattle.cfb_format.specs.Chain.{IsChain}
 use Rattle.cfb_format.specs.Content.{content_chain, is_large, mini_sector_len}
 use Rattle.cfb_format.specs.DirectoryEntry.{Entry}
-use Rattle.cfb_format.specs.Full.{rounded_up}
+use Rattle.cfb_format.specs.Full.{free_count, rounded_up}
 use Rattle.cfb_format.specs.Siblings.{entry_at}
 use Rattle.cfb_resizing.specs.cfb_rules.StreamCalls.{resized}
 use Rattle.cfb_sectors.specs.Sectors.{SectorStays}
@@ -85,9 +85,10 @@ pub all-resized : {T E : Type 0} (r : Result T E) (old new : MiniState) (i size 
     → ((v : Validation) → IsChangeable v old → OnOk r (WipesMinis old new i))
     → ((v : Validation) → IsChangeable v old → OnOk r (ErasesMinis old new i))
     → ((v : Validation) → IsChangeable v old → len_of old i ≤ size → LeavesNoMinis old i size → NoneFree (tables_in old).fat → NoneFree (tables_in new).fat)
+    → ((v : Validation) → IsChangeable v old → len_of old i ≤ size → LeavesNoMinis old i size → free_count old.minifat ≡ 0 → free_count new.minifat ≡ 0)
     → OnOk r (ResizesContent old new i size)
-all-resized (Ok x) old new i size content wiped erased full = record { content = content; wiped = wiped; erased = erased; stays_full = full }
-all-resized (Err e) old new i size content wiped erased full = tt
+all-resized (Ok x) old new i size content wiped erased full minis = record { content = content; wiped = wiped; erased = erased; stays_full = full; minis_full = minis }
+all-resized (Err e) old new i size content wiped erased full minis = tt
 
 module _ (v : Validation) (old mid new : MiniState) (i size start : ℕ) (was : WasNamed v old mid new i) (held : HoldsMini v new)
     (named : entry_at (entries_of new) i ≡ record (entry_at (entries_of mid) i) { start_sector = start; stream_len = size }) where

@@ -6,7 +6,7 @@ use Rattle.cfb_format.specs.declared.validate.Validation.{Validation}
 use Rattle.cfb_format.specs.Bytes.{end_of_chain, sector_len}
 use Rattle.cfb_format.specs.Chain.{IsChain}
 use Rattle.cfb_format.specs.Content.{is_large, mini_sector_len, mini_stream_cutoff}
-use Rattle.cfb_format.specs.Full.{IsFullOfMiniSectors, rounded_up}
+use Rattle.cfb_format.specs.Full.{IsFullOfMiniSectors, free_count, rounded_up}
 use Rattle.cfb_format.specs.Refused.{HasReason, at_every_error}
 use Rattle.cfb_format.specs.Siblings.{entry_at}
 use Rattle.cfb_resizing.specs.cfb_rules.StreamCalls.{resized}
@@ -199,7 +199,7 @@ pub record TrimsChain (old new : MiniState) (i size start : ℕ) : Type 0 where
 -- ---- the content, once the entry says what became of it
 
 -- it is what it was, cut or padded with zeros to `size`; each mini sector that it gave back reads as zeros, and is zeros where it stood; and where
--- the stream got no shorter and left no mini sectors, no sector came free
+-- the stream got no shorter and left no mini sectors, no sector came free, nor a mini sector
 pub record ResizesContent (old new : MiniState) (i size : ℕ) : Type 0 where
   pub content : (v : Validation) → IsChangeable v old
       → content_of new (entry_at (entries_of new) i) ≡ resized (content_of old (entry_at (entries_of old) i)) size
@@ -207,6 +207,8 @@ pub record ResizesContent (old new : MiniState) (i size : ℕ) : Type 0 where
   pub erased : (v : Validation) → IsChangeable v old → ErasesMinis old new i
   pub stays_full : (v : Validation) → IsChangeable v old → len_of old i ≤ size → LeavesNoMinis old i size
       → NoneFree (tables_in old).fat → NoneFree (tables_in new).fat
+  pub minis_full : (v : Validation) → IsChangeable v old → len_of old i ≤ size → LeavesNoMinis old i size
+      → free_count old.minifat ≡ 0 → free_count new.minifat ≡ 0
 
 -- at these places stand the bytes of the stream as it was, and these behind them
 pub record StandBehind (old : MiniState) (i : ℕ) (from bytes : List ℕ) (place : ℕ → ℕ) : Type 0 where

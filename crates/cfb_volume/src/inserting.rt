@@ -88,6 +88,7 @@ impl<F: Medium, A: Heap + Clone> Volume<F, A> {
         ensures stays_full { NoneFree (tables_in self.old.base).fat
             → OnOk result (NoneFree (tables_in self.new.base).fat) }
         ensures slots { OnOk result (TakesSlot self.old.base self.new.base) }
+        ensures minifat { self.new.base.minifat ≡ self.old.base.minifat }
         ensures balanced { OnOk result (AllStayBalanced self.old.base self.new.base) }
         ensures root_len { OnOk result (len_of self.new.base 0 ≡ len_of self.old.base 0) }
         ensures agrees { IsTrue F.tells → Holds self.old → Agrees self.new }

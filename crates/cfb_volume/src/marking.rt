@@ -56,6 +56,7 @@ impl<F: Medium, A: Heap> Volume<F, A> {
             × (entries_of self.new.base ≡ entries_with_fields
             (entries_of self.old.base) number f)) }
         ensures tables { tables_in self.new.base ≡ tables_in self.old.base }
+        ensures minifat { self.new.base.minifat ≡ self.old.base.minifat }
         ensures tree { IsTrue F.tells → Holds self.old
             → OnOk result ((f : StorageInfo → StorageInfo) (g : StreamInfo
             → StreamInfo) (names : List (List ℕ)) (o : Outline)

@@ -1,6 +1,7 @@
 //! A file whose memory is what its bytes say.
 ghost use Rattle.std.specs.Prelude.{◌≡◌, ◌≢◌, ◌+◌, ◌-◌, ◌<◌, ◌≤◌, ◌⊎◌, ◌↔◌, ◌||◌, ◌∷◌, ℕ, List, max, min, length, take, drop, false, true, IsTrue, IfOk, IfErr, IfSome, IsErrAnd, OnOk, OnErr, Some, Option, chars, map};
 ghost use Rattle.cfb_format.specs.Bytes.{max_regular_sector, max_stream_len};
+ghost use Rattle.cfb_format.specs.Full.{free_count};
 ghost use Rattle.cfb_format.specs.Medium.{part, written};
 ghost use Rattle.cfb_format.specs.Names.{is_valid_name};
 ghost use Rattle.cfb_format.specs.Reading.{IsOutline, Outline};
@@ -347,6 +348,11 @@ impl<F: Medium, A: Heap + Clone> Volume<F, A> {
             (len_of self.old.base entry + length bytes.now)
             → NoneFree (tables_in self.old.base).fat
             → OnOk result (NoneFree (tables_in self.new.base).fat) }
+        ensures minis_full { IsTrue F.tells → Holds self.old
+            → LeavesNoMinis self.old.base entry
+            (len_of self.old.base entry + length bytes.now)
+            → free_count self.old.base.minifat ≡ 0
+            → OnOk result (free_count self.new.base.minifat ≡ 0) }
         ensures agrees { IsTrue F.tells → Holds self.old → Agrees self.new }
         ensures ended { OnOk result (is_failed self.new ≡ false) }
         ensures refused { IsTrue F.tells

@@ -23,8 +23,9 @@ use Rattle.cfb_growing.proofs.cfb_content.StreamEntry.{stream-inside}
 use Rattle.cfb_resizing.proofs.LengthenedMinis.{not-both}
 use Rattle.cfb_resizing.proofs.Named.{WasNamed, around-moves, moves-then, named-changes, named-keeps-others, named-tidy, placed-stays}
 use Rattle.cfb_resizing.proofs.PutBehind.{fits-u64, tight-then}
+use Rattle.cfb_resizing.proofs.Tightness.{kept-minis-full}
 use Rattle.cfb_resizing.proofs.Turned.{all-changed, always-on-ok}
-use Rattle.cfb_growing.proofs.Appended.{WasAppended, appended-is, appended-stays-full}
+use Rattle.cfb_growing.proofs.Appended.{WasAppended, appended-is, appended-minis-full, appended-stays-full}
 use Rattle.cfb_growing.proofs.appending.append_in_sectors.Goals as goal
 use Rattle.cfb_growing.proofs.cfb_tables.Refusals.{refused-as}
 use Rattle.cfb_growing.proofs.cfb_mini_changes.MiniExtended.{invalid-refused, limits-then}
@@ -169,3 +170,9 @@ pub returns-clause-stays_full : goal.returns-clause-stays_full
 returns-clause-stays_full g c told validation change stays none =
     let full = appended-stays-full c.args.mini.now c.put_at_end.new.mini c.args.entry c.in_ok-start.start c.args.bytes.now stays (c.in_ok-start.ensures.put told validation change) none in
     always-on-ok c.name_content.result (subst (λ (t : TableState). NoneFree t.fat) (sym c.name_content.ensures.system.tables) full)
+
+pub returns-clause-minis_full : goal.returns-clause-minis_full
+returns-clause-minis_full g c told validation change stays none =
+    always-on-ok c.name_content.result
+    (kept-minis-full c.put_at_end.new.mini c.name_content.new.mini c.name_content.ensures.mini
+    (appended-minis-full c.args.mini.now c.put_at_end.new.mini c.args.entry c.in_ok-start.start c.args.bytes.now stays (c.in_ok-start.ensures.put told validation change) none))

@@ -14,7 +14,7 @@ use Rattle.cfb_growing.proofs.cfb_content.Readable.{whole-of}
 use Rattle.cfb_growing.proofs.cfb_content.Rewritten.{written-none}
 use Rattle.cfb_growing.proofs.cfb_content.StreamEntry.{stream-inside}
 use Rattle.cfb_growing.proofs.cfb_content.Changed.{moves-same, spares-same, changed-same, spares-behind}
-use Rattle.cfb_resizing.proofs.PutBehind.{appended, filed-entries, filed-loses-none, filed-sized, filed-tables, filed-tidy, stops-behind, filed-alone, still-begun}
+use Rattle.cfb_resizing.proofs.PutBehind.{appended, filed-entries, filed-loses-none, filed-sized, filed-tables, filed-tidy, stops-behind, filed-alone, still-begun, filed-minis-full, filed-used}
 use Rattle.cfb_resizing.proofs.Tightness.{leaves-less}
 use Rattle.cfb_resizing.proofs.SnugMinis.{filed-frees, filed-snug}
 use Rattle.cfb_growing.proofs.putting.append_all.Goals as goal
@@ -53,6 +53,9 @@ append_long_all-requires-clause-large g c = omega (arith, c.if-wanted.true, c.co
 
 pub returns-then-wanted-clause-stays_full : goal.returns-then-wanted-clause-stays_full
 returns-then-wanted-clause-stays_full g c told v change stays none = c.append_long_all.ensures.stays_full told v change stays none
+
+pub returns-then-wanted-clause-minis_full : goal.returns-then-wanted-clause-minis_full
+returns-then-wanted-clause-minis_full g c told v change stays none = c.append_long_all.ensures.minis_full told v change stays none
 
 -- ---- it cannot grow
 
@@ -140,4 +143,12 @@ returns-clause-stays_full g c told v change stays none =
     let wanted = c.content_in-len.result.1 + length c.args.bytes.now in
     subst (λ (t : TableState). NoneFree t.fat) (sym (filed-tables c.grow_to.new.mini c.write_listed.new.mini c.in_ok-write_listed.ensures.rest))
     ((c.in_ok-grow_to.ensures.content told).stays_full v change (omega (arith, c.content_in-len.ensures.len))
+    (leaves-less s c.args.entry wanted (len_of s c.args.entry + length c.args.bytes.now) (omega (arith, c.content_in-len.ensures.len)) stays) none)
+
+pub returns-clause-minis_full : goal.returns-clause-minis_full
+returns-clause-minis_full g c told v change stays none =
+    let s = c.args.mini.now in
+    let wanted = c.content_in-len.result.1 + length c.args.bytes.now in
+    filed-minis-full c.grow_to.new.mini c.write_listed.new.mini c.in_ok-write_listed.ensures.rest
+    ((c.in_ok-grow_to.ensures.content told).minis_full v change (omega (arith, c.content_in-len.ensures.len))
     (leaves-less s c.args.entry wanted (len_of s c.args.entry + length c.args.bytes.now) (omega (arith, c.content_in-len.ensures.len)) stays) none)

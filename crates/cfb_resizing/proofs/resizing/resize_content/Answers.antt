@@ -24,7 +24,7 @@ use Rattle.cfb_content.proofs.StreamEntry.{stream-inside}
 use Rattle.cfb_content.proofs.FixedHeader.{header-then, spared-keeps-header}
 use Rattle.cfb_resizing.proofs.CarriedToMinis.{kept-after, medium-after}
 use Rattle.cfb_resizing.proofs.Named.{WasNamed, moves-then, named-changes, named-keeps-others, named-tidy, placed-stays, around-moves}
-use Rattle.cfb_resizing.proofs.Tightness.{turned-stays-full, same-tight}
+use Rattle.cfb_resizing.proofs.Tightness.{kept-minis-full, turned-minis-full, turned-stays-full, same-tight}
 use Rattle.cfb_resizing.proofs.Turned.{WasTurned, always-on-ok, turned, turned-whole, all-changed, all-resized}
 use Rattle.cfb_format.specs.DirectoryEntry.{Entry}
 use Rattle.cfb_content.proofs.FreedMinis.{frees-before}
@@ -51,6 +51,7 @@ returns-then-size-len-clause-content g c told = record {
   wiped = λ v change m mine out. absurd (out mine);
   erased = λ v change m mine out other. absurd (out mine);
   stays_full = λ v change more leaves none. none;
+  minis_full = λ v change more leaves none. none;
 }
 
 pub returns-then-size-len-clause-trimmed : goal.returns-then-size-len-clause-trimmed
@@ -195,6 +196,8 @@ returns-clause-content g c told =
     (λ v change longer stays none.
     let full = turned-stays-full s c.turn.new.mini c.args.entry c.args.size c.in_ok-start.start longer stays ((c.in_ok-start.ensures.turned told).turned v change) none in
     subst (λ (t : TableState). NoneFree t.fat) (sym c.name_content.ensures.system.tables) full)
+    (λ v change longer stays none. kept-minis-full c.turn.new.mini new c.name_content.ensures.mini
+    (turned-minis-full s c.turn.new.mini c.args.entry c.args.size c.in_ok-start.start longer stays ((c.in_ok-start.ensures.turned told).turned v change) none))
 
 pub returns-clause-spares : goal.returns-clause-spares
 returns-clause-spares g c told = record {

@@ -4,6 +4,7 @@ use Rattle.std.proofs.lemmas.Result.{err_from_is_err_and}
 use Rattle.cfb_format.specs.declared.validate.Validation.{Validation}
 use Rattle.cfb_format.specs.declared.validate.Validation.TheVariants.{Permissive}
 use Rattle.cfb_format.specs.Bytes.{max_stream_len}
+use Rattle.cfb_format.specs.Full.{free_count}
 use Rattle.cfb_format.specs.Medium.{written}
 use Rattle.cfb_format.specs.Siblings.{entry_at}
 use Rattle.cfb_volume.specs.cfb_tables.Changes.{NoneFree}
@@ -191,3 +192,11 @@ returns-clause-stays_full g c told held leaves none =
     (c.in_ok-append_all.ensures.stays_full told Permissive sound
     (subst (λ (f : FileState). LeavesNoMinis f.base c.args.entry (len_of f.base c.args.entry + length c.args.bytes.now)) (sym c.self.view_is) leaves)
     (subst (λ (f : FileState). NoneFree (tables_in f.base).fat) (sym c.self.view_is) none))
+
+pub returns-clause-minis_full : goal.returns-clause-minis_full
+returns-clause-minis_full g c told held leaves none =
+    let sound = subst (λ (f : FileState). IsChangeable Permissive f.base) (sym c.self.view_is) (held.sound c.requires.sound) in
+    subst (λ (s : MiniState). free_count s.minifat ≡ 0) (sym c.end_change.ensures)
+    (c.in_ok-append_all.ensures.minis_full told Permissive sound
+    (subst (λ (f : FileState). LeavesNoMinis f.base c.args.entry (len_of f.base c.args.entry + length c.args.bytes.now)) (sym c.self.view_is) leaves)
+    (subst (λ (f : FileState). free_count f.base.minifat ≡ 0) (sym c.self.view_is) none))

@@ -1,4 +1,4 @@
-use Rattle.std.proofs.Common.{◌≡◌, ◌≤◌, ◌∷◌, ℕ, List, refl, sym, ap, subst, chars, length}
+use Rattle.std.proofs.Common.{◌≡◌, ◌≤◌, ◌∷◌, ℕ, List, refl, sym, ◌∙◌, ap, subst, chars, length}
 use Rattle.std.specs.Prelude.{Some}
 use Rattle.std.proofs.lemmas.Result.{err_from_is_err_and}
 use Rattle.cfb_format.specs.declared.validate.Validation.TheVariants.{Permissive}
@@ -262,3 +262,10 @@ returns-clause-empty g c =
 
 pub returns-clause-enough : goal.returns-clause-enough
 returns-clause-enough g c = subst (λ (f : FileState). IsFullForEntry f.base.directory → ⊥) c.self.view_is c.in_ok-number.ensures.inserted.enough
+
+pub returns-in_err-number-clause-minifat : goal.returns-in_err-number-clause-minifat
+returns-in_err-number-clause-minifat g c = c.insert_dir_entry.ensures.mini.minifat ∙ ap (λ (f : FileState). f.base.minifat) c.self.view_is
+
+pub returns-clause-minifat : goal.returns-clause-minifat
+returns-clause-minifat g c =
+    ap (λ (s : MiniState). s.minifat) c.end_change.ensures ∙ c.insert_dir_entry.ensures.mini.minifat ∙ ap (λ (f : FileState). f.base.minifat) c.self.view_is

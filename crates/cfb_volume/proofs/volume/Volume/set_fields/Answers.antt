@@ -184,3 +184,10 @@ returns-clause-agrees g c told holds unfailed =
 pub returns-clause-counts : goal.returns-clause-counts
 returns-clause-counts g c told =
     ap (λ (m : MiniState). (table_of m).file.failures) c.end_change.ensures ∙ c.in_ok-with_dir_entry_mut.ensures.counts told ∙ ap (λ (f : FileState). (table_of f.base).file.failures) c.self.view_is
+
+pub returns-in_err-with_dir_entry_mut-clause-minifat : goal.returns-in_err-with_dir_entry_mut-clause-minifat
+returns-in_err-with_dir_entry_mut-clause-minifat g c = c.with_dir_entry_mut.ensures.mini.minifat ∙ ap (λ (f : FileState). f.base.minifat) c.self.view_is
+
+pub returns-clause-minifat : goal.returns-clause-minifat
+returns-clause-minifat g c =
+    ap (λ (s : MiniState). s.minifat) c.end_change.ensures ∙ c.with_dir_entry_mut.ensures.mini.minifat ∙ ap (λ (f : FileState). f.base.minifat) c.self.view_is
