@@ -14,7 +14,7 @@ use Rattle.cfb_growing.proofs.cfb_content.Readable.{whole-of}
 use Rattle.cfb_growing.proofs.cfb_content.Rewritten.{written-none}
 use Rattle.cfb_growing.proofs.cfb_content.StreamEntry.{stream-inside}
 use Rattle.cfb_growing.proofs.cfb_content.Changed.{moves-same, spares-same, changed-same, spares-behind}
-use Rattle.cfb_resizing.proofs.PutBehind.{appended, filed-entries, filed-loses-none, filed-sized, filed-tables, filed-tidy, stops-behind, filed-alone, still-begun, filed-minis-full, filed-used}
+use Rattle.cfb_resizing.proofs.PutBehind.{appended, filed-entries, filed-loses-none, filed-sized, filed-tables, filed-tidy, stops-behind, filed-alone, still-begun, filed-minis-full}
 use Rattle.cfb_resizing.proofs.Tightness.{leaves-less}
 use Rattle.cfb_resizing.proofs.SnugMinis.{filed-frees, filed-snug}
 use Rattle.cfb_growing.proofs.putting.append_all.Goals as goal
