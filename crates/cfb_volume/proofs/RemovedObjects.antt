@@ -75,6 +75,7 @@ none-emptied s i ne = record {
   snug = λ v change snug. snug;
   snug_mini = λ v change snug. snug;
   empty = λ e. absurd (ne e);
+  erased = λ v change e. absurd (ne e);
 }
 
 -- what is below the root and of that kind is a stream of the tree

@@ -6,7 +6,7 @@ use Rattle.cfb_format.specs.Siblings.{entry_at}
 use Rattle.cfb_volume.specs.cfb_tables.Tables.{AreExactTables}
 use Rattle.cfb_volume.specs.cfb_mini_sectors.State.{IsChangeable, MiniState, entries_of, tables_in}
 use Rattle.cfb_volume.specs.cfb_mini_sectors.Steps.{IsSnugMini, KeepsLimits}
-use Rattle.cfb_volume.specs.cfb_content.Contents.{AreAllUsed, AreSnug, KeepsOthers, MovesContent, len_of}
+use Rattle.cfb_volume.specs.cfb_content.Contents.{AreAllUsed, AreSnug, KeepsOthers, LeavesZeros, MovesContent, len_of}
 use Rattle.cfb_agreement.specs.Files.{IsTidy}
 
 -- the object of entry i has no content: a stream's was given back, and all else is as before
@@ -21,6 +21,7 @@ pub record WasEmptied (old new : MiniState) (i : ℕ) : Type 0 where
   pub exact : AreExactTables (tables_in old) → AreExactTables (tables_in new)
   pub tidy : (v : Validation) → IsChangeable v old → IsTidy old → IsTidy new
   pub empty : (entry_at (entries_of old) i).obj_type ≡ Stream → len_of new i ≡ 0
+  pub erased : (v : Validation) → IsChangeable v old → (entry_at (entries_of old) i).obj_type ≡ Stream → LeavesZeros old new i
 
 -- nothing has changed; or the stream of entry i had bytes, and they were given back
 abbrev pub StaysOrGaveBack : ℕ → MiniState → MiniState → Type 0

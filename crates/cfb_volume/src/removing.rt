@@ -15,7 +15,7 @@ ghost use Rattle.cfb_volume.specs.cfb_objects.Laws.{BecomesTree};
 ghost use Rattle.cfb_volume.specs.cfb_mini_sectors.State.{IsChangeable, bytes_of, cases_of, entries_of, table_of, tables_in};
 ghost use Rattle.cfb_volume.specs.cfb_mini.MiniSectors.{IsStill};
 ghost use Rattle.cfb_volume.specs.cfb_content.Changed.{MovesAlone, SparesOthers};
-ghost use Rattle.cfb_volume.specs.cfb_content.Contents.{KeepsFixedHeader, KeepsOthers, len_of};
+ghost use Rattle.cfb_volume.specs.cfb_content.Contents.{KeepsFixedHeader, KeepsOthers, LeavesZeros, len_of};
 ghost use Rattle.cfb_entry_changes.specs.Kept.{AllStayBalancedBut, FindsAllBut};
 ghost use Rattle.cfb_agreement.specs.Changes.{StaysOrFails};
 ghost use Rattle.cfb_agreement.specs.Files.{Agrees, Holds, IsAsMade, GrowsTightly, SameSetting, failures_of, is_failed};
@@ -67,7 +67,7 @@ fn empty_object<F: Medium, A: Heap + Clone>(
 
 impl<F: Medium, A: Heap + Clone> Volume<F, A> {
     /// Takes the object `child` of that name, in which nothing is, out of the storage `parent`; a
-    /// stream's bytes are given back before.
+    /// stream's bytes are given back before. Where its mini sectors stood the file has zeros.
     ///
     /// `Memory`, and `Medium` where the medium fails: all is as before, or the file has failed. After `Memory` nothing has changed,
     /// or the stream's bytes were given back.
@@ -101,6 +101,9 @@ impl<F: Medium, A: Heap + Clone> Volume<F, A> {
         ensures others { IsTrue F.tells → Holds self.old
             → KeepsOthers child self.old.base self.new.base }
         ensures header { IsTrue F.tells → KeepsFixedHeader self.old.base self.new.base }
+        ensures erased { IsTrue F.tells → Holds self.old
+            → (entry_at (entries_of self.old.base) child).obj_type ≡ Stream
+            → OnOk result (LeavesZeros self.old.base self.new.base child) }
         ensures made { IsTrue F.tells → Holds self.old → IsAsMade self.old.base
             → OnOk result (IsAsMade self.new.base) }
         ensures grows { OnOk result (GrowsTightly self.old.base self.new.base) }

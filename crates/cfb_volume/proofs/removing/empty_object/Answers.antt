@@ -10,6 +10,7 @@ use Rattle.cfb_volume.proofs.cfb_trees.Reached.{below-reached}
 use Rattle.cfb_volume.specs.cfb_mini_sectors.State.{HoldsMini, cases_of, entries_of}
 use Rattle.cfb_volume.specs.cfb_content.Contents.{IsNotChangeable, IsStreamOf, IsTooLongFor, len_of}
 use Rattle.cfb_volume.proofs.cfb_content.Changed.{moves-same, spares-same}
+use Rattle.cfb_volume.proofs.cfb_content.Erased.{emptied-zeros}
 use Rattle.cfb_volume.proofs.cfb_content.Snug.{sized-is-snug}
 use Rattle.cfb_agreement.proofs.ContentChanges.{moved-starts-at-end, stays-tidy}
 use Rattle.cfb_volume.proofs.Emptying.{emptying-fits}
@@ -79,6 +80,7 @@ returns-in_ok-resize_content-in-Stream-clause-emptied g c told =
           (stream g (goal.at.returns-in_ok-resize_content-in-Stream-clause-emptied g c).In-Stream) ((ok.changed told).sized v change) snug;
       snug_mini = (ok.changed told).snug_mini;
       empty = λ stream. ok.len;
+      erased = λ v change stream. emptied-zeros c.args.mini.now c.resize_content.new.mini c.args.entry ok.len ((ok.content told).erased v change);
     }
 
 pub returns-in_default : goal.returns-in_default
