@@ -71,6 +71,7 @@ none-emptied s i ne = record {
   holds = λ v change. change;
   parts = λ v change. parts-same s;
   empty = λ e. absurd (ne e);
+  erased = λ v change e. absurd (ne e);
 }
 
 -- what is below the root and of that kind is a stream of the tree

@@ -15,7 +15,7 @@ ghost use Rattle.cfb_volume.specs.cfb_objects.Laws.{BecomesTree};
 ghost use Rattle.cfb_volume.specs.cfb_mini_sectors.State.{IsChangeable, bytes_of, cases_of, entries_of, table_of, tables_in};
 ghost use Rattle.cfb_volume.specs.cfb_mini.MiniSectors.{IsStill};
 ghost use Rattle.cfb_volume.specs.cfb_content.Changed.{MovesAlone, SparesOthers};
-ghost use Rattle.cfb_volume.specs.cfb_content.Contents.{KeepsFixedHeader, KeepsOthers, len_of};
+ghost use Rattle.cfb_volume.specs.cfb_content.Contents.{KeepsFixedHeader, KeepsOthers, LeavesZeros, len_of};
 ghost use Rattle.cfb_entry_changes.specs.Kept.{AllStayBalancedBut, FindsAllBut};
 ghost use Rattle.cfb_agreement.specs.Changes.{KeepsParts, StaysOrFails};
 ghost use Rattle.cfb_agreement.specs.Files.{Agrees, Holds, GrowsTightly, SameSetting, failures_of, is_failed};
@@ -68,7 +68,7 @@ fn empty_object<F: Medium, A: Heap + Clone>(
 
 impl<F: Medium, A: Heap + Clone> Volume<F, A> {
     /// Takes the object `child` of that name, in which nothing is, out of the storage `parent`; a
-    /// stream's bytes are given back before.
+    /// stream's bytes are given back before. Where its mini sectors stood the file has zeros.
     ///
     /// `Memory`, and `Medium` where the medium fails: all is as before, or the file has failed. After `Memory` nothing has changed,
     /// or the stream's bytes were given back.
@@ -104,6 +104,9 @@ impl<F: Medium, A: Heap + Clone> Volume<F, A> {
         ensures header { IsTrue F.tells → KeepsFixedHeader self.old.base self.new.base }
         ensures parts { IsTrue F.tells → Holds self.old
             → OnOk result (KeepsParts self.old.base self.new.base) }
+        ensures erased { IsTrue F.tells → Holds self.old
+            → (entry_at (entries_of self.old.base) child).obj_type ≡ Stream
+            → OnOk result (LeavesZeros self.old.base self.new.base child) }
         ensures grows { OnOk result (GrowsTightly self.old.base self.new.base) }
         ensures takes_none { length (tables_in self.new.base).fat ≡ length
             (tables_in self.old.base).fat }

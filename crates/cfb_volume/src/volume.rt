@@ -23,7 +23,7 @@ ghost use Rattle.cfb_volume.specs.cfb_objects.Laws.{BecomesTree};
 ghost use Rattle.cfb_volume.specs.cfb_directory.State.{IsFullForEntry};
 ghost use Rattle.cfb_volume.specs.cfb_mini_sectors.Held.{with_table};
 ghost use Rattle.cfb_volume.specs.cfb_mini_sectors.State.{bytes_of, cases_of, entries_of, table_of, tables_in, version_of};
-ghost use Rattle.cfb_volume.specs.cfb_content.Contents.{IsStreamOf, IsTooLongFor, MovesContent, len_of};
+ghost use Rattle.cfb_volume.specs.cfb_content.Contents.{ErasesMinis, IsStreamOf, IsTooLongFor, MovesContent, len_of};
 ghost use Rattle.cfb_volume.specs.cfb_resizing.Turning.{LeavesNoMinis};
 ghost use Rattle.cfb_growing.specs.Putting.{ChangesFileAlone};
 ghost use Rattle.cfb_agreement.specs.Changes.{ChangesOneContent, KeepsStreams, StaysOrFails, object_added_at};
@@ -371,7 +371,8 @@ impl<F: Medium, A: Heap + Clone> Volume<F, A> {
         Ok(())
     }
 
-    /// Gives the stream of that entry this length: it is cut, or padded with zeros. The length that it has changes nothing.
+    /// Gives the stream of that entry this length: it is cut, or padded with zeros. The length that it has changes nothing. Mini sectors that
+    /// it leaves are zeros where they stood, but where it moves into sectors and takes theirs.
     ///
     /// `Full` exactly where the length needs more numbers than are free or left once what it moves away from is free, so never
     /// where the stream is emptied: nothing has changed then. `Memory`, and `Medium` where the medium fails: all is as before, or the file
@@ -387,6 +388,8 @@ impl<F: Medium, A: Heap + Clone> Volume<F, A> {
         ensures none { len ≡ len_of self.old.base entry → OnErr result ⊥ × (self.new ≡ self.old) }
         ensures content { IsTrue F.tells → Holds self.old
             → OnOk result (content_at self.new entry ≡ resized (content_at self.old entry) len) }
+        ensures erased { IsTrue F.tells → Holds self.old
+            → OnOk result (ErasesMinis self.old.base self.new.base entry) }
         ensures entries { MovesContent self.old.base self.new.base entry }
         ensures changes { IsTrue F.tells
             → Holds self.old → ChangesOneContent entry self.old self.new }

@@ -11,6 +11,7 @@ use Rattle.cfb_volume.proofs.cfb_trees.Reached.{below-reached}
 use Rattle.cfb_volume.specs.cfb_mini_sectors.State.{HoldsMini, cases_of, entries_of}
 use Rattle.cfb_volume.specs.cfb_content.Contents.{IsNotChangeable, IsStreamOf, IsTooLongFor, len_of}
 use Rattle.cfb_volume.proofs.cfb_content.Changed.{moves-same, spares-same}
+use Rattle.cfb_volume.proofs.cfb_content.Erased.{emptied-zeros}
 use Rattle.cfb_volume.proofs.cfb_content.Snug.{sized-is-snug}
 use Rattle.cfb_agreement.proofs.ContentChanges.{content-keeps-parts}
 use Rattle.cfb_volume.proofs.Emptying.{emptying-fits}
@@ -76,6 +77,7 @@ returns-in_ok-resize_content-in-Stream-clause-emptied g c told =
           (sized-is-snug s new i e.moves.limits e.moves.entries ((e.spares told).others v change) at (made.sized v change)) (made.snug_mini v change) (made.gives_back v change)
           (sized-at-end s new i 0 ok.len (λ same. ap entries_of (ok.none same).1) ok.trimmed);
       empty = λ stream. ok.len;
+      erased = λ v change stream. emptied-zeros c.args.mini.now c.resize_content.new.mini c.args.entry ok.len ((ok.content told).erased v change);
     }
 
 pub returns-in_default : goal.returns-in_default

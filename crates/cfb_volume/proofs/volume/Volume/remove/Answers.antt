@@ -16,7 +16,8 @@ use Rattle.cfb_volume.specs.cfb_objects.Laws.{BecomesTree}
 use Rattle.cfb_volume.specs.cfb_mini_sectors.State.{IsChangeable, MiniState, bytes_of, cases_of, entries_of, table_of, tables_in}
 use Rattle.cfb_volume.specs.cfb_mini.MiniSectors.{IsStill}
 use Rattle.cfb_volume.specs.cfb_content.Changed.{MovesAlone}
-use Rattle.cfb_volume.specs.cfb_content.Contents.{KeepsFixedHeader, KeepsOthers, len_of}
+use Rattle.cfb_volume.specs.cfb_content.Contents.{KeepsFixedHeader, KeepsOthers, LeavesZeros, len_of}
+use Rattle.cfb_volume.proofs.cfb_content.Erased.{slots-leave-zeros}
 use Rattle.cfb_volume.proofs.cfb_content.FixedHeader.{header-then, spared-keeps-header}
 use Rattle.cfb_entry_changes.specs.Kept.{AllStayBalancedBut, FindsAllBut}
 use Rattle.cfb_agreement.specs.Changes.{KeepsParts, StaysOrFails}
@@ -255,6 +256,21 @@ pub returns-clause-parts : goal.returns-clause-parts
 returns-clause-parts g c told holds =
     subst (λ (m : MiniState). KeepsParts c.args.self.now.base m) (sym c.end_change.ensures)
     (remove-parts (removed g (goal.at.returns-clause-parts g c).In_ok-remove_dir_entry told) c.requires.sound holds)
+
+-- what it had in mini sectors is zeros
+pub returns-clause-erased : goal.returns-clause-erased
+returns-clause-erased g c told holds kind =
+    let old = c.args.self.now in
+    let mid = c.empty_object.new.mini in
+    let new = c.remove_dir_entry.new.self in
+    let child = c.args.child in
+    let e = ap (λ (f : FileState). f.base) c.self.view_is in
+    let emptied = subst (λ (m : MiniState). WasEmptied m mid child) e (c.in_ok-empty_object.ensures.emptied told) in
+    let moves = subst (λ (m : MiniState). MovesAlone m mid child) e c.empty_object.ensures.moves in
+    let change = holds.sound c.requires.sound in
+    subst (λ (m : MiniState). LeavesZeros old.base m child) (sym c.end_change.ensures)
+    (λ m own. slots-leave-zeros Permissive old.base mid new child m change.held moves.limits.version moves.directory (c.in_ok-remove_dir_entry.ensures.others told) own
+    (emptied.erased Permissive change kind m own))
 
 pub returns-clause-slots : goal.returns-clause-slots
 returns-clause-slots g c =

@@ -8,7 +8,7 @@ use Rattle.cfb_format.specs.Siblings.{entry_at}
 use Rattle.cfb_volume.specs.cfb_rules.StreamCalls.{resized}
 use Rattle.cfb_volume.specs.cfb_mini_sectors.State.{HoldsMini, IsChangeable, MiniState, content_of, entries_of, table_of, tables_in, version_of}
 use Rattle.cfb_volume.specs.cfb_mini_sectors.Steps.{KeepsLimits}
-use Rattle.cfb_volume.specs.cfb_content.Contents.{IsNotChangeable, IsStreamOf, IsTooLongFor, MovesContent, len_of}
+use Rattle.cfb_volume.specs.cfb_content.Contents.{ErasesMinis, IsNotChangeable, IsStreamOf, IsTooLongFor, MovesContent, len_of}
 use Rattle.cfb_agreement.specs.Changes.{ChangesOneContent}
 use Rattle.cfb_agreement.specs.Files.{FileState, Holds, SameSetting, StartsAtEndIfEmpty, EmptyStartAtEnd}
 use Rattle.cfb_volume.proofs.InMemory.{still-in-memory}
@@ -204,3 +204,13 @@ returns-in_err-resize_content-clause-emptied g c =
 pub returns-clause-emptied : goal.returns-clause-emptied
 returns-clause-emptied g c =
     emptied c.self.inside.mini c.args.self.now c.self.inside.buffer_limit c.self.inside.is_sound c.args.entry c.args.len c.self.view_is c.requires.sound c.minifat_len.ensures.short
+
+-- what it left of mini sectors is zeros
+pub returns-clause-erased : goal.returns-clause-erased
+returns-clause-erased g c told held =
+    let old = c.args.self.now in
+    let mid = c.resize_content.new.mini in
+    let i = c.args.entry in
+    let sound = subst (λ (f : FileState). IsChangeable Permissive f.base) (sym c.self.view_is) (held.sound c.requires.sound) in
+    subst (λ (m : MiniState). ErasesMinis old.base m i) (sym c.end_change.ensures)
+    (subst (λ (f : FileState). ErasesMinis f.base mid i) c.self.view_is ((c.in_ok-resize_content.ensures.content told).erased Permissive sound))
