@@ -1,5 +1,5 @@
 -- What a target that has nothing to spare finds room for, by what its tree needs.
-use Rattle.std.proofs.Common.{◌≡◌, ◌≢◌, ◌≤◌, ◌<◌, ◌+◌, ◌-◌, ◌⊎◌, inl, inr, ℕ, Bool, true, false, List, [], ◌∷◌, length, drop, refl, sym, ◌∙◌, ap, subst, arith}
+use Rattle.std.proofs.Common.{◌≡◌, ◌≤◌, ◌<◌, ◌+◌, ◌-◌, ◌⊎◌, inl, inr, ℕ, Bool, true, false, List, [], length, drop, refl, sym, ◌∙◌, ap, subst, arith}
 use Rattle.std.specs.Prelude.{IsTrue, if◌then◌else◌, nat_le}
 use Rattle.std.proofs.lemmas.Bool.{cases_lt, le-leb, leb-true}
 use Rattle.cfb_format.specs.declared.objtype.ObjType.TheVariants.{Storage, Stream}
@@ -7,7 +7,7 @@ use Rattle.cfb_format.specs.declared.validate.Validation.TheVariants.{Strict}
 use Rattle.cfb_format.specs.declared.version.Version.{Version}
 use Rattle.cfb_format.specs.declared.version.Version.TheVariants.{V3, V4}
 use Rattle.cfb_format.specs.Bytes.{max_regular_sector, sector_len}
-use Rattle.cfb_format.specs.Content.{is_large, mini_chain, mini_stream_cutoff, sector_chain}
+use Rattle.cfb_format.specs.Content.{is_large}
 use Rattle.cfb_format.specs.DirectoryEntry.{Entry}
 use Rattle.cfb_format.specs.Full.{CanTake, HasRoom, IsTooLarge, free_count, given_back_for, mini_sectors_for, mini_sectors_in, mini_sectors_in_chain, object_count, rounded_up, sectors_for, sectors_in, sectors_in_chain, wanted_for}
 use Rattle.cfb_format.specs.Meaning.{Means, stream_info}
@@ -24,7 +24,6 @@ use Rattle.cfb_copies.proofs.cfb_tables.FullLemmas.{too-few-is-no-room}
 use Rattle.cfb_copies.specs.cfb_directory.State.{IsFullForEntry}
 use Rattle.cfb_copies.specs.cfb_objects.Laws.{BecomesTree}
 use Rattle.cfb_copies.specs.cfb_mini_sectors.State.{MiniState, bytes_of, cases_of, entries_of, parts_of, tables_in, version_of}
-use Rattle.cfb_copies.specs.cfb_resizing.Turning.{LeavesNoMinis}
 use Rattle.cfb_copies.specs.cfb_content.Contents.{IsStreamOf, IsTooLongFor, len_of}
 use Rattle.cfb_copies.proofs.cfb_content.Readable.{whole-of}
 use Rattle.cfb_copies.specs.cfb_agreement.Files.{FileState, Holds}
@@ -32,9 +31,9 @@ use Rattle.cfb_volume.specs.Answers.{content_at}
 use Rattle.cfb_volume.specs.Slots.{used_count}
 use Rattle.cfb_volume.proofs.UsedSlots.{all-used}
 use Rattle.cfb_copies.specs.Copies.{IsOnTheWay}
-use Rattle.cfb_copies.specs.Steps.{CanBeFilled, FillsStream, GrowsTree, HasRoomFor, HasRoomOnTheWay, IsPart, LeadToEntry, like_added}
+use Rattle.cfb_copies.specs.Steps.{CanBeFilled, GrowsTree, HasRoomFor, HasRoomOnTheWay, IsPart, LeadToEntry, like_added}
 use Rattle.cfb_copies.proofs.Joining.{stream_tree}
-use Rattle.cfb_copies.proofs.Next.{next_allowed, next_part, step_becomes, way_allows}
+use Rattle.cfb_copies.proofs.Next.{next_allowed, step_becomes}
 use Rattle.cfb_copies.proofs.Slots.{moved_used}
 use Rattle.cfb_copies.proofs.Tight.{has_nothing_to_spare, parts}
 use Rattle.cfb_places.specs.Parts.{part_at}

@@ -1,31 +1,27 @@
 -- A target that has nothing to spare.
-use Rattle.std.proofs.Common.{◌≡◌, ◌≤◌, ◌<◌, ◌+◌, ◌*◌, ◌-◌, ◌⊎◌, inl, inr, ℕ, Bool, true, false, not, List, [], ◌∷◌, ◌++◌, length, refl, sym, ◌∙◌, ap, subst, arith, length-append}
+use Rattle.std.proofs.Common.{◌≡◌, ◌≤◌, ◌<◌, ◌+◌, ◌*◌, ℕ, Bool, true, false, not, List, [], ◌∷◌, length, refl, sym, ◌∙◌, ap, subst, arith, length-append}
 use Rattle.std.specs.Prelude.{Contains, Option, filter, flat_map, if◌then◌else◌, unwrap_or}
 use Rattle.std.specs.List.{sum_by}
-use Rattle.std.proofs.lemmas.List.Concat.{flat_map-cons}
-use Rattle.std.proofs.lemmas.List.Elements.{Contains-append_left, Contains-append_right}
 use Rattle.std.proofs.lemmas.List.Sums.{sum_by-append, sum_by-cons}
 use Rattle.cfb_format.specs.declared.version.Version.{Version}
 use Rattle.cfb_format.specs.declared.version.Version.TheVariants.{V3, V4}
-use Rattle.cfb_format.specs.Bytes.{entries_per_sector, max_regular_sector, sector_len}
+use Rattle.cfb_format.specs.Bytes.{entries_per_sector}
 use Rattle.cfb_format.specs.Content.{is_large, mini_chain, sector_chain}
 use Rattle.cfb_format.specs.DirectoryEntry.{Entry}
-use Rattle.cfb_format.specs.Full.{HasRoom, directory_sectors_for, free_count, is_unallocated, max_entries, mini_sectors_for, mini_sectors_in, object_count, rounded_up, sectors_for, sectors_in}
+use Rattle.cfb_format.specs.Full.{directory_sectors_for, mini_sectors_for, mini_sectors_in, object_count, sectors_for, sectors_in}
 use Rattle.cfb_format.specs.Meaning.{Means, objects_from}
-use Rattle.cfb_format.specs.Reading.{IsOutline, Outline, Reading, no_more, storage_at, stream_at, stream_numbers}
+use Rattle.cfb_format.specs.Reading.{Outline, Reading, no_more, storage_at, stream_at, stream_numbers}
 use Rattle.cfb_format.specs.Siblings.{entry_at}
-use Rattle.cfb_format.specs.Soundness.{large_streams, mini_sectors_of, mini_stream_sectors, sectors_of, small_streams, used_mini_sectors}
+use Rattle.cfb_format.specs.Soundness.{mini_sectors_of, mini_stream_sectors, sectors_of, used_mini_sectors}
 use Rattle.cfb_format.specs.Tree.{Tree}
 use Rattle.cfb_format.proofs.Members.{Contains-here, Contains-there}
 use Rattle.cfb_copy_sizes.specs.Growth.{HasNothingToSpare}
-use Rattle.cfb_copy_sizes.specs.Needs.{IsTooMuch}
 use Rattle.cfb_copy_sizes.proofs.Growth.{counted}
-use Rattle.cfb_copy_sizes.proofs.Having.{content-can-be-had, entry-can-be-had}
-use Rattle.cfb_copies.specs.cfb_mini_sectors.State.{MiniState, bytes_of, cases_of, content_of, entries_of, mini_stream_of, parts_of, tables_in, version_of}
-use Rattle.cfb_copies.specs.cfb_content.Contents.{IsSnug, IsStreamOf, len_of, parts_with}
-use Rattle.cfb_copies.specs.cfb_agreement.Files.{FileState, Holds, IsAsMade}
+use Rattle.cfb_copies.specs.cfb_mini_sectors.State.{MiniState, bytes_of, cases_of, content_of, entries_of, mini_stream_of, parts_of, version_of}
+use Rattle.cfb_copies.specs.cfb_content.Contents.{IsSnug, parts_with}
+use Rattle.cfb_copies.specs.cfb_agreement.Files.{FileState, Holds}
 use Rattle.cfb_volume.specs.Slots.{used_count}
-use Rattle.cfb_copies.specs.Steps.{HasRoomOnTheWay, IsTight}
+use Rattle.cfb_copies.specs.Steps.{HasRoomOnTheWay}
 use Rattle.cfb_copies.proofs.Prepared.{tree_in, tree_is}
 
 -- ---- chains of snug streams

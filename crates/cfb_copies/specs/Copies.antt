@@ -81,12 +81,13 @@ pub record TakesAfter (room : ℕ) (source copy : FileState) : Type 0 where
 abbrev pub HasCreatedHeader : FileState → Type 0
 HasCreatedHeader file = (i : ℕ) → IsFixedHeaderByte (version_of file.base) i → slice_index (bytes_of file.base) i ≡ slice_index (created_bytes (version_of file.base)) i
 
--- it is what its bytes say, and as a file that was made here is, header and all, and none of its sectors is free; so many calls of its medium
--- have failed
+-- it is what its bytes say, and as a file that was made here is, header and all; none of its sectors and mini sectors is free, and fewer of its
+-- directory's slots than a sector has; so many calls of its medium have failed
 pub record IsMadeCopy (failures : ℕ) (copy : FileState) : Type 0 where
   pub holds : Holds copy
   pub made : IsAsMade copy.base
   pub none_free : NoneFree (tables_in copy.base).fat
+  pub tight : IsTight copy.base
   pub header : HasCreatedHeader copy
   pub calm : failures_of copy ≡ failures
 

@@ -61,6 +61,7 @@ returns-clause-made g c tells =
       holds = w.holds tells m.holds;
       made = w.made tells m.holds m.made;
       none_free = w.none_free tells m.holds m.none_free;
+      tight = w.tight tells m.holds m.tight;
       header = header_as_created c.in_ok-target.target c.fill.new.target m.holds w.setting.limits.version (w.header tells m.holds) m.header;
       calm = w.calm tells ∙ m.calm;
     }

@@ -15,6 +15,7 @@ returns-clause-made g c told =
       holds = m.holds told c.args.buffer_limit;
       made = m.made told;
       none_free = created_full file _ (m.holds told c.args.buffer_limit) (m.bytes told);
+      tight = created_tight file _ (m.holds told c.args.buffer_limit) (m.bytes told);
       header = λ i fixed. ap (λ (bytes : List ℕ). slice_index bytes i) (m.bytes told) ∙ ap (λ (v : Version). slice_index (created_bytes v) i) (sym m.version);
       calm = m.calm told;
     })
