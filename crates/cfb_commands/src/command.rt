@@ -101,6 +101,57 @@ pub enum Command<A: Heap = Global> {
     Stream(Opening, String<A>, Vec<StreamOp<A>, A>),
 }
 
+impl<A: Heap + Clone> Clone for Command<A> {
+    ghost use Rattle.std.specs.Prelude.{◌≡◌};
+    ghost use Rattle.cfb_commands.specs.Commands.{command_of};
+
+    ghost is_clone = { λ old new. command_of new ≡ command_of old };
+
+    /// The same command, with memory of its own.
+    #[tactic(auto, using(crate::proofs::Cloned::same_calls))]
+    fn clone(&self) -> Result<Command<A>, AllocError> {
+        match self {
+            Command::CreateStorage(path, moment) => Ok(Command::CreateStorage(
+                path.clone()?,
+                *moment,
+            )),
+            Command::CreateStorageAll(path, moment) => Ok(Command::CreateStorageAll(
+                path.clone()?,
+                *moment,
+            )),
+            Command::RemoveStorage(path) => Ok(Command::RemoveStorage(path.clone()?)),
+            Command::RemoveStorageAll(path) => Ok(Command::RemoveStorageAll(path.clone()?)),
+            Command::RemoveStream(path) => Ok(Command::RemoveStream(path.clone()?)),
+            Command::SetStorageClsid(path, clsid) => Ok(Command::SetStorageClsid(
+                path.clone()?,
+                *clsid,
+            )),
+            Command::SetStateBits(path, bits) => Ok(Command::SetStateBits(path.clone()?, *bits)),
+            Command::SetCreatedTime(path, moment) => Ok(Command::SetCreatedTime(
+                path.clone()?,
+                *moment,
+            )),
+            Command::SetModifiedTime(path, moment) => Ok(Command::SetModifiedTime(
+                path.clone()?,
+                *moment,
+            )),
+            Command::Touch(path, moment) => Ok(Command::Touch(path.clone()?, *moment)),
+            Command::Flush => Ok(Command::Flush),
+            Command::Exists(path) => Ok(Command::Exists(path.clone()?)),
+            Command::IsStream(path) => Ok(Command::IsStream(path.clone()?)),
+            Command::IsStorage(path) => Ok(Command::IsStorage(path.clone()?)),
+            Command::Entry(path) => Ok(Command::Entry(path.clone()?)),
+            Command::ReadStorage(path) => Ok(Command::ReadStorage(path.clone()?)),
+            Command::WalkStorage(path) => Ok(Command::WalkStorage(path.clone()?)),
+            Command::Stream(how, path, ops) => Ok(Command::Stream(
+                *how,
+                path.clone()?,
+                ops.clone()?,
+            )),
+        }
+    }
+}
+
 /// What one operation on an open stream answers.
 #[derive(Debug, PartialEq, Drop)]
 pub enum StreamReply<A: Heap = Global> {
@@ -115,7 +166,7 @@ pub enum StreamReply<A: Heap = Global> {
 }
 
 /// What one command answers.
-#[derive(Debug, Drop)]
+#[derive(Debug, PartialEq, Drop)]
 pub enum Reply<A: Heap = Global> {
     /// To a call that changes the file, and to `Flush`.
     Done(Result<(), Error>),

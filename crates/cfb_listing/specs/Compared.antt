@@ -31,4 +31,4 @@ same_entry_laws = partial_equiv_from_equiv (
     (on_equiv (λ (e : EntryInfo). e.state_bits) nat_eq_equiv))
     (on_equiv (λ (e : EntryInfo). e.created) nat_eq_equiv))
     (on_equiv (λ (e : EntryInfo). e.modified) nat_eq_equiv)
-)
+    )

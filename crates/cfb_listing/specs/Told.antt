@@ -1,7 +1,5 @@
 -- What is told of an entry of a directory.
-use Rattle.std.specs.Prelude.{ℕ, List, Bool, true, false}
-use Rattle.cfb_format.specs.declared.objtype.ObjType.{ObjType}
-use Rattle.cfb_format.specs.declared.objtype.ObjType.TheVariants.{Unallocated, Storage, Stream, Root}
+use Rattle.std.specs.Prelude.{ℕ, List}
 use Rattle.cfb_format.specs.DirectoryEntry.{Entry, name_for, nil_clsid, unless_storage, unless_stream}
 use Rattle.cfb_rules.specs.Calls.{EntryInfo}
 
