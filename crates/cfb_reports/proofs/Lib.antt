@@ -1,1 +1,4 @@
 pub mod Joining
+pub mod Noting
+pub mod Placing
+pub mod Texts
