@@ -1,4 +1,6 @@
+pub mod Counts
 pub mod Joining
 pub mod Noting
 pub mod Placing
 pub mod Texts
+pub mod True

@@ -1,13 +1,16 @@
 -- What each sector is used for.
-use Rattle.std.specs.Prelude.{ℕ, ◌≡◌, ◌<◌, ◌≤◌, ◌&&◌, ◌==◌, List, [], ◌∷◌, Option, None, Some, Bool, false, length, nat_le, slice_index_or, if◌then◌else◌}
+use Rattle.std.specs.Prelude.{ℕ, All, ◌⊎◌, ◌≡◌, ◌<◌, ◌≤◌, ◌&&◌, ◌==◌, List, [], ◌∷◌, Option, None, Some, Bool, false, length, nat_le, slice_index_or, if◌then◌else◌}
 use Rattle.std.specs.Option.{option_or}
+use Rattle.cfb_format.specs.Reading.{Reading}
+use Rattle.cfb_format.specs.Soundness.{owner}
 use Rattle.cfb_flaws.specs.declared.flaw.Flaw.{Flaw}
 use Rattle.cfb_flaws.specs.declared.flaw.Flaw.TheVariants.{TooFewWords, ListedTwice, UsedTwice, Broken, TooLittleRoom, Loose, Cut, PastFile}
 use Rattle.cfb_flaws.specs.declared.owner.Owner.{Owner}
 use Rattle.cfb_flaws.specs.declared.owner.Owner.TheVariants.{Fat as FatOwner, Unused}
 use Rattle.cfb_flaws.specs.declared.owner.Table.{Table}
 use Rattle.cfb_flaws.specs.declared.owner.Table.TheVariants.{Fat, Minifat}
-use Rattle.cfb_flaws.specs.Owners.{owner_at}
+use Rattle.cfb_flaws.specs.Flaws.{Holds, IsUsedTwice, StandsTwice}
+use Rattle.cfb_flaws.specs.Owners.{AreOwners, meant, owner_at}
 use Rattle.cfb_reports.specs.declared.runs.Use.{Use}
 
 -- the sector is one of these; mini sectors are none
@@ -60,3 +63,13 @@ pub record AreUses (owners : List Owner) (flaws : List Flaw) (uses : List Use) :
   pub len : length uses ≡ length owners
   pub owner : (i : ℕ) → i < length owners → (use_at uses i).owner ≡ owner_at owners i
   pub second : (i : ℕ) → i < length owners → (use_at uses i).second ≡ second_of flaws i
+
+-- another owner has the sector too, or the FAT lists it twice
+abbrev pub IsShared : Reading → ℕ → Owner → Type 0
+IsShared r i b = ((a : Owner) × IsUsedTwice Fat r i a b) ⊎ ((b ≡ FatOwner) × StandsTwice r.fat_sectors i)
+
+-- the owners are those that the sectors have in the file, and each second one has the sector too
+abbrev pub UsesAreTrue : Type 0
+UsesAreTrue = (bytes : List ℕ) (r : Reading) (owners : List Owner) (flaws : List Flaw) (uses : List Use) → AreOwners r.fat (owner r) owners
+    → All (Holds bytes r) flaws → AreUses owners flaws uses → (i : ℕ) → i < length r.fat
+    → (meant (use_at uses i).owner ≡ owner r i) × ((b : Owner) → (use_at uses i).second ≡ Some b → IsShared r i b)
