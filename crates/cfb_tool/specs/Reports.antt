@@ -41,12 +41,12 @@ pub record HasMap (file : FileState) (text : List ℕ) : Type 0 where
   pub reasons : AreFlawsOf file found
   pub lines : IsMap path owners found text
 
--- what opening the file told of its header
-pub record IsHeaded {A : Type 0} (file : FileState) (name : List ℕ) (minor : ℕ) (refused : Bool) (facts : Facts A) : Type 0 where
-  pub name : facts.name.now ≡ name
+-- the name and the minor version as they are given, and what memory keeps of the header
+pub record IsHeaded {A : Type 0} (file : FileState) (given : List ℕ) (version : ℕ) (refused : Bool) (facts : Facts A) : Type 0 where
+  pub name : facts.name.now ≡ given
   pub len : facts.len ≡ (table_of file.base).file.len
-  pub version : facts.version ≡ version_of file.base
-  pub minor : facts.minor ≡ minor
+  pub major : facts.version ≡ version_of file.base
+  pub minor : facts.minor ≡ version
   pub strict : is_some facts.strict ≡ refused
 
 -- what its bytes say of sectors, entries and soundness
@@ -58,13 +58,13 @@ pub record IsCounted {A : Type 0} (file : FileState) (told : List EntryInfo) (fa
   pub reasons : AreFlawsOf file facts.flaws.now
 
 -- a report on the file
-pub record HasReport {A : Type 0} (file : FileState) (name : List ℕ) (minor : ℕ) (refused : Bool) (text : List ℕ) : Type 0 where
+pub record HasReport (A : Type 0) (file : FileState) (given : List ℕ) (version : ℕ) (refused : Bool) (text : List ℕ) : Type 0 where
   pub told : List EntryInfo
   pub facts : Facts A
   pub names : Names A
   pub answers : Answers file walk (entries told)
   pub streams : names.streams.items ≡ streams_among told
   pub paths : ArePathsOf file (streams_among told) (path_of names)
-  pub header : IsHeaded file name minor refused facts
+  pub header : IsHeaded file given version refused facts
   pub counts : IsCounted file told facts
-  pub text : text ≡ report_text facts names
+  pub lines : text ≡ report_text facts names

@@ -43,12 +43,7 @@ pub fn map<F: ReadMedium, A: Heap + Clone>(
     let names = names_of(alloc, file, told)?;
     let owners = file.sector_owners(alloc)?;
     let flaws = file.flaws(alloc)?;
-    Ok(map_of(
-        alloc,
-        owners.as_slice(),
-        flaws.as_slice(),
-        &names,
-    )?)
+    Ok(map_of(alloc, owners.as_slice(), flaws.as_slice(), &names)?)
 }
 
 /// A report on the file: its header, its sectors, its directory, and the reasons why it is not sound.
@@ -61,7 +56,7 @@ pub fn report<F: ReadMedium, A: Heap + Clone>(
     file: &CompoundFile<F, A>,
     about: &About<'_>,
 ) -> Result<String<A>, Error>
-    ensures told { IsTrue F.tells → IfOk result (λ text. HasReport {A = A} file.now
+    ensures told { IsTrue F.tells → IfOk result (λ text. HasReport A file.now
         about.now.name.now about.now.minor (is_some about.now.strict) (string_bytes text)) }
     ensures err { IfErr result (λ e. (e ≡ Failed) ⊎ IsMemory e) }
 {
@@ -113,10 +108,7 @@ fn keep_streams<A: Heap>(told: &mut Vec<Entry<A>, A>)
 }
 
 /// What strict opening says, if it refuses. `Memory`.
-fn strict_reason<A: Heap + Clone>(
-    alloc: &A,
-    why: Option<Error>,
-) -> Result<Option<String<A>>, Error>
+fn strict_reason<A: Heap + Clone>(alloc: &A, why: Option<Error>) -> Result<Option<String<A>>, Error>
     ensures some { IfOk result (λ reason. is_some reason ≡ is_some why) }
     ensures err { IfErr result IsMemory }
 {
