@@ -1,5 +1,6 @@
 pub mod Counts
 pub mod Joining
+pub mod Leading
 pub mod Noting
 pub mod Placing
 pub mod Texts

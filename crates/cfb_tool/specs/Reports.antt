@@ -1,27 +1,20 @@
 -- What a report and a map say of a file.
-use Rattle.std.specs.Prelude.{ℕ, ◌≡◌, Bool, List, Option, filter, is_some, length, string_bytes}
+use Rattle.std.specs.Prelude.{ℕ, ◌≡◌, Bool, List, is_some, length}
 use Rattle.cfb_format.specs.Names.{Cases}
 use Rattle.cfb_format.specs.Reading.{IsOutline, Outline, stream_numbers}
 use Rattle.cfb_reports.specs.cfb_flaws.declared.flaw.Flaw.{Flaw}
 use Rattle.cfb_reports.specs.cfb_flaws.declared.owner.Owner.{Owner}
 use Rattle.cfb_reports.specs.declared.names.Names.{Names}
 use Rattle.cfb_reports.specs.declared.report.Facts.{Facts}
+use Rattle.cfb_reports.specs.Leading.{streams_among}
 use Rattle.cfb_reports.specs.Mapping.{IsMap}
 use Rattle.cfb_reports.specs.Names.{AreNamed, path_of}
 use Rattle.cfb_reports.specs.Report.{report_text}
 use Rattle.cfb_rules.specs.Calls.{EntryInfo, entries, walk}
-use Rattle.cfb_tool.specs.cfb_outline.Families.{is_stream_kind}
 use Rattle.cfb_tool.specs.cfb_mini_sectors.State.{entries_of, table_of, version_of}
 use Rattle.cfb_tool.specs.cfb_agreement.Files.{FileState}
 use Rattle.cfb_tool.specs.cfb_compound_file.Flaws.{AreFlawsOf, AreMiniOwnersOf, AreSectorOwnersOf}
 use Rattle.cfb_tool.specs.cfb_path_changes.Answers.{Answers}
-
-abbrev pub is_stream_info : EntryInfo → Bool
-is_stream_info info = is_stream_kind info.obj_type
-
--- of these the streams
-abbrev pub streams_among : List EntryInfo → List EntryInfo
-streams_among told = filter is_stream_info told
 
 -- each stream among these has its path by the number of its entry, in the order of the tree
 pub record ArePathsOf (file : FileState) (streams : List EntryInfo) (path : ℕ → List ℕ) : Type 0 where

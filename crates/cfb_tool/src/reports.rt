@@ -2,8 +2,9 @@
 ghost use Rattle.std.specs.Prelude.{◌≡◌, ◌⊎◌, IsTrue, IfOk, IfErr, is_some, string_bytes};
 ghost use Rattle.cfb_format.specs.declared.error.Error.TheVariants.{Failed};
 ghost use Rattle.cfb_format.specs.Refused.{IsMemory};
+ghost use Rattle.cfb_reports.specs.Leading.{streams_among};
 ghost use Rattle.cfb_reports.specs.Names.{path_of};
-ghost use Rattle.cfb_tool.specs.Reports.{ArePathsOf, HasMap, HasReport, streams_among};
+ghost use Rattle.cfb_tool.specs.Reports.{ArePathsOf, HasMap, HasReport};
 
 use crate::listing::walked;
 use cfb_commands::CompoundFile;

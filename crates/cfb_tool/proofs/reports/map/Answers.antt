@@ -1,7 +1,3 @@
-use Rattle.std.proofs.Common.{◌≡◌, List, refl}
-use Rattle.cfb_reports.specs.cfb_flaws.declared.flaw.Flaw.{Flaw}
-use Rattle.cfb_reports.specs.cfb_flaws.declared.owner.Owner.{Owner}
-use Rattle.cfb_reports.specs.Mapping.{IsMap}
 use Rattle.cfb_reports.specs.Names.{path_of}
 use Rattle.cfb_tool.proofs.reports.map.Goals as goal
 

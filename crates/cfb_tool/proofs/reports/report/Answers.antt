@@ -1,5 +1,4 @@
-use Rattle.std.proofs.Common.{◌≡◌, List, arith, length, refl}
-use Rattle.cfb_reports.specs.declared.report.Facts.{Facts}
+use Rattle.std.proofs.Common.{arith, refl}
 use Rattle.cfb_tool.proofs.reports.report.Goals as goal
 
 pub returns-clause-told : goal.returns-clause-told
