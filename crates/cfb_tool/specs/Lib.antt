@@ -11,3 +11,4 @@ pub mod Listing
 pub mod Details
 pub mod Playing
 pub mod Laws
+pub mod Reports
