@@ -215,7 +215,11 @@ impl<R: Files<File = File>> Disk for FileDisk<'_, R> {
     }
 
     fn sync_file(&mut self) -> Result<(), MediumFault> {
-        let done = self.file.sync_all();
+        let done = match self.file.sync_all() {
+            // what the system says of a device that keeps nothing
+            Err(error) if error.kind() == ErrorKind::InvalidInput => Ok(()),
+            done => done,
+        };
         self.noted(done, MediumFault::Flush)
     }
 

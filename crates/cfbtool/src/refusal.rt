@@ -26,6 +26,10 @@ pub(crate) enum Refusal {
     Of(Error),
     /// The system refused a call there.
     System(Place, io::Error),
+    /// The system refused a call at FILE, and all that was changed is as it was.
+    TakenBack(io::Error),
+    /// The journal of FILE is none that an interrupted change leaves.
+    Damaged,
     /// Another program is changing FILE.
     Busy,
     /// What was to be shown on a terminal is no text.
@@ -207,6 +211,12 @@ pub(crate) fn tell<E: Output>(refusal: Refusal, about: About<'_>, faults: &mut E
             writeln!(faults, "cfbtool: medium failed")
         }
         Refusal::System(place, e) => tell_system(place.name(about), &e, faults),
+        Refusal::TakenBack(e) => {
+            writeln!(faults, "cfbtool: medium failed: {file}: {e}; {file} is as it was")
+        }
+        Refusal::Damaged => {
+            writeln!(faults, "cfbtool: {file}: {file}-journal is damaged; move it away to go on")
+        }
         Refusal::Busy => writeln!(faults, "cfbtool: {file}: another program is changing it"),
         Refusal::NotText => {
             let path = Shown(about.path.unwrap_or(""));
