@@ -20,13 +20,18 @@ use std::rt::Files;
 #[derive(Drop)]
 pub struct FileDisk<'a, R: Files<File = File>> {
     rt: &'a R,
-    place: &'a Place,
+    place: Place,
     file: File,
     journal: Option<File>,
     /// The journal was made, and its name is not on the disk yet.
     is_new: bool,
+    /// The gate of a commit was opened: what goes wrong then is made good, and not taken back.
+    is_committed: bool,
     failures: Failures,
 }
+
+/// Where the gate of the commit stands in the journal.
+const GATE: u64 = 8;
 
 /// How a change ended that was not told as done.
 #[derive(Clone, Copy, Debug, PartialEq, Eq)]
@@ -45,7 +50,7 @@ impl<'a, R: Files<File = File>> FileDisk<'a, R> {
     /// # Errors
     ///
     /// The system's, as where no file is there; `WouldBlock` where another holds the lock.
-    pub fn open(rt: &'a R, place: &'a Place) -> io::Result<FileDisk<'a, R>> {
+    pub fn open(rt: &'a R, place: Place) -> io::Result<FileDisk<'a, R>> {
         let file = locking::open(rt, place.file())?;
         let mut how = OpenOptions::new();
         how.read(true).write(true);
@@ -60,6 +65,7 @@ impl<'a, R: Files<File = File>> FileDisk<'a, R> {
             file,
             journal,
             is_new: false,
+            is_committed: false,
             failures: Failures::new(),
         })
     }
@@ -70,37 +76,24 @@ impl<'a, R: Files<File = File>> FileDisk<'a, R> {
     }
 
     /// Whether the journal has a change that was committed.
-    fn is_committed(&mut self, alloc: Global) -> bool {
+    fn has_committed(&mut self, alloc: Global) -> bool {
         match self.read_journal(alloc) {
             Ok(journal) => journal.len() >= 10 && journal[8] == 1 && journal[9] == 1,
             Err(_) => false,
         }
     }
 
-    /// Ends a change that was committed, or takes it back, and removes the journal.
+    /// Ends a change that was committed, or takes it back, after a call that failed.
     pub fn settle(self, alloc: Global) -> Ending {
         let mut disk = self;
-        let is_committed = disk.is_committed(alloc);
+        let is_committed = disk.is_committed || disk.has_committed(alloc);
         if recover(alloc, &mut disk).is_err() {
             return Ending::Open;
         }
-        disk.close();
         if is_committed {
             Ending::Done
         } else {
             Ending::TakenBack
-        }
-    }
-
-    /// Removes the journal, if nothing is in it, and lets both files go. A journal that stays does
-    /// no harm: with nothing in it, it says nothing.
-    pub fn close(self) {
-        if let Some(journal) = &self.journal {
-            if let Ok(metadata) = journal.metadata() {
-                if metadata.len() == 0 {
-                    let _ = fs::remove_file(self.rt, self.place.journal());
-                }
-            }
         }
     }
 
@@ -118,10 +111,12 @@ impl<'a, R: Files<File = File>> FileDisk<'a, R> {
 
     fn write_to_journal(&mut self, at: u64, from: &[u8]) -> io::Result<()> {
         self.make_journal()?;
-        match &self.journal {
-            Some(journal) => journal.write_all_at(from, at),
-            None => Err(io::Error::from(ErrorKind::NotFound)),
-        }
+        let Some(journal) = &self.journal else {
+            return Err(io::Error::from(ErrorKind::NotFound));
+        };
+        journal.write_all_at(from, at)?;
+        self.is_committed = self.is_committed || at == GATE && from.first() == Some(&1);
+        Ok(())
     }
 
     /// The first time the folder too, so that the journal's name is on the disk.
@@ -149,11 +144,16 @@ impl<'a, R: Files<File = File>> FileDisk<'a, R> {
         Ok(bytes)
     }
 
-    fn emptied_journal(&self) -> io::Result<()> {
-        match &self.journal {
-            Some(journal) => journal.set_len(0),
-            None => Ok(()),
+    /// Removes the journal, or empties it where it can't be removed.
+    fn emptied_journal(&mut self) -> io::Result<()> {
+        let Some(journal) = &self.journal else {
+            return Ok(());
+        };
+        if fs::remove_file(self.rt, self.place.journal()).is_err() {
+            return journal.set_len(0);
         }
+        self.journal = None;
+        Ok(())
     }
 
     /// What came of a call, with its error kept.

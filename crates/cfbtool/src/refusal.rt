@@ -243,7 +243,10 @@ fn tell_error<E: Output>(e: Error, about: About<'_>, faults: &mut E) -> io::Resu
     let file = Shown(about.file);
     match (e, about.path) {
         (Error::Memory, _) => writeln!(faults, "cfbtool: {e}"),
-        (Error::Medium(_) | Error::Full | Error::Unsound | Error::Failed, _) => {
+        (Error::Unsound, _) => {
+            writeln!(faults, "cfbtool: {e}: {file} (see 'cfbtool info {file}')")
+        }
+        (Error::Medium(_) | Error::Full | Error::Failed, _) => {
             writeln!(faults, "cfbtool: {e}: {file}")
         }
         (_, Some(path)) => {

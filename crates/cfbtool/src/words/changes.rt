@@ -12,7 +12,6 @@ use crate::refusal::Refusal;
 use cfb::{Command, Error, Medium};
 use cfb_journal::disk::Disk;
 use cfb_journal_file::lent::LentDisk;
-use cfb_journal_file::place::Place;
 use cfb_text::meant::meant;
 use cfb_tool::explaining::play_explained;
 use std::alloc::Global;
@@ -61,8 +60,7 @@ fn put_bytes<H: Files<File = File> + AllocGlobal>(
     bytes: &[u8],
 ) -> Result<(), Refusal> {
     let object = meant(rt.alloc(), stream)?;
-    let place = Place::of(rt, rt.alloc(), path).map_err(Refusal::of_system)?;
-    let mut disk = to_change(rt, &place)?;
+    let mut disk = to_change(rt, path)?;
     let done = put_whole(rt.alloc(), LentDisk(&mut disk), object.as_str(), bytes);
     ended(rt.alloc(), disk, done)
 }
@@ -151,8 +149,7 @@ fn run_commands<H: Files<File = File> + AllocGlobal>(
 ) -> Result<Told, Refusal> {
     let mut lines = room_for_lines(rt.alloc(), commands.len())?;
     let mut refusals = Vec::with_capacity(rt.alloc(), commands.len())?;
-    let place = Place::of(rt, rt.alloc(), path).map_err(Refusal::of_system)?;
-    let mut disk = to_change(rt, &place)?;
+    let mut disk = to_change(rt, path)?;
     let mut is_done = false;
     let done = play_whole(
         rt.alloc(),

@@ -44,7 +44,7 @@ fn recover_at<H: Files<File = File> + AllocGlobal>(rt: &H, path: &str) -> Result
         Ok(metadata) if metadata.len() > 0 => {}
         _ => return Ok(()),
     }
-    let mut disk = to_change(rt, &place)?;
+    let mut disk = to_change(rt, path)?;
     let done = match begun(rt.alloc(), LentDisk(&mut disk)) {
         Ok(_) => Ok(()),
         Err(refusal) => Err(refusal),
@@ -72,10 +72,11 @@ fn no_folder<H: Files<File = File>>(rt: &H, path: &str) -> io::Result<File> {
 }
 
 /// FILE and its journal, to be changed. FILE is locked.
-pub(super) fn to_change<'a, H: Files<File = File>>(
+pub(super) fn to_change<'a, H: Files<File = File> + AllocGlobal>(
     rt: &'a H,
-    place: &'a Place,
+    path: &str,
 ) -> Result<FileDisk<'a, H>, Refusal> {
+    let place = Place::of(rt, rt.alloc(), path).map_err(Refusal::of_system)?;
     match FileDisk::open(rt, place) {
         Ok(disk) => Ok(disk),
         Err(e) if e.kind() == ErrorKind::WouldBlock => Err(Refusal::Busy),
@@ -112,7 +113,6 @@ pub(super) fn ended<H: Files<File = File>>(
     done: Result<(), Refusal>,
 ) -> Result<(), Refusal> {
     let Err(refusal) = done else {
-        disk.close();
         return Ok(());
     };
     let reason = disk.last_error();
