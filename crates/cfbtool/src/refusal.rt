@@ -26,6 +26,10 @@ pub(crate) enum Refusal {
     Of(Error),
     /// The system refused a call there.
     System(Place, io::Error),
+    /// The system refused a call at FILE, and all that was changed is as it was.
+    TakenBack(io::Error),
+    /// The journal of FILE is none that an interrupted change leaves.
+    Damaged,
     /// Another program is changing FILE.
     Busy,
     /// What was to be shown on a terminal is no text.
@@ -207,6 +211,12 @@ pub(crate) fn tell<E: Output>(refusal: Refusal, about: About<'_>, faults: &mut E
             writeln!(faults, "cfbtool: medium failed")
         }
         Refusal::System(place, e) => tell_system(place.name(about), &e, faults),
+        Refusal::TakenBack(e) => {
+            writeln!(faults, "cfbtool: medium failed: {file}: {e}; {file} is as it was")
+        }
+        Refusal::Damaged => {
+            writeln!(faults, "cfbtool: {file}: {file}-journal is damaged; move it away to go on")
+        }
         Refusal::Busy => writeln!(faults, "cfbtool: {file}: another program is changing it"),
         Refusal::NotText => {
             let path = Shown(about.path.unwrap_or(""));
@@ -233,7 +243,10 @@ fn tell_error<E: Output>(e: Error, about: About<'_>, faults: &mut E) -> io::Resu
     let file = Shown(about.file);
     match (e, about.path) {
         (Error::Memory, _) => writeln!(faults, "cfbtool: {e}"),
-        (Error::Medium(_) | Error::Full | Error::Unsound | Error::Failed, _) => {
+        (Error::Unsound, _) => {
+            writeln!(faults, "cfbtool: {e}: {file} (see 'cfbtool info {file}')")
+        }
+        (Error::Medium(_) | Error::Full | Error::Failed, _) => {
             writeln!(faults, "cfbtool: {e}: {file}")
         }
         (_, Some(path)) => {

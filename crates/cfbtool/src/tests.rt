@@ -19,6 +19,7 @@ mod compacts;
 mod extracts;
 mod files;
 mod helps;
+mod journals;
 mod library;
 mod lines;
 mod lists;
@@ -75,6 +76,8 @@ enum Step<'a> {
     Old,
     /// It has the content as its bytes.
     Filled,
+    /// It has these bytes.
+    Bytes(&'a [u8]),
     /// Some of its bytes are set, and it is cut to a length.
     Damage(&'a [(usize, u8)], usize),
     /// Some bytes of what was noted are set, and it is cut to a length: it is refused so by these
@@ -213,6 +216,7 @@ fn is_file_so(rt: &HostRuntime, world: &mut World, step: &Step<'_>) -> bool {
         Step::Unwritten(runs) => is_writable(rt, path) || are_told(rt, world, runs),
         Step::Old => make_old(rt, path).is_ok(),
         Step::Filled => fs::write(rt, path, world.content.as_slice()).is_ok(),
+        Step::Bytes(bytes) => fs::write(rt, path, *bytes).is_ok(),
         Step::Damage(changes, len) => damage(rt, path, changes, *len).is_ok(),
         Step::Mode(mode) => set_mode(rt, path, *mode).is_ok(),
         Step::Link(to) => symlink(rt, *to, path).is_ok(),

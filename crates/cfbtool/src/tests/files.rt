@@ -70,7 +70,7 @@ const NOT_WRITTEN: &[Run<'static>] = &[
 
 const PUT_BY_LINK: &[Run<'static>] = &[(&["put", "@link", "/b"], CONTENT, 0, b"", b"")];
 
-const UNSOUND: &[u8] = b"cfbtool: file is not sound: @f\n";
+const UNSOUND: &[u8] = b"cfbtool: file is not sound: @f (see 'cfbtool info @f')\n";
 
 const UNREADABLE: &[u8] = b"cfbtool: @f: /a: not all of the stream can be read\n";
 
