@@ -8,12 +8,11 @@ use cfb_format::medium::MediumFault;
 use cfb_journal::disk::Disk;
 use cfb_journal::recovery::recover;
 use std::alloc::Global;
-use std::fs;
 use std::fs::{File, OpenOptions};
-use std::io;
 use std::io::ErrorKind;
 use std::os::unix::fs::FileExt;
 use std::rt::Files;
+use std::{fs, io};
 
 /// A compound file, which is locked while this lives, and its journal. The journal is made at the
 /// first write to it: where nothing is changed, none is made.

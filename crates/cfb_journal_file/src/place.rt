@@ -1,8 +1,8 @@
 //! Where a file's journal is.
 
 use std::alloc::Global;
-use std::rt::Files;
 use std::io;
+use std::rt::Files;
 
 /// The paths of a file, of its journal and of the folder that has both. Links are followed, so that
 /// whatever path leads to a file leads to its journal.

@@ -212,10 +212,16 @@ pub(crate) fn tell<E: Output>(refusal: Refusal, about: About<'_>, faults: &mut E
         }
         Refusal::System(place, e) => tell_system(place.name(about), &e, faults),
         Refusal::TakenBack(e) => {
-            writeln!(faults, "cfbtool: medium failed: {file}: {e}; {file} is as it was")
+            writeln!(
+                faults,
+                "cfbtool: medium failed: {file}: {e}; {file} is as it was"
+            )
         }
         Refusal::Damaged => {
-            writeln!(faults, "cfbtool: {file}: {file}-journal is damaged; move it away to go on")
+            writeln!(
+                faults,
+                "cfbtool: {file}: {file}-journal is damaged; move it away to go on"
+            )
         }
         Refusal::Busy => writeln!(faults, "cfbtool: {file}: another program is changing it"),
         Refusal::NotText => {

@@ -1,8 +1,7 @@
 //! Compound files in files of the system that are opened and made by their paths.
 use super::Step::{self, Absent, At, Comes, Content, Damage, Filled, Len, Note, Old, Runs, Stays};
 use super::library::Outcome::{
-    Bytes, Changed, Kept, LetGo, Made, MadeFull, NoData, Sound, Strict, Unopened,
-    UnopenedByOptions,
+    Bytes, Changed, Kept, LetGo, Made, MadeFull, NoData, Sound, Strict, Unopened, UnopenedByOptions,
 };
 use super::play;
 use super::runs::{Run, SOUND_4};

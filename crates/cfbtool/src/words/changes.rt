@@ -65,12 +65,7 @@ fn put_bytes<H: Files<File = File> + AllocGlobal>(
     ended(rt.alloc(), disk, done)
 }
 
-fn put_whole<D: Disk>(
-    alloc: Global,
-    disk: D,
-    stream: &str,
-    bytes: &[u8],
-) -> Result<(), Refusal>
+fn put_whole<D: Disk>(alloc: Global, disk: D, stream: &str, bytes: &[u8]) -> Result<(), Refusal>
     requires opened { IsTrue D.tells → IsOpened D.opened (D.view disk) }
 {
     let mut medium = begun(alloc, disk)?;
