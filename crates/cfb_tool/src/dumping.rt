@@ -96,6 +96,11 @@ fn send_long<A: Heap, W: Write>(text: &mut String<A>, out: &mut W) -> Result<(),
     send(text, out)
 }
 
+/// The medium gives what no medium can.
+fn stuck<A: Heap>() -> DumpError<A> {
+    DumpError::File(Error::Medium(MediumFault::Stuck))
+}
+
 /// Writes two digits for each byte of the stream from its start to its end, behind the text. It reads
 /// in pieces.
 fn write_digits<F: ReadMedium, A: Heap + Clone, W: Write>(
@@ -119,8 +124,11 @@ fn write_digits<F: ReadMedium, A: Heap + Clone, W: Write>(
     while left > 0 {
         let count = stream.read(piece)?;
         // a read before the end gives at least one byte, and none behind it
-        if count == 0 || count as u64 > left {
-            return Err(DumpError::File(Error::Medium(MediumFault::Stuck)));
+        if count == 0 {
+            return Err(stuck());
+        }
+        if count as u64 > left {
+            return Err(stuck());
         }
         push_hex(text, &piece[..count])?;
         send_long(text, out)?;

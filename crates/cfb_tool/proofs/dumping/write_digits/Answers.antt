@@ -17,7 +17,7 @@ loop-left-init g c = record {
       let run = run_in (open_of c.args.stream.now) in
       let start = g.W.Write.contents c.args.out.now in
       let old = string_bytes c.args.text.now in
-      subst (λ (left : ℕ). SendsAlong run.stream run left start start old old) (sym c.len.ensures.value) (begins_along run start old fresh.unfailed fresh.begins);
+      subst (λ (left : ℕ). SendsAlong run.stream run left start start old old) (sym c.len-left.ensures.value) (begins_along run start old fresh.unfailed fresh.begins);
 }
 
 pub loop-left-preserved : goal.loop-left-preserved
@@ -29,7 +29,7 @@ loop-left-preserved g c =
     let count = c.in_ok-count.count in
     let bytes = take count c.read.new.into in
     let counted : length bytes ≡ count = length-take-le count c.read.new.into c.in_ok-count.ensures.into.most in
-    let some : 0 < length bytes = omega (arith, counted, c.if-count-left.false) in
+    let some : 0 < length bytes = omega (arith, counted, c.if-count-eq0.false) in
     let rest : (c.loop-left.left - count) + count ≡ c.loop-left.left = omega (arith, c.if-count-left.false) in
     record {
       same_file = c.read.ensures.answers.same_file ∙ i.same_file;
@@ -38,7 +38,7 @@ loop-left-preserved g c =
           goes_along (stream_in first) (run_in now) (run_in next) c.loop-left.left count (g.W.Write.contents c.args.out.now) (g.W.Write.contents c.loop-left.out) (g.W.Write.contents c.send_long.new.out)
           (string_bytes c.args.text.now) (string_bytes c.loop-left.text) (string_bytes c.push_hex.new.text) (string_bytes c.send_long.new.text) bytes (i.along told fresh) counted
           (read_served now next _ _ bytes some (i.along told fresh).unfailed (c.in_ok-count.ensures.answers.answer.rules told)) (c.loop-left.left - count) rest
-          (subst (λ (bs : List ℕ). AddsHex (string_bytes c.loop-left.text) (string_bytes c.push_hex.new.text) bs) c.index.ensures c.in_ok-push_hex.ensures) c.in_ok-send_long.ensures.sent;
+          c.in_ok-push_hex.ensures c.in_ok-send_long.ensures.sent;
     }
 
 pub returns-clause-sent : goal.returns-clause-sent
@@ -46,7 +46,24 @@ returns-clause-sent g c = λ told fresh.
     let none : c.loop-left.left ≡ 0 = omega (arith, c.loop-left-test.false) in
     ends_along (stream_in (open_of c.args.stream.now)) (run_in (open_of c.loop-left.stream)) _ _ _ _ fresh.readable c.loop-left.left none (c.loop-left.invariant.along told fresh)
 
--- a read on the way gives some bytes, and no more than are left
+-- a read on the way gives some bytes
+pub returns-then-count-eq0-clause-refused : goal.returns-then-count-eq0-clause-refused
+returns-then-count-eq0-clause-refused g c =
+    let first = open_of c.args.stream.now in
+    let now = open_of c.loop-left.stream in
+    let next = open_of c.read.new.self in
+    let count = c.in_ok-count.count in
+    let bytes = take count c.read.new.into in
+    let counted : length bytes ≡ count = length-take-le count c.read.new.into c.in_ok-count.ensures.into.most in
+    let some : 0 < c.loop-left.left = omega (arith, c.loop-left-test.true) in
+    let room : 0 < length c.loop-left.piece = omega (arith, c.requires, c.loop-left.auto.piece) in
+    λ told fresh.
+    let between =
+    read_between now next _ _ (stream_in first) c.loop-left.left count _ _ _ _ bytes (c.loop-left.invariant.along told fresh) fresh.readable room some counted
+    (c.in_ok-count.ensures.answers.answer.rules told) in
+    absurd (omega (arith, between.0, c.if-count-eq0.true))
+
+-- and no more than are left
 pub returns-then-count-left-clause-refused : goal.returns-then-count-left-clause-refused
 returns-then-count-left-clause-refused g c =
     let first = open_of c.args.stream.now in
@@ -61,7 +78,7 @@ returns-then-count-left-clause-refused g c =
     let between =
     read_between now next _ _ (stream_in first) c.loop-left.left count _ _ _ _ bytes (c.loop-left.invariant.along told fresh) fresh.readable room some counted
     (c.in_ok-count.ensures.answers.answer.rules told) in
-    absurd (omega (arith, between.0, between.1, c.if-count-left.true))
+    absurd (omega (arith, between.1, c.if-count-left.true))
 
 pub returns-in_err-count-clause-refused : goal.returns-in_err-count-clause-refused
 returns-in_err-count-clause-refused g c =
