@@ -9,3 +9,7 @@ pub mod Runs
 pub mod Explained
 pub mod Pieces
 pub mod Stored
+pub mod Digits
+pub mod Reached
+pub mod Dumped
+pub mod Rebuilt

@@ -10,5 +10,7 @@ pub mod Asking
 pub mod Listing
 pub mod Details
 pub mod Playing
+pub mod Sending
+pub mod Dumping
 pub mod Laws
 pub mod Reports

@@ -3,6 +3,8 @@
 
 pub mod asking;
 pub mod details;
+pub mod dump_error;
+pub mod dumping;
 pub mod explaining;
 pub mod laws;
 pub mod listing;

@@ -160,6 +160,7 @@ impl<'a> About<'a> {
             | Asked::Info(file)
             | Asked::Map(file)
             | Asked::Check(file)
+            | Asked::Dump(file)
             | Asked::CheckStrict(file)
             | Asked::Run(file)
             | Asked::RunExplained(file) => About::new(file),
@@ -242,6 +243,11 @@ pub(crate) fn tell_system<E: Output>(
 ) -> io::Result<()> {
     let name = Shown(name);
     writeln!(faults, "cfbtool: medium failed: {name}: {reason}")
+}
+
+/// Writes the line on an object of FILE at which the file refused so.
+pub(crate) fn tell_object<E: Output>(file: &str, path: &str, e: Error, faults: &mut E) {
+    let _ = tell_error(e, About::new(file).at(path), faults);
 }
 
 /// Writes the line on a call that was refused so.
