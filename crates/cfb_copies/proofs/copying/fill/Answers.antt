@@ -160,7 +160,7 @@ returns-clause-enough g c told tells holds target kept none fresh fits =
       allowed = λ o is. starts_allowed source laws.ordered o is c.copied_objects_are_the_tree.ensures.allowed (cases_of mid.base) cases;
     } in
     let room : HasRoomOnTheWay mid (root_alone source) goal = record {
-      made = s.made tells target fresh.made;
+      made = parts-keep-made old.base mid.base (s.parts tells target) fresh.made;
       limit = s.setting.limits.max_sectors ∙ fresh.limit;
       tight = marked_tight old.base mid.base 0 s.entries.0 s.entries.2 s.setting.limits.version s.minifat fresh.tight;
       used = marked_used old.base mid.base 0 s.entries.0 s.entries.2 ∙ fresh.used;
