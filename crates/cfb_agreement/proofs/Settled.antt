@@ -1,5 +1,5 @@
 -- The chain of a stream whose content changes, through several changes.
-use Rattle.std.proofs.Common.{◌≡◌, ◌<◌, ◌≤◌, inl, inr, ℕ, Bool, arith}
+use Rattle.std.proofs.Common.{inl, inr, ℕ, Bool, arith}
 use Rattle.std.proofs.lemmas.Bool.{cases_lt}
 use Rattle.cfb_format.specs.DirectoryEntry.{Entry}
 use Rattle.cfb_agreement.specs.cfb_mini_sectors.State.{MiniState}

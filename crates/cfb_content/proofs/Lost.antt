@@ -1,5 +1,5 @@
 -- Sectors and mini sectors that are neither free nor in use: none comes to be so.
-use Rattle.std.proofs.Common.{◌≢◌, inl, inr, ℕ, List, ◌∙◌}
+use Rattle.std.proofs.Common.{inl, inr, ℕ, List, ◌∙◌}
 use Rattle.cfb_format.specs.Soundness.{used_mini_sectors, used_sectors}
 use Rattle.cfb_format.proofs.Members.{Contains-or}
 use Rattle.cfb_tables.specs.Owners.{AllUsed, UseChanges}
