@@ -1,8 +1,9 @@
 //! Changes of a compound file by paths.
-ghost use Rattle.std.specs.Prelude.{◌≡◌, ◌||◌, IfErr, IsTrue, chars};
+ghost use Rattle.std.specs.Prelude.{◌≡◌, ◌||◌, IfErr, IsTrue, OnOk, chars};
 ghost use Rattle.cfb_compound_file.specs.cfb_rules.Calls.{create_storage, create_storage_all, remove_storage, remove_storage_all, remove_stream, set_created_time, set_modified_time, set_state_bits, set_storage_clsid, touch};
 ghost use Rattle.cfb_path_changes.specs.Answers.{LacksRoomOnTheWay};
 ghost use Rattle.cfb_path_changes.specs.Calls.{CallAnswers, CallAnswersInTurn, HeedsFlags};
+ghost use Rattle.cfb_path_changes.specs.Removing.{ErasesStreamAt};
 
 use crate::compound_file::CompoundFile;
 use cfb_codecs::timestamp::Timestamp;
@@ -73,7 +74,7 @@ impl<F: Medium, A: Heap + Clone> CompoundFile<F, A> {
         removing::remove_storage_all(&mut self.volume, path)
     }
 
-    /// Removes the stream at this path and gives its bytes back.
+    /// Removes the stream at this path and gives its bytes back. Where its mini sectors stood the file has zeros.
     ///
     /// `Failed` on a failed file. By the rules of calls: `InvalidInput` where the path leaves the root or leads to a storage; `NotFound`
     /// where nothing is there; and then `Unsound` in a file that is not sound. Nothing has changed then. `Memory`, and `Medium` where the
@@ -82,6 +83,8 @@ impl<F: Medium, A: Heap + Clone> CompoundFile<F, A> {
         ensures any { HeedsFlags self.old result self.new }
         ensures does { IsTrue F.tells → CallAnswers (λ f. F.read_faults f || F.write_faults f)
             self.old (remove_stream (chars path.now)) result self.new }
+        ensures erased { IsTrue F.tells
+            → OnOk result (ErasesStreamAt (chars path.now) self.old self.new) }
     {
         removing::remove_stream(&mut self.volume, path)
     }

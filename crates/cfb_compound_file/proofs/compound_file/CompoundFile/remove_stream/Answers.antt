@@ -5,3 +5,6 @@ returns-clause-does g c = rw (← c.self.view_is) (λ told. c.remove_stream.ensu
 
 pub returns-clause-any : goal.returns-clause-any
 returns-clause-any g c = rw (← c.self.view_is) c.remove_stream.ensures.any
+
+pub returns-clause-erased : goal.returns-clause-erased
+returns-clause-erased g c = rw (← c.self.view_is) (λ told. c.remove_stream.ensures.erased told)
