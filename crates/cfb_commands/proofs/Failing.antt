@@ -14,7 +14,6 @@ use Rattle.cfb_commands.specs.cfb_agreement.Files.{Agrees, FileState, is_failed}
 use Rattle.cfb_commands.specs.cfb_path_changes.Answers.{setting_of}
 use Rattle.cfb_commands.specs.Promised.{promised}
 use Rattle.cfb_commands.specs.Seen.{Standing, seen_as, standing_at}
-use Rattle.cfb_commands.proofs.Idle.{run_idle}
 use Rattle.cfb_commands.proofs.Made.{run_stays}
 use Rattle.cfb_commands.specs.Failing.{IsAnsweredFailed, OnceFailed, call_tells_failure, is_failed_earlier, is_refusal, only_looks, says_failed, tells_failure}
 use Rattle.cfb_commands.specs.Working.{RunsLegally}
@@ -175,9 +174,3 @@ module _ (can_give : MediumFault → Bool) (old now : FileState) (commands : Lis
       let t = some_tree old agrees in
       let r = runs t.0 t.1 in
       list_once_failed can_give (setting_of old) (is_failed old) (standing_at old t.0) (standing_at now r.0) commands replies (λ f. f) r.2
-
-  pub untouched : is_failed old ≡ true → now ≡ old
-  untouched failed =
-      let t = some_tree old agrees in
-      let r = runs t.0 t.1 in
-      run_idle can_give (setting_of old) (standing_at old t.0) (standing_at now r.0) commands replies r.2 failed

@@ -1,7 +1,7 @@
 -- What commands leave over any medium.
-use Rattle.std.proofs.Common.{◌≡◌, ◌∙◌, ◌≤◌, List, [], ◌∷◌, ◌++◌, Bool, ℕ, ap, arith, drop, false, inr, length, refl, subst, sym, true}
+use Rattle.std.proofs.Common.{◌≡◌, ◌∙◌, ◌≤◌, List, [], ◌∷◌, ◌++◌, Bool, ℕ, ap, drop, false, inr, length, refl, subst, sym, true}
 use Rattle.std.specs.Prelude.{IfErr, MatchResult, OnErr, OnOk, Result, Ok, Err}
-use Rattle.std.proofs.lemmas.List.{drop-append-le, drop_all}
+use Rattle.std.proofs.lemmas.List.{drop-append-le}
 use Rattle.cfb_format.specs.declared.error.Error.{Error}
 use Rattle.cfb_format.specs.declared.error.Error.TheVariants.{AlreadyExists, Failed, Full, InvalidData, InvalidInput, Medium, Memory, NotFound, Unsound}
 use Rattle.cfb_format.specs.declared.medium.MediumFault.{MediumFault}
@@ -44,9 +44,6 @@ module _ {A : Type 0} where
   flush_heeds old new (Err e) unfailed why = let k = flush_refused old new e why in record { untouched = k.0; stays = k.1 }
 
   -- ---- several
-
-  pub heed_none : (file : FileState) (xs : List (TheReply A)) → HeedInTurn file (drop (length xs) xs) file
-  heed_none file xs = subst (λ (l : List (TheReply A)). HeedInTurn file l file) (sym (drop_all (length xs) xs (omega arith))) refl
 
   heed_more : (old mid new : FileState) (xs : List (TheReply A)) (x : TheReply A) → HeedInTurn old xs mid → HeedsCommand mid x new → HeedInTurn old (xs ++ x ∷ []) new
   heed_more old mid new [] x same one = (new, subst (λ (f : FileState). HeedsCommand f x new) same one, refl)
