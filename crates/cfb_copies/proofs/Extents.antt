@@ -13,7 +13,7 @@ use Rattle.cfb_format.specs.Names.{Cases}
 use Rattle.cfb_format.specs.Reading.{HasContents, Outline, no_more, storage_at, stream_at, numbers}
 use Rattle.cfb_format.specs.Siblings.{entry_at}
 use Rattle.cfb_format.specs.Tree.{Tree}
-use Rattle.cfb_copy_sizes.specs.Cut.{cut_tree, extents_in}
+use Rattle.cfb_copy_sizes.specs.Cut.{AreTooLargeCut, HaveRoomCut, cut_tree, extents_in}
 use Rattle.cfb_copy_sizes.specs.declared.cut.Extent.{Extent}
 use Rattle.cfb_copy_sizes.proofs.Counts.{counts-are-the-trees}
 use Rattle.cfb_places.specs.declared.walk.Place.{Place}
@@ -21,7 +21,7 @@ use Rattle.cfb_places.specs.Laws.{PlacesAreTheWalk}
 use Rattle.cfb_copies.specs.cfb_mini_sectors.State.{bytes_of, cases_of, content_of, entries_of, version_of}
 use Rattle.cfb_copies.specs.cfb_agreement.Files.{FileState, Holds}
 use Rattle.cfb_copies.specs.Copies.{ListsObjects}
-use Rattle.cfb_copies.specs.Salvaged.{TellsExtents, extents_at}
+use Rattle.cfb_copies.specs.Salvaged.{FitsCut, HasNoRoomCut, TellsExtents, extents_at}
 use Rattle.cfb_copies.proofs.Prepared.{tree_is}
 
 -- of the entries of these numbers
@@ -96,11 +96,11 @@ module _ (file : FileState) (held : Holds file) (law : PlacesAreTheWalk) (list :
       ∙ ap (λ (t : Tree). object_count t.objects) (tree_is file held tree means)
 
   -- whether it is too large once its streams are cut, by what was counted
-  pub too_large_cut_if : (version : Version) (limit : ℕ) (extents : List Extent) (count : ℕ) (answer : Bool)
-      → ((tree : Tree) → extents ≡ extents_in tree.objects → count ≡ object_count tree.objects → IsTrue answer ↔ IsTooLarge version limit (cut_tree tree))
-      → version ≡ version_of file.base → limit ≡ max_regular_sector → TellsExtents file extents → count ≡ length list
-      → (tree : Tree) → Means (cases_of file.base) (bytes_of file.base) tree → IsTrue answer ↔ IsTooLarge (version_of file.base) max_regular_sector (cut_tree tree)
-  too_large_cut_if version limit extents count answer told v l tells n tree means =
-      subst (λ (w : Version). IsTrue answer ↔ IsTooLarge w max_regular_sector (cut_tree tree)) v
-      (subst (λ (m : ℕ). IsTrue answer ↔ IsTooLarge version m (cut_tree tree)) l
-      (told tree (tells tree means) (n ∙ objects_are tree means)))
+  module _ (version : Version) (extents : List Extent) (count : ℕ) (v : version ≡ version_of file.base) (tells : TellsExtents file extents) (n : count ≡ length list) where
+    pub is_too_large_cut_in : AreTooLargeCut version extents count → HasNoRoomCut file
+    is_too_large_cut_in large tree means =
+        subst (λ (w : Version). IsTooLarge w max_regular_sector (cut_tree tree)) v (large tree (tells tree means) (n ∙ objects_are tree means))
+
+    pub has_room_cut_in : HaveRoomCut version extents count → FitsCut file
+    has_room_cut_in fits tree means =
+        subst (λ (w : Version). IsTooLarge w max_regular_sector (cut_tree tree) → ⊥) v (fits tree (tells tree means) (n ∙ objects_are tree means))

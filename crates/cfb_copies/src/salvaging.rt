@@ -13,8 +13,7 @@ use crate::checking::{is_allowed, kind_of, not_copied};
 use crate::copying::{fill, make_empty};
 use crate::keeping::{Keep, kept_len};
 pub use cfb_copy_sizes::cut::Extent;
-use cfb_copy_sizes::cut::is_too_large_cut;
-use cfb_format::consts::MAX_REGULAR_SECTOR;
+use cfb_copy_sizes::cut::check_room_cut;
 use cfb_format::error::Error;
 use cfb_format::medium::{Medium, ReadMedium};
 use cfb_format::objtype::ObjType;
@@ -108,9 +107,7 @@ fn prepare_cut<F: ReadMedium, A: Heap + Clone>(source: &Volume<F, A>) -> Result<
     let extents = extents_of(source, listed)?;
     let told = extents.as_slice();
     let objects = listed.len() as u64;
-    if is_too_large_cut(told, objects, source.version(), MAX_REGULAR_SECTOR) {
-        return Err(Error::Full);
-    }
+    check_room_cut(told, objects, source.version())?;
     Ok(Prepared { list, extents })
 }
 

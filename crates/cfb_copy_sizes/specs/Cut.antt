@@ -1,5 +1,8 @@
 -- A tree whose streams are cut to what can be read of them.
-use Rattle.std.specs.Prelude.{List, [], ◌∷◌, ◌++◌, length}
+use Rattle.std.specs.Prelude.{ℕ, ◌≡◌, List, [], ◌∷◌, ◌++◌, length}
+use Rattle.cfb_format.specs.declared.version.Version.{Version}
+use Rattle.cfb_format.specs.Bytes.{max_regular_sector}
+use Rattle.cfb_format.specs.Full.{IsTooLarge, object_count}
 use Rattle.cfb_format.specs.Tree.{StreamInfo, Objects, nothing, storage, stream, Tree}
 use Rattle.cfb_copy_sizes.specs.declared.cut.Extent.{Extent}
 
@@ -21,3 +24,13 @@ abbrev pub extents_in : Objects → List Extent
 extents_in nothing = []
 extents_in (storage name info inside rest) = extents_in inside ++ extents_in rest
 extents_in (stream name info rest) = record { kept = length info.content; len = info.len } ∷ extents_in rest
+
+-- each tree of so many objects of whose streams so much can be read is too large for every file of that version once they are cut
+abbrev pub AreTooLargeCut : Version → List Extent → ℕ → Type 0
+AreTooLargeCut version extents objects = (tree : Tree) → extents ≡ extents_in tree.objects → objects ≡ object_count tree.objects
+    → IsTooLarge version max_regular_sector (cut_tree tree)
+
+-- there is room for each of them then
+abbrev pub HaveRoomCut : Version → List Extent → ℕ → Type 0
+HaveRoomCut version extents objects = (tree : Tree) → extents ≡ extents_in tree.objects → objects ≡ object_count tree.objects
+    → IsTooLarge version max_regular_sector (cut_tree tree) → ⊥
