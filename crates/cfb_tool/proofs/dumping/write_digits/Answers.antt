@@ -1,8 +1,7 @@
-use Rattle.std.proofs.Common.{◌≡◌, ◌∙◌, ◌+◌, ◌-◌, ◌<◌, ◌≤◌, ℕ, List, ap, arith, inr, length, refl, string_bytes, subst, sym, take}
+use Rattle.std.proofs.Common.{◌≡◌, ◌∙◌, ◌+◌, ◌-◌, ◌<◌, ℕ, arith, inr, length, refl, string_bytes, subst, sym, take}
 use Rattle.std.proofs.lemmas.List.{length-take-le}
 use Rattle.std.proofs.lemmas.Result.{err_from_is_err_and}
 use Rattle.cfb_commands.proofs.Faults.{counted}
-use Rattle.cfb_lines.specs.Fields.{AddsHex}
 use Rattle.cfb_tool.specs.cfb_compound_file.ReadStreams.{open_of}
 use Rattle.cfb_tool.specs.cfb_compound_file.StreamAnswers.{causes_of_reading, run_in, stream_in}
 use Rattle.cfb_tool.proofs.Digits.{SendsAlong, begins_along, ends_along, goes_along, part_along, refused_along}
