@@ -35,7 +35,7 @@ pub fn open<R: Files<File = File> + RandomSource, A: Heap + Clone>(
     ensures kinds { IfErr result IsOfOpening }
 {
     let medium = FileReadMedium::open(rt, path)?;
-    seeded(rt).open_with(alloc, medium)
+    seeded_options(rt).open_with(alloc, medium)
 }
 
 /// Opens the compound file at this path of the system, to be read and changed in place. The file is locked as long as it is open
@@ -54,7 +54,7 @@ pub fn open_rw<R: Files<File = File> + RandomSource, A: Heap + Clone>(
     ensures kinds { IfErr result IsOfOpening }
 {
     let medium = FileMedium::open(rt, path)?;
-    seeded(rt).open_with(alloc, medium)
+    seeded_options(rt).open_with(alloc, medium)
 }
 
 /// Makes a compound file of version 4 with nothing in it at this path of the system. An older file there is emptied first. The file is
@@ -75,7 +75,7 @@ pub fn create<R: Files<File = File> + RandomSource, A: Heap + Clone>(
     ensures kinds { IfErr result IsOfCreating }
 {
     let medium = FileMedium::create(rt, path)?;
-    seeded(rt).create_with(alloc, medium)
+    seeded_options(rt).create_with(alloc, medium)
 }
 
 /// Makes a compound file of this version with nothing in it at this path of the system, as `create` does one of version 4.
@@ -95,11 +95,12 @@ pub fn create_as<R: Files<File = File> + RandomSource, A: Heap + Clone>(
     ensures kinds { IfErr result IsOfCreating }
 {
     let medium = FileMedium::create(rt, path)?;
-    seeded(rt).create_as(alloc, version, medium)
+    seeded_options(rt).create_as(alloc, version, medium)
 }
 
-/// The options that nobody has changed, with a number that nobody knows.
-fn seeded<R: RandomSource, A: Heap>(rt: &R) -> OpenOptions<A>
+/// The options that nobody has changed, with a seed from the system that nobody knows, or 0 where the system gives none: names can't be
+/// chosen to make a file's indexes slow. The calls by path take these; they are there for files on other media.
+pub fn seeded_options<R: RandomSource, A: Heap>(rt: &R) -> OpenOptions<A>
     ensures { result ≡ permissive_options }
 {
     OpenOptions::new().seed(seed_of(rt))
