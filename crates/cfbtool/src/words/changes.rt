@@ -7,14 +7,13 @@ use super::print;
 use crate::lent::Lent;
 use crate::output::Output;
 use crate::refusal::Refusal;
+use crate::system::System;
 use cfb::{Command, Error, Medium};
 use cfb_text::meant::meant;
 use cfb_tool::explaining::play_explained;
 use std::alloc::Global;
 use std::fs;
-use std::fs::File;
 use std::io::{Read, Write};
-use std::rt::Files;
 
 /// All of standard input. `Medium`, `Memory`.
 pub(super) fn read_input<R: Read>(alloc: Global, input: &mut R) -> Result<Vec<u8>, Refusal> {
@@ -26,7 +25,7 @@ pub(super) fn read_input<R: Read>(alloc: Global, input: &mut R) -> Result<Vec<u8
 }
 
 /// `put` without FROM.
-pub(super) fn put_input<H: Files<File = File> + AllocGlobal, R: Read>(
+pub(super) fn put_input<H: System, R: Read>(
     rt: &H,
     path: &str,
     stream: &str,
@@ -37,7 +36,7 @@ pub(super) fn put_input<H: Files<File = File> + AllocGlobal, R: Read>(
 }
 
 /// `put` with FROM.
-pub(super) fn put_from<H: Files<File = File> + AllocGlobal>(
+pub(super) fn put_from<H: System>(
     rt: &H,
     path: &str,
     stream: &str,
@@ -49,30 +48,25 @@ pub(super) fn put_from<H: Files<File = File> + AllocGlobal>(
     }
 }
 
-fn put_bytes<H: Files<File = File> + AllocGlobal>(
-    rt: &H,
-    path: &str,
-    stream: &str,
-    bytes: &[u8],
-) -> Result<(), Refusal> {
+fn put_bytes<H: System>(rt: &H, path: &str, stream: &str, bytes: &[u8]) -> Result<(), Refusal> {
     let object = meant(rt.alloc(), stream)?;
     let mut medium = to_change(rt, path)?;
-    let done = put_into(rt.alloc(), Lent(&mut medium), object.as_str(), bytes);
+    let done = put_into(rt, Lent(&mut medium), object.as_str(), bytes);
     done.map_err(|refusal| refusal.because(medium.last_error()))
 }
 
-fn put_into<F: Medium>(
-    alloc: Global,
+fn put_into<H: System, F: Medium>(
+    rt: &H,
     medium: F,
     stream: &str,
     bytes: &[u8],
 ) -> Result<(), Refusal> {
-    let mut file = opened(alloc, medium)?;
+    let mut file = opened(rt, medium)?;
     cfb::write_stream(&mut file, stream, bytes).map_err(Refusal::Of)
 }
 
 /// One change.
-pub(super) fn change_one<H: Files<File = File> + AllocGlobal, R: Read>(
+pub(super) fn change_one<H: System, R: Read>(
     rt: &H,
     path: &str,
     one: One<'_>,
@@ -87,7 +81,7 @@ pub(super) fn change_one<H: Files<File = File> + AllocGlobal, R: Read>(
 }
 
 /// `run`.
-pub(super) fn run_input<H: Files<File = File> + AllocGlobal, R: Read, W: Write>(
+pub(super) fn run_input<H: System, R: Read, W: Write>(
     rt: &H,
     path: &str,
     input: &mut R,
@@ -100,7 +94,7 @@ pub(super) fn run_input<H: Files<File = File> + AllocGlobal, R: Read, W: Write>(
 }
 
 /// `run -e`.
-pub(super) fn run_explained<H: Files<File = File> + AllocGlobal, R: Read, W: Output, E: Output>(
+pub(super) fn run_explained<H: System, R: Read, W: Output, E: Output>(
     rt: &H,
     path: &str,
     input: &mut R,
@@ -125,21 +119,11 @@ struct Told {
     is_done: bool,
 }
 
-fn run_commands<H: Files<File = File> + AllocGlobal>(
-    rt: &H,
-    path: &str,
-    commands: &[Command],
-) -> Result<Told, Refusal> {
+fn run_commands<H: System>(rt: &H, path: &str, commands: &[Command]) -> Result<Told, Refusal> {
     let mut lines = room_for_lines(rt.alloc(), commands.len())?;
     let mut refusals = Vec::with_capacity(rt.alloc(), commands.len())?;
     let mut medium = to_change(rt, path)?;
-    let played = play_in(
-        rt.alloc(),
-        Lent(&mut medium),
-        commands,
-        &mut lines,
-        &mut refusals,
-    );
+    let played = play_in(rt, Lent(&mut medium), commands, &mut lines, &mut refusals);
     let is_done = played.map_err(|refusal| refusal.because(medium.last_error()))?;
     Ok(Told {
         lines,
@@ -148,8 +132,8 @@ fn run_commands<H: Files<File = File> + AllocGlobal>(
     })
 }
 
-fn play_in<F: Medium>(
-    alloc: Global,
+fn play_in<H: System, F: Medium>(
+    rt: &H,
     medium: F,
     commands: &[Command],
     lines: &mut Vec<u8>,
@@ -159,8 +143,8 @@ fn play_in<F: Medium>(
     requires kept { length commands.now ≤ vec_capacity refusals.old }
     requires empty { refusals.old.items ≡ [] }
 {
-    let mut file = opened(alloc, medium)?;
-    Ok(play_explained(&alloc, &mut file, commands, lines, refusals)?)
+    let mut file = opened(rt, medium)?;
+    Ok(play_explained(&rt.alloc(), &mut file, commands, lines, refusals)?)
 }
 
 /// Prints what is told of commands, once they are done.

@@ -3,9 +3,9 @@ ghost use Rattle.std.specs.Prelude.{◌≡◌, [], IsTrue};
 
 use crate::lent::Lent;
 use crate::refusal::Refusal;
-use cfb::{CompoundFile, FileMedium, FileReadMedium, Medium, ReadMedium, Version};
+use crate::system::System;
+use cfb::{CompoundFile, FileMedium, FileReadMedium, Medium, ReadMedium, Version, seeded_options};
 use cfb_files::locking;
-use std::alloc::Global;
 use std::fs::File;
 use std::io::ErrorKind;
 use std::rt::Files;
@@ -61,9 +61,14 @@ pub(super) fn to_make<H: Files<File = File>>(rt: &H, path: &str) -> Result<FileM
     }
 }
 
-/// The compound file in it.
-pub(super) fn opened<F: ReadMedium>(alloc: Global, medium: F) -> Result<CompoundFile<F>, Refusal> {
-    CompoundFile::open(alloc, medium).map_err(Refusal::Opening)
+/// The compound file in it. Nobody knows its seed, so that names chosen to meet in an index cost nothing.
+pub(super) fn opened<H: System, F: ReadMedium>(
+    rt: &H,
+    medium: F,
+) -> Result<CompoundFile<F>, Refusal> {
+    seeded_options(rt)
+        .open_with(rt.alloc(), medium)
+        .map_err(Refusal::Opening)
 }
 
 /// Whether something is there, be it a link that leads nowhere.
@@ -72,19 +77,15 @@ pub(super) fn is_there<H: Files<File = File>>(rt: &H, path: &str) -> bool {
 }
 
 /// `create`.
-pub(super) fn create<H: Files<File = File> + AllocGlobal>(
-    rt: &H,
-    version: Version,
-    path: &str,
-) -> Result<(), Refusal> {
+pub(super) fn create<H: System>(rt: &H, version: Version, path: &str) -> Result<(), Refusal> {
     let mut medium = to_fill(rt, path)?;
-    let made = create_in(rt.alloc(), version, Lent(&mut medium));
+    let made = create_in(rt, version, Lent(&mut medium));
     made.map_err(|refusal| refusal.because(medium.last_error()))
 }
 
-fn create_in<F: Medium>(alloc: Global, version: Version, medium: F) -> Result<(), Refusal>
+fn create_in<H: System, F: Medium>(rt: &H, version: Version, medium: F) -> Result<(), Refusal>
     requires empty_medium { IsTrue F.tells → F.bytes medium ≡ [] }
 {
-    CompoundFile::create_with_version(alloc, version, medium)?;
+    seeded_options(rt).create_as(rt.alloc(), version, medium)?;
     Ok(())
 }
