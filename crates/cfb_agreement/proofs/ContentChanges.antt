@@ -26,13 +26,12 @@ use Rattle.cfb_objects.proofs.Fields.{content-changes-in-place}
 use Rattle.cfb_agreement.specs.cfb_mini_sectors.State.{IsChangeable, MiniState, bytes_of, cases_of, content_of, entries_of, reading_of}
 use Rattle.cfb_agreement.specs.cfb_mini_sectors.Steps.{KeepsLimits}
 use Rattle.cfb_agreement.proofs.cfb_mini_sectors.HeldMini.{held-mini-is-read}
-use Rattle.cfb_content.specs.Changed.{StaysTidy}
 use Rattle.cfb_content.specs.Contents.{IsStreamOf, KeepsOthers, MovesContent, dir_count_of, len_of}
 use Rattle.cfb_content.proofs.Apart.{content-is}
 use Rattle.cfb_content.proofs.Outlines.{moved-at, moved-is-outline, no-root-stream, stream-is-no-root, stream-stays}
 use Rattle.cfb_content.proofs.Readable.{kept-is-readable}
-use Rattle.cfb_agreement.specs.Files.{EmptyStartAtEnd, FileState, Holds, IsCounted, IsTidy, SameSetting}
-use Rattle.cfb_agreement.specs.Laws.{ContentBecomesTree, ContentKeepsMade, ContentKeepsStream}
+use Rattle.cfb_agreement.specs.Files.{EmptyStartAtEnd, FileState, Holds, IsCounted, SameSetting}
+use Rattle.cfb_agreement.specs.Laws.{ContentBecomesTree, ContentKeepsParts, ContentKeepsStream}
 use Rattle.cfb_agreement.proofs.HeldBytes.{tree-is}
 
 module _ (old new : FileState) (i : ℕ) (o : Outline) (held : Holds old) (held' : Holds new) (setting : SameSetting old new) (counts : old.is_sound ≡ true)
@@ -137,21 +136,16 @@ pub same-counted : (old new : MiniState) → KeepsLimits old new → new.directo
     → IsCounted old → IsCounted new
 same-counted old new limits sectors count counted four = count ∙ counted (sym limits.version ∙ four) ∙ ap (λ (l : List ℕ). length l) (sym sectors)
 
-pub stays-tidy : (old new : MiniState) → KeepsLimits old new → new.directory.sectors ≡ old.directory.sectors → StaysTidy old new → EmptyStartAtEnd new
-    → IsTidy old → IsTidy new
-stays-tidy old new limits sectors stays ended was = record {
-  whole = stays.whole was.whole;
-  counted = same-counted old new limits sectors stays.counted was.counted;
-  ended = ended;
-}
-
-pub content-keeps-made : ContentKeepsMade
-content-keeps-made i old new moves stream made change tidy used exact snug snug_mini empty = record {
-  changeable = change;
-  tidy = stays-tidy old new moves.limits moves.directory tidy (moved-starts-at-end old new i moves.limits moves.entries stream empty made.tidy.ended) made.tidy;
+pub content-keeps-parts : ContentKeepsParts
+content-keeps-parts i old new moves stream strict tidy used exact snug snug_mini gives_back empty = record {
+  strict = strict;
+  whole = tidy.whole;
+  counted = same-counted old new moves.limits moves.directory tidy.counted;
+  ended = λ ended. moved-starts-at-end old new i moves.limits moves.entries stream (empty (ended i stream)) ended;
   used = used;
   exact = exact;
   snug = snug;
   snug_mini = snug_mini;
-  balanced = moved-is-balanced old new i moves.limits moves.entries stream made.balanced;
+  gives_back = gives_back;
+  balanced = moved-is-balanced old new i moves.limits moves.entries stream;
 }

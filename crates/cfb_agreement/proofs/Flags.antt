@@ -8,8 +8,9 @@ use Rattle.cfb_agreement.specs.cfb_alloc.Alloc.{AllocatorState, HoldsTables}
 use Rattle.cfb_agreement.specs.cfb_directory.State.{HoldsDirectory}
 use Rattle.cfb_agreement.specs.cfb_mini_sectors.Held.{with_table}
 use Rattle.cfb_agreement.specs.cfb_mini_sectors.State.{HoldsMini, IsChangeable, IsStrictMini, MiniState, bytes_of, table_of, tables_in}
+use Rattle.cfb_agreement.specs.Changes.{KeepsParts}
 use Rattle.cfb_agreement.specs.Files.{IsAsMade, failures_of, is_failed}
-use Rattle.cfb_agreement.specs.Laws.{AsBeforeIsSame, FlagsAreNotMade, FlagsAreNotRead}
+use Rattle.cfb_agreement.specs.Laws.{AsBeforeIsSame, FlagsAreNotMade, FlagsAreNotRead, FlagsKeepParts}
 
 -- the same with what this allocator keeps of a medium of the same bytes, and with its limit of sectors
 abbrev pub over : MiniState → AllocatorState → MiniState
@@ -97,6 +98,22 @@ module _ (s : MiniState) (n : ℕ) (b : Bool) where
   pub made-flagged : IsAsMade s → IsAsMade (flagged s n b)
   made-flagged m = made-over s (table_flagged s n b) m.changeable.held.directory.tables.holds.measured m
 
+  pub parts-flagged : KeepsParts s (flagged s n b)
+  parts-flagged = record {
+    strict = changeable-flagged Strict;
+    whole = λ whole. whole;
+    counted = λ counted. counted;
+    ended = λ ended k at. ended k (record { outline = at.outline; is = at.is; reached = at.reached });
+    used = λ after is. (after, is, record { sectors = λ i busy out. (busy, out); mini_sectors = λ i busy out. (busy, out) });
+    exact = λ exact. record { fats = exact.fats; difats = exact.difats };
+    snug = λ snug k at.
+        let fits = snug k (record { outline = at.outline; is = at.is; reached = at.reached }) in
+        record { sectors = fits.sectors; mini_sectors = fits.mini_sectors };
+    snug_mini = λ snug. record { measured = snug.measured; minifat = snug.minifat; mini_stream = snug.mini_stream; start = snug.start };
+    gives_back = λ frees. absurd (frees.was frees.now);
+    balanced = λ balanced. balanced;
+  }
+
 pub flags-not-read : FlagsAreNotRead
 flags-not-read file n b h = record {
   header = h.header;
@@ -110,6 +127,9 @@ flags-not-read file n b h = record {
 
 pub flags-not-made : FlagsAreNotMade
 flags-not-made file n b m = made-flagged file.base n b m
+
+pub flags-keep-parts : FlagsKeepParts
+flags-keep-parts file n b = parts-flagged file.base n b
 
 -- ---- as before
 

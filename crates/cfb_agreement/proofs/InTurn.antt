@@ -10,7 +10,9 @@ use Rattle.cfb_content.proofs.Outlines.{content-moves-then, same-entries-moved}
 use Rattle.cfb_agreement.specs.Changes.{ChangesOneContent}
 use Rattle.cfb_agreement.specs.Files.{FileState, GrowsTightly, SameSetting, failures_of, is_failed}
 use Rattle.cfb_agreement.specs.Laws.{AsBeforeIsNone, ContentsInTurn, OneChangeKeepsRest, RestIsKeptInTurn, SameContentIsNone, with_flags}
-use Rattle.cfb_agreement.proofs.Flags.{as-before-same, flagged, made-flagged}
+use Rattle.cfb_agreement.proofs.Flags.{as-before-same, flagged, parts-flagged}
+use Rattle.cfb_agreement.proofs.Parts.{parts-then}
+use Rattle.cfb_agreement.proofs.Settled.{settled-flagged, settled-then}
 use Rattle.cfb_agreement.proofs.cfb_mini_changes.MiniExtended.{limits-then}
 
 pub setting-then : (a b c : FileState) → SameSetting a b → SameSetting b c → SameSetting a c
@@ -34,7 +36,8 @@ flags-are-none i file n b = record {
   entries = same-entries-moved file.base (flagged file.base n b) i refl;
   others = others-flagged i file.base n b;
   header = bytes-keep-header file.base (flagged file.base n b) refl;
-  made = λ calm made. made-flagged file.base n b made;
+  sized = λ calm. settled-flagged i file.base n b;
+  parts = λ calm. parts-flagged file.base n b;
   grows = λ calm longer. absurd (omega (arith, longer));
 }
 
@@ -70,7 +73,8 @@ contents-in-turn i old mid new p q failed no_shorter stays = record {
   entries = content-moves-then old.base mid.base new.base i p.entries q.entries;
   others = others-kept-then i old.base mid.base new.base p.setting.limits p.entries p.others q.others;
   header = header-then old.base mid.base new.base p.setting.limits.version p.header q.header;
-  made = λ calm made. q.made calm (p.made (before calm) made);
+  sized = λ calm. settled-then i old.base mid.base new.base (p.sized (before calm)) (q.sized calm);
+  parts = λ calm. parts-then old.base mid.base new.base (p.parts (before calm)) (q.parts calm);
   grows = λ calm. grows-then old.base mid.base new.base p.setting.limits.max_sectors (p.grows (before calm)) (q.grows calm) (no_shorter calm) (stays calm);
 }
   where
@@ -80,7 +84,7 @@ contents-in-turn i old mid new p q failed no_shorter stays = record {
 -- ---- any number of them
 
 pub one-change-keeps-rest : OneChangeKeepsRest
-one-change-keeps-rest i old new k = record { setting = k.setting; entries = k.entries; others = k.others; header = k.header; made = k.made }
+one-change-keeps-rest i old new k = record { setting = k.setting; entries = k.entries; others = k.others; header = k.header; sized = k.sized; parts = k.parts }
 
 pub rest-then : RestIsKeptInTurn
 rest-then i old mid new p q failed = record {
@@ -88,5 +92,6 @@ rest-then i old mid new p q failed = record {
   entries = content-moves-then old.base mid.base new.base i p.entries q.entries;
   others = others-kept-then i old.base mid.base new.base p.setting.limits p.entries p.others q.others;
   header = header-then old.base mid.base new.base p.setting.limits.version p.header q.header;
-  made = λ calm made. q.made calm (p.made (calm-before (is_failed mid) (is_failed new) failed calm) made);
+  sized = λ calm. settled-then i old.base mid.base new.base (p.sized (calm-before (is_failed mid) (is_failed new) failed calm)) (q.sized calm);
+  parts = λ calm. parts-then old.base mid.base new.base (p.parts (calm-before (is_failed mid) (is_failed new) failed calm)) (q.parts calm);
 }

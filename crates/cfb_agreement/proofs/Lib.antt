@@ -5,6 +5,8 @@ pub use Rattle.cfb_content.proofs.cfb_mini_sectors
 pub use Rattle.cfb_objects.proofs as cfb_objects
 pub use Rattle.cfb_content.proofs as cfb_content
 pub mod Flags
+pub mod Parts
+pub mod Settled
 pub mod HeldBytes
 pub mod Reopened
 pub mod ContentChanges

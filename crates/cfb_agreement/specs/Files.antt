@@ -54,9 +54,13 @@ Agrees file = is_failed file ≡ false → Holds file
 abbrev pub IsCounted : MiniState → Type 0
 IsCounted s = version_of s ≡ V4 → dir_count_of s ≡ length s.directory.sectors
 
--- an empty stream of the tree has no chain: it starts at END
+-- the stream of that entry, if it is empty, has no chain: it starts at END
+abbrev pub StartsAtEndIfEmpty : MiniState → ℕ → Type 0
+StartsAtEndIfEmpty s k = len_of s k ≡ 0 → (entry_at (entries_of s) k).start_sector ≡ end_of_chain
+
+-- and so each of the tree
 abbrev pub EmptyStartAtEnd : MiniState → Type 0
-EmptyStartAtEnd s = (k : ℕ) → IsStreamOf s k → len_of s k ≡ 0 → (entry_at (entries_of s) k).start_sector ≡ end_of_chain
+EmptyStartAtEnd s = (k : ℕ) → IsStreamOf s k → StartsAtEndIfEmpty s k
 
 -- what strict opening does not ask: the file is a whole number of sectors, the header counts the directory's exactly, and empty streams start at
 -- END

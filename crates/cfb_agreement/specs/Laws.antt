@@ -1,7 +1,6 @@
 -- What follows from what a file keeps.
 use Rattle.std.specs.Prelude.{ℕ, ◌≡◌, ◌<◌, ◌≤◌, ◌↔◌, List, Bool, true, false, length, Some}
 use Rattle.cfb_format.specs.declared.validate.Validation.TheVariants.{Permissive, Strict}
-use Rattle.cfb_format.specs.Bytes.{end_of_chain}
 use Rattle.cfb_format.specs.Full.{HasExactTablesFile}
 use Rattle.cfb_format.specs.Meaning.{Means}
 use Rattle.cfb_format.specs.Reading.{IsOutline, IsStrictFile, Outline}
@@ -17,10 +16,10 @@ use Rattle.cfb_objects.specs.Objects.{tree_from}
 use Rattle.cfb_agreement.specs.cfb_mini_sectors.Held.{with_table}
 use Rattle.cfb_agreement.specs.cfb_mini_sectors.State.{IsChangeable, MiniState, bytes_of, cases_of, content_of, entries_of, table_of, tables_in}
 use Rattle.cfb_agreement.specs.cfb_mini_sectors.Steps.{IsSnugMini}
-use Rattle.cfb_content.specs.Changed.{MovesAlone, StaysTidy}
-use Rattle.cfb_content.specs.Contents.{AreAllUsed, AreSnug, IsStreamOf, KeepsOthers, MovesContent, len_of}
-use Rattle.cfb_agreement.specs.Files.{FileState, Holds, IsAsBefore, IsAsMade, IsMadeFile, SameSetting, failures_of, is_failed}
-use Rattle.cfb_agreement.specs.Changes.{ChangesOneContent, KeepsAllButContent}
+use Rattle.cfb_content.specs.Changed.{FreesMini, MovesAlone, StaysTidy}
+use Rattle.cfb_content.specs.Contents.{AreSnug, IsStreamOf, KeepsOthers, LosesNone, MovesContent}
+use Rattle.cfb_agreement.specs.Files.{FileState, Holds, IsAsBefore, IsAsMade, IsMadeFile, SameSetting, StartsAtEndIfEmpty, failures_of, is_failed}
+use Rattle.cfb_agreement.specs.Changes.{ChangesOneContent, KeepsAllButContent, KeepsParts}
 
 -- ---- what is held
 
@@ -36,6 +35,9 @@ FlagsAreNotRead = (file : FileState) (failures : ℕ) (begun : Bool) → Holds f
 
 abbrev pub FlagsAreNotMade : Type 0
 FlagsAreNotMade = (file : FileState) (failures : ℕ) (begun : Bool) → IsAsMade file.base → IsAsMade (with_flags file failures begun).base
+
+abbrev pub FlagsKeepParts : Type 0
+FlagsKeepParts = (file : FileState) (failures : ℕ) (begun : Bool) → KeepsParts file.base (with_flags file failures begun).base
 
 -- what is as before is the same file with another count of failures
 abbrev pub AsBeforeIsSame : Type 0
@@ -86,12 +88,22 @@ ContentBecomesTree = (old new : FileState) (i : ℕ) (o : Outline) (names : List
     → BecomesTree (cases_of old.base) (bytes_of old.base) (bytes_of new.base)
     (content_changed_at (cases_of old.base) (content_of new.base (entry_at (entries_of new.base) i)) names)
 
--- a file that was made here is so again, where the tables and the chains are in order, the file stays tidy, and the stream starts at END if it
--- is empty: the balance is kept
-abbrev pub ContentKeepsMade : Type 0
-ContentKeepsMade = (i : ℕ) (old new : MiniState) → MovesAlone old new i → IsStreamOf old i → IsAsMade old
-    → IsChangeable Strict new → StaysTidy old new → AreAllUsed new → AreExactTables (tables_in new) → AreSnug new → IsSnugMini new
-    → (len_of new i ≡ 0 → (entry_at (entries_of new) i).start_sector ≡ end_of_chain) → IsAsMade new
+-- each part of a file that was made here is kept where it is kept of the tables and the chains, the file stays tidy, and the stream starts at
+-- END if it is empty: the balance is kept
+abbrev pub ContentKeepsParts : Type 0
+ContentKeepsParts = (i : ℕ) (old new : MiniState) → MovesAlone old new i → IsStreamOf old i
+    → (IsChangeable Strict old → IsChangeable Strict new) → StaysTidy old new → LosesNone old new
+    → (AreExactTables (tables_in old) → AreExactTables (tables_in new)) → (AreSnug old → AreSnug new)
+    → (IsSnugMini old → IsSnugMini new) → (FreesMini old new → IsSnugMini new)
+    → (StartsAtEndIfEmpty old i → StartsAtEndIfEmpty new i) → KeepsParts old new
+
+-- a file that was made here is as made again where each part is kept
+abbrev pub PartsKeepMade : Type 0
+PartsKeepMade = (old new : MiniState) → KeepsParts old new → IsAsMade old → IsAsMade new
+
+-- what keeps each part, and then does so again, keeps them
+abbrev pub PartsAreKeptInTurn : Type 0
+PartsAreKeptInTurn = (old mid new : MiniState) → KeepsParts old mid → KeepsParts mid new → KeepsParts old new
 
 -- the entry is a stream's still
 abbrev pub ContentKeepsStream : Type 0

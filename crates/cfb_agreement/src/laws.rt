@@ -1,10 +1,11 @@
 //! What follows from what a file keeps. None of these functions does anything: each has a law as its contract.
-ghost use Rattle.cfb_agreement.specs.Laws.{AsBeforeIsNone, AsBeforeIsSame, AsMadeIsInOrder, AsMadeIsLow, ChangeableIsHeld, ContentBecomesTree, ContentKeepsMade, ContentKeepsStream, ContentsInTurn, FlagsAreNotMade, FlagsAreNotRead, HeldMeansItsTree, MadeIsExact, OneChangeKeepsRest, RestIsKeptInTurn, SameContentIsNone, SoundIsExact};
+ghost use Rattle.cfb_agreement.specs.Laws.{AsBeforeIsNone, AsBeforeIsSame, AsMadeIsInOrder, AsMadeIsLow, ChangeableIsHeld, ContentBecomesTree, ContentKeepsParts, ContentKeepsStream, ContentsInTurn, FlagsAreNotMade, FlagsAreNotRead, FlagsKeepParts, HeldMeansItsTree, MadeIsExact, OneChangeKeepsRest, PartsAreKeptInTurn, PartsKeepMade, RestIsKeptInTurn, SameContentIsNone, SoundIsExact};
 
 /// What holds does not hang on whether a change was begun, nor on the count of failures.
 pub fn flags_are_not_read()
     ensures holds { FlagsAreNotRead }
     ensures made { FlagsAreNotMade }
+    ensures parts { FlagsKeepParts }
     ensures same { AsBeforeIsSame }
 {}
 
@@ -28,11 +29,17 @@ pub fn made_files_have_low_storages()
     ensures { AsMadeIsLow }
 {}
 
-/// Where the content of one stream changed, the bytes mean the tree with that content, and a file that was made here is in order still.
+/// Where the content of one stream changed, the bytes mean the tree with that content, and each part of a file that was made here is kept.
 pub fn changed_content_is_meant()
     ensures tree { ContentBecomesTree }
     ensures stream { ContentKeepsStream }
-    ensures made { ContentKeepsMade }
+    ensures parts { ContentKeepsParts }
+{}
+
+/// Where each part of a file that was made here is kept, such a file is as made again, and so one change after the other.
+pub fn parts_keep_files_made()
+    ensures made { PartsKeepMade }
+    ensures in_turn { PartsAreKeptInTurn }
 {}
 
 /// Changes of one stream's content, one after the other, are one where none that appends sectors is followed by one that frees some and

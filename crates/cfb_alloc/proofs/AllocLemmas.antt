@@ -11,6 +11,7 @@ use Rattle.cfb_format.specs.declared.validate.Validation.{Validation}
 use Rattle.cfb_alloc.specs.Alloc.{AllocatorState, HoldsTables, OthersStay}
 use Rattle.cfb_table_words.specs.Agreement.{KeepsSectors}
 use Rattle.cfb_table_words.specs.Holding.{HoldsBut, IsPlaced, ChangesSectors, IsOtherHeaderByte}
+use Rattle.cfb_table_words.proofs.FrameLemmas.{changes_refl}
 use Rattle.cfb_tables.specs.Changes.{AreDisjoint}
 use Rattle.cfb_tables.specs.Clean.{IsClean}
 use Rattle.cfb_table_words.specs.Difat.{difat_places}
@@ -142,6 +143,11 @@ others_unchanged {a} {s0} {t0} view t same =
     subst (λ (z : AllocatorState). OthersStay z (record { file = s0; tables = t })) view
     (subst (λ (z : TableState). OthersStay (record { file = s0; tables = t0 }) (record { file = s0; tables = z })) (sym same) (others_refl (record { file = s0; tables = t0 })))
 
+-- and nothing is written
+pub changes_unchanged : {a : AllocatorState} {s0 : SectorFile} {t0 : TableState} → record { file = s0; tables = t0 } ≡ a → (touched : List ℕ) (v : Version)
+    → ChangesSectors touched v a.file.bytes s0.bytes
+changes_unchanged {a} {s0} {t0} view touched v = subst (λ (z : AllocatorState). ChangesSectors touched v z.file.bytes s0.bytes) view (changes_refl touched v s0.bytes)
+
 -- and so do the FAT sectors
 pub fats_unchanged : {a : AllocatorState} {s0 : SectorFile} {t0 : TableState} → record { file = s0; tables = t0 } ≡ a
     → KeepsSectors a.tables.version a.tables.fat_sectors a.file.bytes s0.bytes
@@ -185,13 +191,20 @@ module _ {a : AllocatorState} {s0 : SectorFile} {t0 t : TableState} {touched mor
       places_after t0 t touched more taken fats difats (fats_known fats e1) (difats_known difats e2)
       (subst (λ (z : AllocatorState). AreSizes z.tables.version (sizes_of z.tables)) (sym view) sizes)
 
+  -- the table sectors and those that were taken alone are written, be the others in use or free
+  pub changes_written : (s1 s2 : SectorFile) (count : ℕ) → s1 ≡ record s0 { num_sectors = count }
+      → ChangesSectors (t.fat_sectors ++ t.difat_sectors ++ shown) t.version s1.bytes s2.bytes
+      → ChangesSectors (t.fat_sectors ++ t.difat_sectors ++ more) t.version a.file.bytes s2.bytes
+  changes_written s1 s2 count reserved change =
+      let bytes : s1.bytes ≡ a.file.bytes = ap (λ (f : SectorFile). f.bytes) reserved ∙ ap (λ (z : AllocatorState). z.file.bytes) view in
+      subst (λ (xs : List ℕ). ChangesSectors (t.fat_sectors ++ t.difat_sectors ++ xs) t.version a.file.bytes s2.bytes) same
+      (subst (λ (xs : List ℕ). ChangesSectors (t.fat_sectors ++ t.difat_sectors ++ shown) t.version xs s2.bytes) bytes change)
+
   pub others_written : (s1 s2 : SectorFile) (count : ℕ) → s1 ≡ record s0 { num_sectors = count }
       → ChangesSectors (t.fat_sectors ++ t.difat_sectors ++ shown) t.version s1.bytes s2.bytes → OthersStay a (record { file = s2; tables = t })
   others_written s1 s2 count reserved change =
-      let bytes : s1.bytes ≡ a.file.bytes = ap (λ (f : SectorFile). f.bytes) reserved ∙ ap (λ (z : AllocatorState). z.file.bytes) view in
       others_taken t0 t touched more taken a (record { file = s2; tables = t }) (ap (λ (z : AllocatorState). z.tables) (sym view))
-      (subst (λ (xs : List ℕ). ChangesSectors (t.fat_sectors ++ t.difat_sectors ++ xs) t.version a.file.bytes s2.bytes) same
-      (subst (λ (xs : List ℕ). ChangesSectors (t.fat_sectors ++ t.difat_sectors ++ shown) t.version xs s2.bytes) bytes change))
+      (changes_written s1 s2 count reserved change)
 
   pub held_before : (validation : Validation) → HoldsTables validation a → HoldsBut validation [] s0 t0
   held_before validation h = subst (λ (z : AllocatorState). HoldsBut validation [] z.file z.tables) (sym view) h.holds

@@ -465,8 +465,8 @@ impl<F: Medium, A: Heap> Allocator<F, A> {
     ///
     /// `InvalidData` where the FAT sectors do not cover the file, and where the last listed one is no sector of it or its chain goes
     /// on, `Full` where there are too few numbers, and `Memory`: then nothing has changed. After `Medium`, where the medium fails, the
-    /// tables in memory have all of the sectors and so has the list, and of the file's bytes no sector in use has changed but the
-    /// table sectors.
+    /// tables in memory have all of the sectors and so has the list. Of the file's sectors those alone and the table sectors have
+    /// changed, be the others in use or free.
     pub fn extend_listed_from(
         &mut self,
         ids: &mut Vec<u32, A>,
@@ -497,6 +497,9 @@ impl<F: Medium, A: Heap> Allocator<F, A> {
             self.old.tables.fat_sectors self.old.file.bytes self.new.file.bytes) }
         ensures holds { IsTrue F.tells → (validation : Validation)
             → HoldsTables validation self.old → OnOk result (HoldsTables validation self.new) }
+        ensures changes { IsTrue F.tells → ChangesSectors (self.new.tables.fat_sectors
+            ++ self.new.tables.difat_sectors ++ gained ids.old.items ids.new.items)
+            self.new.tables.version self.old.file.bytes self.new.file.bytes }
         ensures others { IsTrue F.tells → OthersStay self.old self.new }
         ensures spares { IsTrue F.tells → Spares (ends_of ids.old.items) self.old self.new }
         ensures enough { OnOk result (IsTooFew self.old.tables count → ⊥) }

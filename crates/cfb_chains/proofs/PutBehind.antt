@@ -1,8 +1,8 @@
 -- What a write past the end of a lent chain leaves: the bytes behind its end came with the sectors that it gained, those before it were put then.
-use Rattle.std.proofs.Common.{◌≡◌, ◌≤◌, ◌<◌, ◌+◌, ◌-◌, ◌*◌, ◌/◌, ◌%◌, ◌⊎◌, inl, inr, ℕ, zero, suc, List, ◌++◌, sym, ◌∙◌, ap, subst, length, take, drop, arith, length-append, length-drop, get_or-take, get_or-drop}
+use Rattle.std.proofs.Common.{◌≡◌, ◌≤◌, ◌<◌, ◌+◌, ◌-◌, ◌*◌, ◌/◌, ◌%◌, ◌⊎◌, inl, inr, ℕ, zero, suc, List, ◌++◌, sym, ◌∙◌, ap, subst, length, take, drop, arith, length-append, length-drop, length-take, min, get_or-take, get_or-drop}
 use Rattle.std.specs.Prelude.{Contains, Err, IfErr, Ok, Result, Vec, slice_index}
 use Rattle.std.proofs.lemmas.Bool.{cases_lt}
-use Rattle.std.proofs.lemmas.List.{get_or_append_left, get_or-append_right}
+use Rattle.std.proofs.lemmas.List.{ext_get_or, get_or_append_left, get_or-append_right}
 use Rattle.std.proofs.lemmas.List.Elements.{Contains-get_or}
 use Rattle.cfb_format.specs.Bytes.{sector_len, free_sector}
 use Rattle.cfb_format.specs.Chain.{IsChain, value}
@@ -11,9 +11,10 @@ use Rattle.cfb_format.specs.Medium.{part, written}
 use Rattle.cfb_format.specs.declared.medium.ReadMedium as medium
 use Rattle.cfb_format.specs.declared.version.Version.{Version}
 use Rattle.cfb_format.specs.declared.version.Version.TheVariants.{V3, V4}
-use Rattle.cfb_format.proofs.ByteLemmas.{part_at, written_from_bytes}
+use Rattle.cfb_format.proofs.ByteLemmas.{length-part, part_at, written_from_bytes}
 use Rattle.cfb_sectors.specs.Sectors.{SectorStays, copies, init_bytes}
 use Rattle.cfb_sectors.specs.declared.sector.SectorInit.{SectorInit}
+use Rattle.cfb_runs.specs.Runs.{IsRun}
 use Rattle.cfb_runs.specs.cfb_table_words.Along.{AreFilledFrom, byte_given}
 use Rattle.cfb_runs.proofs.cfb_table_words.FilledSectors.{filled_stays, filled_whole_each, given_first, given_fresh}
 use Rattle.cfb_runs.proofs.cfb_table_words.HeldLemmas.{length-init}
@@ -266,3 +267,24 @@ module _ {F A : Type 0} {g : medium.Ghosts F} {l : numbers.Ghosts (Vec ℕ A)} w
       let here : slice_index own (k / sector_len v) ≡ i = sym (index_before v own more k low) ∙ (λ j. slice_index (sym listed j) (k / sector_len v)) ∙ holds.here in
       gained_other fat own more s i chain fresh m (subst (Contains own) here (Contains-get_or own (k / sector_len v) 0 (index_inside v k (length own) low)))))
       filled
+
+  -- ---- what was written stands in one piece where its sectors follow each other
+
+  pub put_in_run : (old new : Chain F A (Vec ℕ A) g l) (n : ℕ) (from : List ℕ) → version_of new ≡ version_of old → n ≤ length from → HasWritten n from old new
+      → IsRun (version_of old) (ids_of new) (position_of old) n
+      → part (file_bytes_of new) (place_along (version_of old) (ids_of new) (position_of old)) n ≡ take n from
+  put_in_run old new n from version few wrote run =
+      let bytes = file_bytes_of new in
+      let at = place_along (version_of old) (ids_of new) (position_of old) in
+      let place : (j : ℕ) → j < n → place_at new (position_of old + j) ≡ at + j = λ j less. (λ i. place_along (version i) (ids_of new) (position_of old + j)) ∙ run.follow j less in
+      let there : (j : ℕ) → j < n → at + j < length bytes = λ j less. (let is = place j less in let inside = (wrote.written j less).0 in omega (arith, is, inside)) in
+      let size = length-part bytes at n in
+      let long : length (take n from) ≡ min n (length from) = length-take n from in
+      let whole : length (part bytes at n) ≡ n = elim (cases_lt 0 n) [
+        | inl some ↦ (let last = there (n - 1) (omega (arith, some)) in omega (arith, size, last, some))
+        | inr none ↦ omega (arith, size, none)
+      ] in
+      ext_get_or 0 (part bytes at n) (take n from) (omega (arith, whole, long, few))
+      (λ i inside.
+      let less : i < n = omega (arith, inside, whole) in
+      part_at bytes at n i less ∙ ap (slice_index bytes) (sym (place i less)) ∙ (wrote.written i less).1 ∙ sym (get_or-take n from i 0 less))

@@ -6,6 +6,7 @@ ghost use Rattle.cfb_format.specs.Chain.{IsChain, chain_from, value};
 ghost use Rattle.cfb_format.specs.Content.{place_in_chain, placed_from};
 ghost use Rattle.cfb_format.specs.Medium.{ChangesOnlyBytes, part, written};
 ghost use Rattle.cfb_format.specs.Refused.{AfterMedium, CountsFailure, IsInvalidData, IsInvalidInput};
+ghost use Rattle.cfb_runs.specs.Runs.{IsRun};
 ghost use Rattle.cfb_runs.specs.cfb_table_words.Along.{AreFilledFrom};
 ghost use Rattle.cfb_chains.specs.cfb_alloc.Agreement.{KeepsSectors};
 ghost use Rattle.cfb_chains.specs.cfb_alloc.Alloc.{ChangesSectors, HoldsTables, IsAsFilled, IsUsable, OthersStay, OthersStayBut};
@@ -17,6 +18,7 @@ ghost use Rattle.cfb_chains.specs.cfb_alloc.Frame.{Spares};
 ghost use Rattle.cfb_chains.specs.cfb_alloc.ListedChain.{Lengthens, Shortens, ListBreaksOff};
 ghost use Rattle.cfb_chains.specs.cfb_tables.Tables.{GivesBackChain, TablesGiveBack, HasTaken, IsTooFew, ending};
 ghost use Rattle.cfb_chains.specs.ChainLists.{StaysOrBecomes};
+ghost use Rattle.cfb_chains.specs.ChainPlaces.{place_along};
 ghost use Rattle.cfb_chains.specs.cfb_tables.Listed.{ends_of, gained, last_or_end};
 
 use cfb_format::error::{Detail, Error};
@@ -442,10 +444,16 @@ impl<'a, F: Medium, A: Heap + Clone> Chain<'a, F, A> {
             (ids_of self.old) (allocator_of self.old).now (allocator_of self.new).now }
         ensures spares { IsTrue F.tells
             → Spares (ids_of self.old) (allocator_of self.old).now (allocator_of self.new).now }
-        ensures there { IsTrue F.tells → IfOk result (λ n. 0 < n → n ≤ left_of self.old → part
-            (allocator_of self.new).now.file.bytes (sector_start (version_of self.old) (slice_index
-            (ids_of self.new) (position_of self.old / sector_len (version_of self.old)))
-            + position_of self.old % sector_len (version_of self.old)) n ≡ take n from.now) }
+        ensures there { IsTrue F.tells → IfOk result (λ n. 0 < n → part
+            (allocator_of self.new).now.file.bytes (place_along
+            (version_of self.old) (ids_of self.new) (position_of self.old)) (min n (left_of
+            self.old)) ≡ take (min n (left_of self.old)) from.now) }
+        ensures run { IsTrue F.tells
+            → (validation : Validation) → HoldsTables validation (allocator_of self.old).now
+            → IfOk result (λ n. IsRun
+            (version_of self.old) (ids_of self.new) (position_of self.old) n → part
+            (allocator_of self.new).now.file.bytes (place_along
+            (version_of self.old) (ids_of self.new) (position_of self.old)) n ≡ take n from.now) }
         ensures begun { 0 < length from.now
             → OnOk result ((allocator_of self.new).now.file.begun ≡ true) }
         ensures broken { IfErr result (AfterMedium (((allocator_of self.new).now.file.begun ≡ true)

@@ -23,4 +23,5 @@ pub mod Calls
 pub mod Fitting
 pub mod Faults
 pub mod Failing
+pub mod Heeding
 pub mod Cloned

@@ -8,8 +8,10 @@ use Rattle.cfb_commands.specs.cfb_rules.Refusal.{Refusal}
 use Rattle.cfb_commands.specs.cfb_rules.Runs.{CallRuns, Causes, FollowsRules, IsBroken, OnFailed, Setting, TreeState}
 use Rattle.cfb_commands.specs.cfb_rules.Steps.{CallKind, asking, asking_freely, changing, creating, emptying, flushing, kind_of, opening, opening_to_read}
 use Rattle.cfb_commands.specs.cfb_rules.StreamCalls.{StreamCall, StreamReply, StreamState}
-use Rattle.cfb_commands.specs.cfb_agreement.Files.{FileState, IsAsMade, is_failed}
+use Rattle.cfb_commands.specs.cfb_agreement.Changes.{KeepsParts}
+use Rattle.cfb_commands.specs.cfb_agreement.Files.{FileState, is_failed}
 use Rattle.cfb_commands.proofs.cfb_agreement.HeldBytes.{as-made-is-low}
+use Rattle.cfb_commands.proofs.cfb_agreement.Parts.{parts-keep-made, parts-same, parts-then}
 use Rattle.cfb_commands.specs.Laws.{RunsStayLow}
 use Rattle.cfb_commands.specs.Made.{StaysMade}
 use Rattle.cfb_commands.specs.Promised.{IsAnswered, Changes, IsKeptBy, StreamKeeps, promised}
@@ -21,13 +23,13 @@ use Rattle.cfb_commands.proofs.cfb_agreement.InTurn.{calm-before, setting-then}
 -- ---- nothing, and one thing after the other
 
 pub stays_made_none : (file : FileState) → StaysMade file file
-stays_made_none file = record { setting = setting-same file; failed = λ failed. failed; made = λ calm made. made }
+stays_made_none file = record { setting = setting-same file; failed = λ failed. failed; parts = λ calm. parts-same file.base }
 
 pub stays_made_then : (a b c : FileState) → StaysMade a b → StaysMade b c → StaysMade a c
 stays_made_then a b c p q = record {
   setting = setting-then a b c p.setting q.setting;
   failed = λ failed. q.failed (p.failed failed);
-  made = λ calm made. q.made calm (p.made (calm-before (is_failed b) (is_failed c) q.failed calm) made);
+  parts = λ calm. parts-then a.base b.base c.base (p.parts (calm-before (is_failed b) (is_failed c) q.failed calm)) (q.parts calm);
 }
 
 -- ---- one call
@@ -49,37 +51,37 @@ stays_failed causes setting old new call reply runs failed = go old.failed faile
     go true e h = on_failed causes (kind_of call) reply new h
     go false e h = absurd (cc)
 
-module _ (can_give : MediumFault → Bool) (old new : FileState) (call : Call) (calm : is_failed new ≡ false) (made : IsAsMade old.base) where
-  change_made : (reply : Reply) → Changes can_give old call reply new → IsAsMade new.base
-  change_made done k = k.order.made calm made
-  change_made (refused refusal) (e, is, why) = (in_turn can_give old call new e why).order.made calm made
-  change_made (flag b) k = absurd k
-  change_made (one_entry e) k = absurd k
-  change_made (entries es) k = absurd k
+module _ (can_give : MediumFault → Bool) (old new : FileState) (call : Call) (calm : is_failed new ≡ false) where
+  change_parts : (reply : Reply) → Changes can_give old call reply new → KeepsParts old.base new.base
+  change_parts done k = k.order.parts calm
+  change_parts (refused refusal) (e, is, why) = (in_turn can_give old call new e why).order.parts calm
+  change_parts (flag b) k = absurd k
+  change_parts (one_entry e) k = absurd k
+  change_parts (entries es) k = absurd k
 
-  ask_made : (reply : Reply) → IsAnswered old call reply new → IsAsMade new.base
-  ask_made reply k = subst (λ (z : FileState). IsAsMade z.base) (sym k.same) made
+  ask_parts : (reply : Reply) → IsAnswered old call reply new → KeepsParts old.base new.base
+  ask_parts reply k = subst (λ (z : FileState). KeepsParts old.base z.base) (sym k.same) (parts-same old.base)
 
-  made_by : (kind : CallKind) (reply : Reply) → IsKeptBy can_give kind old call reply new → IsAsMade new.base
-  made_by creating reply k = change_made reply k
-  made_by emptying reply k = change_made reply k
-  made_by changing reply k = change_made reply k
-  made_by flushing reply k = change_made reply k.changes
-  made_by opening reply k = ask_made reply k
-  made_by opening_to_read reply k = ask_made reply k
-  made_by asking reply k = ask_made reply k
-  made_by asking_freely reply k = ask_made reply k
+  parts_by : (kind : CallKind) (reply : Reply) → IsKeptBy can_give kind old call reply new → KeepsParts old.base new.base
+  parts_by creating reply k = change_parts reply k
+  parts_by emptying reply k = change_parts reply k
+  parts_by changing reply k = change_parts reply k
+  parts_by flushing reply k = change_parts reply k.changes
+  parts_by opening reply k = ask_parts reply k
+  parts_by opening_to_read reply k = ask_parts reply k
+  parts_by asking reply k = ask_parts reply k
+  parts_by asking_freely reply k = ask_parts reply k
 
 module _ (can_give : MediumFault → Bool) (setting : Setting) where
   call_stays : (old new : Standing) (call : Call) (reply : Reply) → CallStep seen_as (promised can_give) setting old call reply new → StaysMade old.file new.file
   call_stays old new call reply step = record {
     setting = keeps_setting can_give old.file new.file call reply step.kept.keeps;
     failed = stays_failed (causes_between (seen_as old) (seen_as new) (seen_as new).no_entry) setting (seen_as old).state (seen_as new).state call reply step.runs;
-    made = λ calm made. made_by can_give old.file new.file call calm made (kind_of call) reply step.kept.keeps;
+    parts = λ calm. parts_by can_give old.file new.file call calm (kind_of call) reply step.kept.keeps;
   }
 
   stream_stays : (names : List (List ℕ)) (twice : Bool) (old new : FileState) → StreamKeeps names twice old new → StaysMade old new
-  stream_stays names twice old new k = record { setting = k.changes.content.setting; failed = k.changes.failed; made = k.changes.content.made }
+  stream_stays names twice old new k = record { setting = k.changes.content.setting; failed = k.changes.failed; parts = k.changes.content.parts }
 
   -- ---- lists
 
@@ -117,4 +119,4 @@ runs_stay_made can_give setting = run_stays can_give setting
 
 pub runs_stay_low : RunsStayLow
 runs_stay_low can_give setting old new commands replies o runs made calm out =
-    as-made-is-low new.file.base o ((runs_stay_made can_give setting old new commands replies runs).made calm made) out
+    as-made-is-low new.file.base o (parts-keep-made old.file.base new.file.base ((runs_stay_made can_give setting old new commands replies runs).parts calm) made) out

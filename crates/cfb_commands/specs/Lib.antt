@@ -19,3 +19,4 @@ pub mod Working
 pub mod Kinds
 pub mod Faults
 pub mod Failing
+pub mod Heeding

@@ -12,8 +12,8 @@ pub fn streams_are_steps()
     ensures closed { ClosingsAreSteps }
 {}
 
-/// A list of commands keeps the setting, and a file that was made here in order: each storage's tree of siblings is low then. A file that has
-/// failed it leaves as it is.
+/// A list of commands keeps the setting, and each part of a file that was made here, also where the file lacks the others; in a file that was
+/// made here each storage's tree of siblings is low then. A file that has failed it leaves as it is.
 pub fn runs_stay_made()
     ensures made { RunsStayMade }
     ensures low { RunsStayLow }

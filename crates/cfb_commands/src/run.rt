@@ -4,6 +4,7 @@ ghost use Rattle.cfb_commands.specs.cfb_agreement.Files.{is_failed};
 ghost use Rattle.cfb_commands.specs.Commands.{command_of, command_reply_of};
 ghost use Rattle.cfb_commands.specs.Failing.{IsAsked, OnceFailed};
 ghost use Rattle.cfb_commands.specs.Faults.{IsGiven};
+ghost use Rattle.cfb_commands.specs.Heeding.{HeedsCommand, HeedsCommands};
 ghost use Rattle.cfb_commands.specs.Kinds.{AreOfKinds, IsOfKind, kind_of_command};
 ghost use Rattle.cfb_commands.specs.Made.{StaysMade};
 ghost use Rattle.cfb_commands.specs.Working.{AnswersCommand, RunsLegally};
@@ -23,6 +24,7 @@ fn run_one<F: Medium, A: Heap + Clone>(
 ) -> Reply<A>
     ensures of_kind { IsOfKind (kind_of_command command.now) result }
     ensures asked { IsAsked result }
+    ensures any { HeedsCommand file.old result file.new }
     ensures given { IsTrue F.tells → IsGiven (λ f. F.read_faults f || F.write_faults f) result }
     ensures answers { IsTrue F.tells
         → AnswersCommand (λ f. F.read_faults f || F.write_faults f) file.old
@@ -67,6 +69,9 @@ fn run_one<F: Medium, A: Heap + Clone>(
 /// (`Memory`), the stream is opened, its operations are done in their order, whether or not one is refused, and it is closed. `Read` has
 /// room for no more bytes than are left (`Memory`), and `ReadStorage` and `WalkStorage` for a list (`Memory`).
 ///
+/// Over any medium, where a command was refused all that memory has is as before but the count of failures, or the file has failed; and a
+/// failed file stays as it is.
+///
 /// On a failed file each command but those that only look is answered by `Failed`, and nothing changes. So it goes behind the first reply
 /// that tells that the file has failed: by `Failed`, by a refused flush of the file, or by a refused closing. What only looks is refused as
 /// `InvalidInput`, `NotFound` or `Memory` alone, on a failed file too.
@@ -91,7 +96,8 @@ pub fn run<F: Medium, A: Heap + Clone>(
     ensures failed { IsTrue F.tells
         → OnceFailed (is_failed file.old) (map command_of commands.now) (map command_reply_of
         (drop (length replies.old.items) replies.new.items)) file.new }
-    ensures untouched { IsTrue F.tells → is_failed file.old ≡ true → file.new ≡ file.old }
+    ensures any { HeedsCommands file.old (drop (length replies.old.items) replies.new.items)
+        file.new }
 {
     // What the file keeps in memory is what its bytes say.
     let _is_failed = file.is_failed();

@@ -1,8 +1,9 @@
 //! What is done with one stream, from its opening to its closing.
-ghost use Rattle.std.specs.Prelude.{◌≡◌, ◌≤◌, ◌||◌, ℕ, All, List, [], IfErr, IfOk, IsTrue, length, map, chars, vec_capacity};
+ghost use Rattle.std.specs.Prelude.{◌≡◌, ◌≤◌, ◌||◌, ℕ, All, List, [], IfErr, IfOk, IsTrue, length, map, chars, vec_capacity, true};
 ghost use Rattle.std.specs.Borrow.{sem};
-ghost use Rattle.cfb_commands.specs.cfb_agreement.Files.{FileState, SameSetting};
+ghost use Rattle.cfb_commands.specs.cfb_agreement.Files.{FileState, SameSetting, is_failed};
 ghost use Rattle.cfb_commands.specs.Promised.{CallKeeps, IsOpenSince, IsWorkedOn};
+ghost use Rattle.cfb_compound_file.specs.cfb_volume.Answers.{StaysInMemoryOrFails};
 ghost use Rattle.cfb_compound_file.specs.Streams.{file_of, file_rests, open_of};
 ghost use Rattle.cfb_format.specs.Tree.{Tree};
 ghost use Rattle.cfb_commands.specs.cfb_rules.Calls.{refused};
@@ -10,6 +11,7 @@ ghost use Rattle.cfb_commands.specs.cfb_rules.Lists.{on_stream, opening_call};
 ghost use Rattle.cfb_commands.specs.cfb_rules.StreamCalls.{got, read, read_to_end};
 ghost use Rattle.cfb_commands.specs.Commands.{opening_of, refusal_of_error, stream_answer, stream_call_of, stream_reply_of, streamed_reply};
 ghost use Rattle.cfb_commands.specs.Faults.{CanBeGiven, IsAnswerGiven, IsWorkGiven};
+ghost use Rattle.cfb_commands.specs.Heeding.{WorksHeed};
 ghost use Rattle.cfb_commands.specs.Kinds.{kind_of_answer, kind_of_op};
 ghost use Rattle.cfb_commands.specs.Working.{AnswersCommand, IsOpenedBy, LendsNothing, Works};
 
@@ -131,9 +133,10 @@ fn opened<'f, F: Medium, A: Heap + Clone>(
     ensures given { IsTrue F.tells
         → IfErr result (CanBeGiven (λ f. F.read_faults f || F.write_faults f)) }
     ensures* refused { sem 𝓛 (file_rests F.row A.row F.ReadMedium F.Medium.own A.Allocator
-        (λ old last e. IsTrue F.tells → CallKeeps (λ f. F.read_faults f || F.write_faults f) old
+        (λ old last e. StaysInMemoryOrFails old last × (IsTrue F.tells
+        → CallKeeps (λ f. F.read_faults f || F.write_faults f) old
         (opening_call (opening_of how) (chars path.now))
-        (refused (refusal_of_error e)) last) file.entry result) }
+        (refused (refusal_of_error e)) last)) file.entry result) }
 {
     // What the file keeps in memory is what its bytes say.
     let _is_failed = file.is_failed();
@@ -157,6 +160,8 @@ pub(crate) fn run_on_stream<F: Medium, A: Heap + Clone>(
         map kind_of_answer works.0.items ≡ map kind_of_op ops.now) }
     ensures given { IsTrue F.tells
         → IsWorkGiven (λ f. F.read_faults f || F.write_faults f) result }
+    ensures untouched { is_failed file.old ≡ true → file.new ≡ file.old }
+    ensures any { WorksHeed file.old result file.new }
     ensures answers { IsTrue F.tells
         → AnswersCommand (λ f. F.read_faults f || F.write_faults f) file.old
         (on_stream (opening_of how) (chars path.now) (map stream_call_of ops.now))

@@ -120,7 +120,7 @@ change_keeps i old new k = record { content = one-change-keeps-rest i old new k.
 -- what is kept, and where sectors were appended none is free: one change
 pub one_change : (i : ℕ) (old new : FileState) → KeepsAllButStream i old new → IsTight old new → ChangesStream i old new
 one_change i old new k tight = record {
-  content = record { setting = k.content.setting; entries = k.content.entries; others = k.content.others; header = k.content.header; made = k.content.made; grows = tight };
+  content = record { setting = k.content.setting; entries = k.content.entries; others = k.content.others; header = k.content.header; sized = k.content.sized; parts = k.content.parts; grows = tight };
   unsound = k.unsound;
   failed = k.failed;
 }

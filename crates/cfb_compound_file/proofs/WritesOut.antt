@@ -13,6 +13,7 @@ use Rattle.cfb_compound_file.specs.cfb_mini_sectors.State.{bytes_of}
 use Rattle.cfb_compound_file.proofs.cfb_content.FixedHeader.{bytes-keep-header, header-stays}
 use Rattle.cfb_agreement.specs.Files.{FileState, SameSetting, failures_of, is_failed}
 use Rattle.cfb_agreement.specs.Laws.{with_flags}
+use Rattle.cfb_agreement.proofs.Parts.{parts-same}
 use Rattle.cfb_path_changes.proofs.Balanced.{same_each}
 use Rattle.cfb_path_changes.proofs.Runs.{runs_failed, runs_unfailed}
 use Rattle.cfb_path_changes.proofs.Sparing.{flags_spare, spares_all}
@@ -52,7 +53,7 @@ stays file = record {
     buffer_limit = refl;
   };
   header = header-stays file.base file.base refl;
-  made = λ _ made. made;
+  parts = λ _. parts-same file.base;
   grows = λ _ less. absurd (omega (arith, less));
 }
 
@@ -87,7 +88,7 @@ broken-in-order : (old new : FileState) → SameSetting old new → bytes_of new
 broken-in-order old new setting same failed = record {
   setting = setting;
   header = bytes-keep-header old.base new.base same;
-  made = λ calm. absurd (let w : true ≡ false = sym failed ∙ calm in cc);
+  parts = λ calm. absurd (let w : true ≡ false = sym failed ∙ calm in cc);
   grows = λ calm. absurd (let w : true ≡ false = sym failed ∙ calm in cc);
 }
 

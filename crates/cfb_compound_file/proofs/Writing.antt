@@ -9,6 +9,7 @@ use Rattle.cfb_compound_file.specs.cfb_rules.Runs.{Causes, IsStreamBroken, Strea
 use Rattle.cfb_compound_file.specs.cfb_rules.StreamCalls.{Moves, StreamReply, StreamSetting, StreamState, StreamStep, Write, Wrote, count, not_done, write}
 use Rattle.cfb_agreement.specs.Files.{SameSetting, is_failed}
 use Rattle.cfb_compound_file.proofs.cfb_agreement.InTurn.{setting-then}
+use Rattle.cfb_compound_file.proofs.cfb_volume.InMemory.{same-in-memory}
 use Rattle.cfb_stream_buffer.specs.Contents.{stream_setting_of}
 use Rattle.cfb_stream_window.specs.Windows.{Runs}
 use Rattle.cfb_path_changes.specs.Answers.{causes_of}
@@ -96,7 +97,11 @@ module _ (tells : Bool) (can_give : MediumFault → Bool) where
       room = tt;
     };
     answer = record {
-      refused = record { failed = λ is. absurd (let w : true ≡ false = sym is ∙ unfailed in cc); rules = λ told. absurd (never told) };
+      refused = record {
+        failed = λ is. absurd (let w : true ≡ false = sym is ∙ unfailed in cc);
+        stays = same-in-memory s.file;
+        rules = λ told. absurd (never told);
+      };
       full_only = λ told. absurd (never told);
     };
   }

@@ -7,7 +7,9 @@ use Rattle.cfb_compound_file.specs.cfb_content.Contents.{KeepsFixedHeader, Keeps
 use Rattle.cfb_agreement.specs.Changes.{KeepsAllButContent}
 use Rattle.cfb_agreement.specs.Files.{FileState, SameSetting, failures_of, is_failed}
 use Rattle.cfb_agreement.specs.Laws.{with_flags}
-use Rattle.cfb_agreement.proofs.Flags.{made-flagged}
+use Rattle.cfb_agreement.proofs.Flags.{parts-flagged}
+use Rattle.cfb_agreement.proofs.Parts.{parts-then}
+use Rattle.cfb_agreement.proofs.Settled.{settled-flagged, settled-then}
 use Rattle.cfb_compound_file.specs.Stored.{IsTight, KeepsAllButStream, kept_of}
 
 -- what was kept in a file was kept in it whatever its flags, but a file that failed stays failed
@@ -39,7 +41,8 @@ module _ (first old : FileState) (i failures : ℕ) (begun : Bool) (unfailed : b
     entries = entries;
     others = others;
     header = header;
-    made = λ calm made. made-flagged old.base failures begun (k.content.made (unfailed calm) made);
+    sized = λ calm. settled-then i first.base old.base now.base (k.content.sized (unfailed calm)) (settled-flagged i old.base failures begun);
+    parts = λ calm. parts-then first.base old.base now.base (k.content.parts (unfailed calm)) (parts-flagged old.base failures begun);
   }
 
   pub flags_change_nothing : KeepsAllButStream i first now

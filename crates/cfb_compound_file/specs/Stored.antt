@@ -4,7 +4,8 @@ use Rattle.cfb_format.specs.declared.version.Version.{Version}
 use Rattle.cfb_format.specs.Bytes.{max_stream_len}
 use Rattle.cfb_format.specs.Names.{Cases}
 use Rattle.cfb_format.specs.Siblings.{entry_at}
-use Rattle.cfb_compound_file.specs.cfb_mini_sectors.State.{bytes_of, cases_of, content_of, entries_of, tables_in, version_of}
+use Rattle.cfb_compound_file.specs.cfb_mini_sectors.Held.{with_table}
+use Rattle.cfb_compound_file.specs.cfb_mini_sectors.State.{bytes_of, cases_of, content_of, entries_of, table_of, tables_in, version_of}
 use Rattle.cfb_compound_file.specs.cfb_content.Contents.{IsStreamOf, KeepsFixedHeader, KeepsOthers, MovesContent, len_of}
 use Rattle.cfb_agreement.specs.Changes.{ChangesOneContent, KeepsAllButContent}
 use Rattle.cfb_agreement.specs.Files.{FileState, GrowsTightly, SameSetting, is_failed}
@@ -24,6 +25,12 @@ stored_of file entry = record {
 -- the file but for the count of failures
 abbrev pub kept_of : FileState → FileState
 kept_of file = with_flags file 0 (is_failed file)
+
+-- all that memory has of the file but the count of failures, and nothing of its bytes: so it is known over any medium
+abbrev pub remembered_of : FileState → FileState
+remembered_of file = record file {
+  base = with_table file.base (record (table_of file.base) { file = record (table_of file.base).file { bytes = []; failures = 0 } });
+}
 
 -- what no call on a stream changes, as one value: the version, the letters, the limits, and whether the file is sound
 pub record FileSetting : Type 0 where

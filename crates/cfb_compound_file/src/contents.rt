@@ -2,7 +2,7 @@
 ghost use Rattle.std.specs.Prelude.{◌≤◌, ◌+◌, ◌↔◌, IsTrue};
 ghost use Rattle.cfb_compound_file.specs.cfb_content.Contents.{IsStreamOf, IsTooLongFor};
 ghost use Rattle.cfb_agreement.specs.Files.{IsFullFile, failures_of};
-ghost use Rattle.cfb_compound_file.specs.Stored.{IsTight, KeepsAllButStream, kept_of, file_setting_of, stored_of};
+ghost use Rattle.cfb_compound_file.specs.Stored.{IsTight, KeepsAllButStream, kept_of, file_setting_of, remembered_of, stored_of};
 
 use crate::compound_file::CompoundFile;
 use cfb_format::error::{Detail, Error};
@@ -27,6 +27,10 @@ impl<F: ReadMedium, A: Heap + Clone> ReadContents for CompoundFile<F, A> {
     ghost Setting = { FileSetting };
 
     ghost setting = { λ file. file_setting_of file };
+
+    ghost Remembered = { FileState };
+
+    ghost remembered = { λ file. remembered_of file };
 
     ghost failures = { λ file. failures_of file };
 

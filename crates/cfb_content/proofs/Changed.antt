@@ -7,6 +7,7 @@ use Rattle.cfb_content.specs.Changed.{MovesAlone, SparesOthers, StaysTidy, WasCh
 use Rattle.cfb_content.specs.Contents.{IsStreamOf, KeepsFixedHeader, KeepsOthers}
 use Rattle.cfb_content.proofs.FixedHeader.{bytes-keep-header, header-then}
 use Rattle.cfb_content.proofs.Kept.{nothing-is-moved, others-kept-then}
+use Rattle.cfb_content.proofs.Lost.{none-lost-same}
 use Rattle.cfb_content.proofs.Outlines.{same-entries-moved}
 use Rattle.cfb_content.proofs.Snug.{same-is-sized}
 
@@ -31,7 +32,7 @@ tidy-same s = record { counted = refl; whole = λ was. was }
 pub changed-same : (s : MiniState) (i : ℕ) → IsStreamOf s i → WasChanged s s i
 changed-same s i stream = record {
   holds = λ v change. change;
-  owned = λ v change all. all;
+  owned = λ v change. none-lost-same s;
   sized = λ v change. same-is-sized v s s i change stream refl refl refl refl;
   snug_mini = λ v change snug. snug;
   gives_back = λ v change frees. absurd (frees.was frees.now);

@@ -18,10 +18,12 @@ pub mod Outlines
 pub mod Owned
 pub mod Apart
 pub mod Kept
+pub mod Erased
 pub mod Readable
 pub mod Rewritten
 pub mod InUse
 pub mod Changing
+pub mod Lost
 pub mod Sound
 pub mod Snug
 pub mod SnugMini

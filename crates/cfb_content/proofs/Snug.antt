@@ -15,7 +15,7 @@ use Rattle.cfb_format.proofs.Unique.{IsOutline-unique}
 use Rattle.cfb_content.specs.cfb_soundness.Streams.{own_mini_sectors, own_sectors}
 use Rattle.cfb_content.specs.cfb_mini_sectors.State.{MiniState, cases_of, entries_of, parts_of, tables_in, version_of}
 use Rattle.cfb_content.specs.Contents.{IsSnug, IsStreamOf, KeepsContent, len_of, mini_sectors_owned, sectors_owned}
-use Rattle.cfb_content.specs.Laws.{EmptyIsSnug, KeptIsSnug, SameIsSized, SizedIsSnug}
+use Rattle.cfb_content.specs.Laws.{EmptyIsSnug, KeptIsSnug, SameIsSized, SizedIsSnug, SizedStaysSnug}
 use Rattle.cfb_content.proofs.Outlines.{moved-is-outline, stream-is-no-root}
 use Rattle.cfb_content.proofs.Owned.{large-content, large-no-mini, large-owned, small-content, small-no-sector, small-owned}
 use Rattle.cfb_content.proofs.Readable.{large-is-there, small-is-there}
@@ -92,9 +92,44 @@ module _ (s : MiniState) (e : Entry) where
     mini_sectors = is ∙ sym (small-needs lt);
   }
 
+pub sized-stays-snug : SizedStaysSnug
+sized-stays-snug old new i version sized snug = elim (cases_lt (len_of new i) (len_of old i)) [
+  | inl fewer ↦ sized.shorter fewer
+  | inr more ↦ elim (cases_lt (len_of old i) 4096) [
+    | inl small ↦ elim (cases_lt (len_of new i) 4096) [
+      | inl stays ↦
+          let is = sized.longer_small (omega (arith, more)) stays in
+          snug-in-minis new (entry_at (entries_of new) i) stays
+          (omega (
+            arith,
+            is,
+            snug.mini_sectors,
+            small-needs old (entry_at (entries_of old) i) small,
+            small-needs new (entry_at (entries_of new) i) stays,
+            more,
+          ))
+      | inr large ↦ sized.moved small (omega (arith, large))
+    ]
+    | inr large ↦
+        let is = sized.longer (omega (arith, large)) (omega (arith, more)) in
+        let was = ap (λ v. rounded_up (len_of old i) (sector_len v)) version in
+        snug-in-sectors new (entry_at (entries_of new) i) (omega (arith, large, more))
+        (omega (
+          arith,
+          is,
+          snug.sectors,
+          large-needs old (entry_at (entries_of old) i) (omega (arith, large)),
+          large-needs new (entry_at (entries_of new) i) (omega (arith, large, more)),
+          was,
+          rounded-up-more (version_of new) (len_of old i) (len_of new i) (omega (arith, more)),
+        ))
+  ]
+]
+
 pub sized-is-snug : SizedIsSnug
 sized-is-snug old new i limits moves others at sized snug k now = elim (cases_eq k i) [
-  | inl same ↦ subst (λ n. IsSnug new (entry_at (entries_of new) n)) (sym same) own
+  | inl same ↦ subst (λ n. IsSnug new (entry_at (entries_of new) n)) (sym same)
+      (sized-stays-snug old new i limits.version sized (snug i at))
   | inr ne ↦
       let o = at.outline in
       let is = moved-is-outline old new i o limits.cases moves at.is in
@@ -105,40 +140,6 @@ sized-is-snug old new i limits moves others at sized snug k now = elim (cases_eq
       kept-is-snug old new (entry_at (entries_of old) k) (entry_at (entries_of new) k) limits.version (others o at.is k reached ne)
       (ap (λ (e : Entry). e.start_sector) same) (ap (λ (e : Entry). e.stream_len) same) (snug k there)
 ]
-  where
-    own : IsSnug new (entry_at (entries_of new) i)
-    own = elim (cases_lt (len_of new i) (len_of old i)) [
-      | inl fewer ↦ sized.shorter fewer
-      | inr more ↦ elim (cases_lt (len_of old i) 4096) [
-        | inl small ↦ elim (cases_lt (len_of new i) 4096) [
-          | inl stays ↦
-              let is = sized.longer_small (omega (arith, more)) stays in
-              snug-in-minis new (entry_at (entries_of new) i) stays
-              (omega (
-                arith,
-                is,
-                (snug i at).mini_sectors,
-                small-needs old (entry_at (entries_of old) i) small,
-                small-needs new (entry_at (entries_of new) i) stays,
-                more,
-              ))
-          | inr large ↦ sized.moved small (omega (arith, large))
-        ]
-        | inr large ↦
-            let is = sized.longer (omega (arith, large)) (omega (arith, more)) in
-            let was = ap (λ v. rounded_up (len_of old i) (sector_len v)) limits.version in
-            snug-in-sectors new (entry_at (entries_of new) i) (omega (arith, large, more))
-            (omega (
-              arith,
-              is,
-              (snug i at).sectors,
-              large-needs old (entry_at (entries_of old) i) (omega (arith, large)),
-              large-needs new (entry_at (entries_of new) i) (omega (arith, large, more)),
-              was,
-              rounded-up-more (version_of new) (len_of old i) (len_of new i) (omega (arith, more)),
-            ))
-      ]
-    ]
 
 -- ---- nothing changed
 

@@ -12,16 +12,17 @@ use Rattle.cfb_format.specs.Reading.{IsOutline, Outline, stream_numbers}
 use Rattle.cfb_format.specs.Siblings.{entry_at}
 use Rattle.cfb_format.specs.Soundness.{IsSound, used_mini_sectors, used_sectors}
 use Rattle.cfb_format.proofs.Unique.{IsOutline-unique}
-use Rattle.cfb_tables.specs.Owners.{AllUsed, Uses}
-use Rattle.cfb_tables.proofs.UseLemmas.{nothing-loose, uses-kept}
+use Rattle.cfb_tables.specs.Owners.{Uses}
+use Rattle.cfb_tables.proofs.UseLemmas.{uses-kept}
 use Rattle.cfb_content.specs.cfb_alloc.Agreement.{WordsAgree}
 use Rattle.cfb_sound_changes.specs.Kept.{ShowsSoundness}
 use Rattle.cfb_sound_changes.proofs.Kept.{used-sound}
 use Rattle.cfb_content.specs.cfb_mini_sectors.State.{MiniState, bytes_of, cases_of, content_of, entries_of, parts_of, reading_of, tables_in}
-use Rattle.cfb_content.specs.Contents.{len_of, parts_with}
+use Rattle.cfb_content.specs.Contents.{LosesNoneUnder, len_of, parts_with}
 use Rattle.cfb_content.specs.Uses.{ChangesContent, ChangesUse, mini_sectors_by_owners, sectors_by_owners}
-use Rattle.cfb_content.specs.Laws.{AllUsedIsKept, ChangedIsChangeable}
+use Rattle.cfb_content.specs.Laws.{ChangedIsChangeable, ChangedLosesNone}
 use Rattle.cfb_content.proofs.Apart.{content-is, owners-use, sound-at, uses-by-count, version-is}
+use Rattle.cfb_content.proofs.Lost.{changes-lose-none}
 use Rattle.cfb_content.proofs.Outlines.{moved-is-outline, no-root-stream}
 use Rattle.cfb_content.proofs.Owned.{used-by-owners}
 use Rattle.cfb_content.proofs.Readable.{others-readable}
@@ -92,16 +93,16 @@ changed-is-changeable v i old new change uses_change some whole = record {
       (sound-now v i old new change uses_change some whole h is);
 }
 
-pub all-used-kept : AllUsedIsKept
-all-used-kept v i old new change uses_change all =
-    let q = change.stream.outline in
-    let same : (o : Outline) → IsOutline (cases_of new) (entries_of new) o → q ≡ o =
-    λ o is. IsOutline-unique (cases_of new) (entries_of new) q o (now v i old new change uses_change) is in
-    record {
-      sectors = λ o is. subst (λ (w : Outline). AllUsed (tables_in new).fat (used_sectors (parts_with new w))) (same o is)
-          (nothing-loose (tables_in old).fat (used_sectors (parts_with old q)) (tables_in new).fat (used_sectors (parts_with new q)) (uses_change.sectors q change.stream.is)
-          (all.sectors q change.stream.is));
-      mini_sectors = λ o is. subst (λ (w : Outline). AllUsed new.minifat (used_mini_sectors (parts_with new w))) (same o is)
-          (nothing-loose old.minifat (used_mini_sectors (parts_with old q)) new.minifat (used_mini_sectors (parts_with new q)) (uses_change.mini_sectors q change.stream.is)
-          (all.mini_sectors q change.stream.is));
-    }
+pub changed-loses-none : ChangedLosesNone
+changed-loses-none v i old new change uses_change after is =
+    let q = change.stream.outline in (
+      q,
+      change.stream.is,
+      subst (λ (w : Outline). LosesNoneUnder old new q w)
+          (IsOutline-unique (cases_of new) (entries_of new) q after (now v i old new change uses_change) is) (record {
+            sectors = changes-lose-none (tables_in old).fat (used_sectors (parts_with old q)) (tables_in new).fat (used_sectors (parts_with new q))
+                (uses_change.sectors q change.stream.is);
+            mini_sectors = changes-lose-none old.minifat (used_mini_sectors (parts_with old q)) new.minifat (used_mini_sectors (parts_with new q))
+                (uses_change.mini_sectors q change.stream.is);
+          }),
+    )

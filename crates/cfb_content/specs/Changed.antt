@@ -6,7 +6,7 @@ use Rattle.cfb_format.specs.declared.validate.Validation.{Validation}
 use Rattle.cfb_content.specs.cfb_mini_sectors.State.{IsChangeable, MiniState, bytes_of, table_of}
 use Rattle.cfb_content.specs.cfb_mini_sectors.Steps.{IsSnugMini, KeepsLimits}
 use Rattle.cfb_mini.specs.MiniSectors.{IsOfWholeSectors}
-use Rattle.cfb_content.specs.Contents.{AreAllUsed, KeepsFixedHeader, KeepsOthers, MovesContent, SizesChain, dir_count_of}
+use Rattle.cfb_content.specs.Contents.{KeepsFixedHeader, KeepsOthers, LosesNone, MovesContent, SizesChain, dir_count_of}
 
 -- ---- of every medium, however the call ends
 
@@ -36,12 +36,12 @@ pub record FreesMini (old new : MiniState) : Type 0 where
   pub was : value old.minifat number ≢ free_sector
   pub now : value new.minifat number ≡ free_sector
 
--- where the change is made: a file that could be changed can be changed again, and each sector and mini sector is free or in use if it was so;
--- the stream's chain is as long as it is to be, MiniFAT and mini stream have exactly what they need if they had, or where a mini sector came
--- free, and the file stays tidy
+-- where the change is made: a file that could be changed can be changed again, and no sector and no mini sector is lost; the stream's chain is
+-- as long as it is to be, MiniFAT and mini stream have exactly what they need if they had, or where a mini sector came free, and the file
+-- stays tidy
 pub record WasChanged (old new : MiniState) (i : ℕ) : Type 0 where
   pub holds : (v : Validation) → IsChangeable v old → IsChangeable v new
-  pub owned : (v : Validation) → IsChangeable v old → AreAllUsed old → AreAllUsed new
+  pub owned : (v : Validation) → IsChangeable v old → LosesNone old new
   pub sized : (v : Validation) → IsChangeable v old → SizesChain old new i
   pub snug_mini : (v : Validation) → IsChangeable v old → IsSnugMini old → IsSnugMini new
   pub gives_back : (v : Validation) → IsChangeable v old → FreesMini old new → IsSnugMini new

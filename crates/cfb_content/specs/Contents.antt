@@ -2,7 +2,8 @@
 use Rattle.std.specs.Prelude.{ℕ, ◌≡◌, ◌≢◌, ◌+◌, ◌*◌, ◌/◌, ◌%◌, ◌<◌, ◌≤◌, ◌⊎◌, List, [], true, false, length, max, slice_index, unwrap_or, Contains}
 use Rattle.cfb_format.specs.declared.error.Error.{Error}
 use Rattle.cfb_format.specs.declared.validate.Validation.{Validation}
-use Rattle.cfb_format.specs.Bytes.{word_at}
+use Rattle.cfb_format.specs.Bytes.{sector_len, word_at, free_sector}
+use Rattle.cfb_format.specs.Chain.{value}
 use Rattle.cfb_format.specs.Content.{content_chain, is_large, mini_chain, mini_sector_len, mini_stream_chain, mini_stream_cutoff, sector_chain}
 use Rattle.cfb_format.specs.DirectoryEntry.{Entry, ButContent}
 use Rattle.cfb_format.specs.Full.{IsTooLong, mini_sectors_for, minifat_len_for, sectors_for}
@@ -16,7 +17,8 @@ use Rattle.cfb_content.specs.cfb_soundness.Streams.{own_sectors, own_mini_sector
 use Rattle.cfb_tables.specs.Owners.{AllUsed}
 use Rattle.cfb_content.specs.cfb_alloc.Alloc.{IsMeasured}
 use Rattle.cfb_content.specs.cfb_alloc.Frame.{IsFixedHeaderByte}
-use Rattle.cfb_content.specs.cfb_mini_sectors.State.{IsChangeable, MiniState, bytes_of, cases_of, entries_of, mini_place, parts_of, root_len_of, table_of, tables_in, version_of}
+use Rattle.cfb_content.specs.cfb_mini_sectors.Pieces.{AreZeros}
+use Rattle.cfb_content.specs.cfb_mini_sectors.State.{IsChangeable, MiniState, bytes_of, cases_of, entries_of, mini_place, mini_stream_of, parts_of, root_len_of, table_of, tables_in, version_of}
 use Rattle.cfb_content.specs.cfb_mini_sectors.Steps.{IsInMiniStream, IsZeroMini}
 use Rattle.cfb_mini.specs.MiniSectors.{IsStill}
 
@@ -91,6 +93,20 @@ pub record AreAllUsed (s : MiniState) : Type 0 where
   pub sectors : (o : Outline) → IsOutline (cases_of s) (entries_of s) o → AllUsed (tables_in s).fat (used_sectors (parts_with s o))
   pub mini_sectors : (o : Outline) → IsOutline (cases_of s) (entries_of s) o → AllUsed s.minifat (used_mini_sectors (parts_with s o))
 
+-- of a table what is neither free nor in use was so before, too
+abbrev pub LosesNoneOf : List ℕ → List ℕ → List ℕ → List ℕ → Type 0
+LosesNoneOf old used new used' = (i : ℕ) → value new i ≢ free_sector → (Contains used' i → ⊥) → (value old i ≢ free_sector) × (Contains used i → ⊥)
+
+-- under these outlines no sector and no mini sector is lost that was not lost before
+pub record LosesNoneUnder (old new : MiniState) (before after : Outline) : Type 0 where
+  pub sectors : LosesNoneOf (tables_in old).fat (used_sectors (parts_with old before)) (tables_in new).fat (used_sectors (parts_with new after))
+  pub mini_sectors : LosesNoneOf old.minifat (used_mini_sectors (parts_with old before)) new.minifat (used_mini_sectors (parts_with new after))
+
+-- no sector and no mini sector is lost, neither free nor in use, that was not lost before
+abbrev pub LosesNone : MiniState → MiniState → Type 0
+LosesNone old new = (after : Outline) → IsOutline (cases_of new) (entries_of new) after
+    → (before : Outline) × IsOutline (cases_of old) (entries_of old) before × LosesNoneUnder old new before after
+
 -- ---- how long a chain is
 
 -- a stream with this entry has exactly the sectors, or mini sectors, that its length needs
@@ -118,6 +134,20 @@ pub record SizesChain (old new : MiniState) (i : ℕ) : Type 0 where
 -- each mini sector that the stream of that entry gave back, and the mini stream still has, reads as zeros
 abbrev pub WipesMinis : MiniState → MiniState → ℕ → Type 0
 WipesMinis old new i = (m : ℕ) → Contains (mini_sectors_owned old i) m → (Contains (mini_sectors_owned new i) m → ⊥) → IsInMiniStream new m → IsZeroMini new m
+
+-- the sector of the mini stream that has this mini sector
+abbrev pub sector_of_mini : MiniState → ℕ → ℕ
+sector_of_mini s m = slice_index (mini_stream_of s) (mini_sector_len * m / sector_len (version_of s))
+
+-- each mini sector that the stream of that entry gave back is zeros where it stood, also where the mini stream does not reach so far any more:
+-- but where the stream has moved into sectors, and this one became one of its own
+abbrev pub ErasesMinis : MiniState → MiniState → ℕ → Type 0
+ErasesMinis old new i = (m : ℕ) → Contains (mini_sectors_owned old i) m → (Contains (mini_sectors_owned new i) m → ⊥)
+    → (Contains (sectors_owned new i) (sector_of_mini old m) → ⊥) → AreZeros (bytes_of new) (mini_place old m)
+
+-- and each that it had is, which has none now
+abbrev pub LeavesZeros : MiniState → MiniState → ℕ → Type 0
+LeavesZeros old new i = (m : ℕ) → Contains (mini_sectors_owned old i) m → AreZeros (bytes_of new) (mini_place old m)
 
 -- ---- fullness
 

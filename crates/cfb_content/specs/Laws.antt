@@ -18,7 +18,7 @@ use Rattle.cfb_chains.specs.ChainPlaces.{place_along}
 use Rattle.cfb_content.specs.cfb_mini_table.MiniTable.{MiniGivesBack, TakesMini}
 use Rattle.cfb_content.specs.cfb_mini_sectors.State.{HoldsMini, HoldsMiniStream, IsChangeable, MiniState, bytes_of, cases_of, content_of, entries_of, parts_of, root_len_of, table_of, tables_in, version_of}
 use Rattle.cfb_content.specs.cfb_mini_sectors.Steps.{AreStartsUnnamed, CanGiveRoomBack, GivesRoomBack, GrowsFor, IsMeasuredMini, IsSnugMini, IsTooFewAfterFor, KeepsLimits, KeepsMini, MovesRoot, SparesMini, system_sectors}
-use Rattle.cfb_content.specs.Contents.{AreAllUsed, AreSnug, IsSnug, IsStreamOf, IsTooLongFor, KeepsContent, KeepsOthers, MovesContent, SizesChain, len_of, mini_place_along, mini_sectors_owned, sectors_owned}
+use Rattle.cfb_content.specs.Contents.{AreAllUsed, AreSnug, IsSnug, IsStreamOf, IsTooLongFor, KeepsContent, KeepsOthers, LosesNone, MovesContent, SizesChain, len_of, mini_place_along, mini_sectors_owned, sectors_owned}
 use Rattle.cfb_content.specs.Room.{room_given}
 use Rattle.cfb_content.specs.Uses.{ChangesContent, ChangesUse, Owns}
 
@@ -97,10 +97,17 @@ ChangedIsChangeable = (validation : Validation) (i : ℕ) (old new : MiniState) 
     → IsSome (content_chain (parts_of new) (entry_at (entries_of new) i))
     → length (content_of new (entry_at (entries_of new) i)) ≡ len_of new i → IsChangeable validation new
 
--- and nothing is loose, if nothing was
+-- and nothing is lost
+abbrev pub ChangedLosesNone : Type 0
+ChangedLosesNone = (validation : Validation) (i : ℕ) (old new : MiniState) → ChangesContent validation i old new → ChangesUse old new
+    → LosesNone old new
+
+-- so in turn, and where nothing was lost before nothing is
+abbrev pub NoneIsLostInTurn : Type 0
+NoneIsLostInTurn = (old mid new : MiniState) → LosesNone old mid → LosesNone mid new → LosesNone old new
+
 abbrev pub AllUsedIsKept : Type 0
-AllUsedIsKept = (validation : Validation) (i : ℕ) (old new : MiniState) → ChangesContent validation i old new → ChangesUse old new
-    → AreAllUsed old → AreAllUsed new
+AllUsedIsKept = (old new : MiniState) → LosesNone old new → AreAllUsed old → AreAllUsed new
 
 -- ---- how long the chains are
 
@@ -117,6 +124,11 @@ EmptyIsSnug = (s : MiniState) (e : Entry) → e.stream_len ≡ 0 → IsSnug s e
 abbrev pub SizedIsSnug : Type 0
 SizedIsSnug = (old new : MiniState) (i : ℕ) → KeepsLimits old new → MovesContent old new i → KeepsOthers i old new → IsStreamOf old i
     → SizesChain old new i → AreSnug old → AreSnug new
+
+-- and so has the one stream, whatever the others have
+abbrev pub SizedStaysSnug : Type 0
+SizedStaysSnug = (old new : MiniState) (i : ℕ) → version_of new ≡ version_of old → SizesChain old new i
+    → IsSnug old (entry_at (entries_of old) i) → IsSnug new (entry_at (entries_of new) i)
 
 -- a stream whose length and chain stay has what it had
 abbrev pub SameIsSized : Type 0

@@ -1,6 +1,6 @@
 //! What the definitions promise about each other. None of these functions does anything: each has a law
 //! as its contract.
-ghost use Rattle.cfb_content.specs.Laws.{AllUsedIsKept, ChangeableStartsAreUnnamed, ChangedIsChangeable, ContentMovesInTurn, EmptyIsSnug, EmptyOwnsNothing, EnoughIsNotTooLong, GrowthIsSnugMini, KeptIsReadable, KeptIsSnug, KeptIsSnugMini, KeptMiniIsSpared, LackIsTooLong, LargeIsReadByPlaces, LargeIsResized, LargeIsThere, LargeIsWritten, LargeOwnsItsChain, MovedIsOutline, MovedRootIsMoved, NothingIsMoved, OthersAreKeptInTurn, OthersAreReadable, OwnIsApart, OwnStays, RoomComesFree, SameEntriesAreMoved, SameIsSized, SizedIsSnug, SmallIsReadByPlaces, SmallIsResized, SmallIsThere, SmallIsWritten, SmallOwnsItsChain, SparedIsKept, SparedSectorsAreKept, StreamIsNoRoot, StreamOwnsItsOwn, StreamStartIsUnnamed, StreamStays};
+ghost use Rattle.cfb_content.specs.Laws.{AllUsedIsKept, ChangeableStartsAreUnnamed, ChangedIsChangeable, ChangedLosesNone, ContentMovesInTurn, EmptyIsSnug, EmptyOwnsNothing, EnoughIsNotTooLong, GrowthIsSnugMini, KeptIsReadable, KeptIsSnug, KeptIsSnugMini, KeptMiniIsSpared, LackIsTooLong, LargeIsReadByPlaces, LargeIsResized, LargeIsThere, LargeIsWritten, LargeOwnsItsChain, MovedIsOutline, MovedRootIsMoved, NoneIsLostInTurn, NothingIsMoved, OthersAreKeptInTurn, OthersAreReadable, OwnIsApart, OwnStays, RoomComesFree, SameEntriesAreMoved, SameIsSized, SizedIsSnug, SizedStaysSnug, SmallIsReadByPlaces, SmallIsResized, SmallIsThere, SmallIsWritten, SmallOwnsItsChain, SparedIsKept, SparedSectorsAreKept, StreamIsNoRoot, StreamOwnsItsOwn, StreamStartIsUnnamed, StreamStays};
 ghost use Rattle.cfb_content.specs.Uses.{GrowthStays, LargeBecomesSmall, LargeGoesOn, LargeIsCut, SameUse, SmallBecomesLarge, SmallGoesOn, SmallIsCut, UsedByOwners};
 
 /// Start and length of a stream's entry and of the root's are none of what the tree hangs on (MS-CFB 2.6).
@@ -77,9 +77,11 @@ pub fn uses_follow_the_content()
 {}
 
 /// Where the tables are used in order, and the stream that changed has its chain and its bytes, the file can be changed again, and nothing
-/// is lost in it, if nothing was.
+/// is lost in it that was not lost before.
 pub fn files_stay_changeable()
     ensures changeable { ChangedIsChangeable }
+    ensures loses_none { ChangedLosesNone }
+    ensures in_turn { NoneIsLostInTurn }
     ensures all_used { AllUsedIsKept }
 {}
 
@@ -89,6 +91,7 @@ pub fn chains_fit_their_lengths()
     ensures kept { KeptIsSnug }
     ensures empty { EmptyIsSnug }
     ensures sized { SizedIsSnug }
+    ensures own { SizedStaysSnug }
     ensures same { SameIsSized }
     ensures mini_longer { GrowthIsSnugMini }
     ensures mini_kept { KeptIsSnugMini }

@@ -1,5 +1,5 @@
 -- A new object in the target, with the fields of another.
-use Rattle.std.proofs.Common.{◌≡◌, ◌≢◌, ◌↔◌, ◌<◌, inl, inr, ℕ, zero, List, true, false, refl, sym, ◌∙◌, ap, subst, length, arith}
+use Rattle.std.proofs.Common.{◌≡◌, ◌≢◌, ◌↔◌, ◌<◌, inl, inr, ℕ, List, true, false, refl, sym, ◌∙◌, ap, subst, length, arith}
 use Rattle.std.specs.Prelude.{IsTrue, MatchOption, Option, Some, None, is_none}
 use Rattle.std.proofs.lemmas.List.{length-map}
 use Rattle.cfb_codecs.specs.declared.direntry.DirEntry.{DirEntry}

@@ -1,6 +1,6 @@
 -- How much can be read of each stream, along the list of all objects.
-use Rattle.std.proofs.Common.{◌≡◌, ◌<◌, ℕ, ◌+◌, List, [], ◌∷◌, ◌++◌, length, map, take, get_or, refl, sym, ◌∙◌, ap, subst, append_assoc, append-nil, arith}
-use Rattle.std.proofs.lemmas.List.{length-map, map-append, take_more, take_all}
+use Rattle.std.proofs.Common.{◌≡◌, ◌<◌, ℕ, ◌+◌, List, [], ◌∷◌, ◌++◌, length, map, take, get_or, refl, sym, ◌∙◌, ap, subst, append_assoc, append-nil}
+use Rattle.std.proofs.lemmas.List.{length-map, map-append, take_more}
 use Rattle.std.specs.Prelude.{◌↔◌, Bool, IsTrue}
 use Rattle.cfb_format.specs.declared.objtype.ObjType.{ObjType}
 use Rattle.cfb_format.specs.declared.objtype.ObjType.TheVariants.{Root, Storage, Stream, Unallocated}
@@ -18,12 +18,11 @@ use Rattle.cfb_copy_sizes.specs.declared.cut.Extent.{Extent}
 use Rattle.cfb_copy_sizes.proofs.Counts.{counts-are-the-trees}
 use Rattle.cfb_places.specs.declared.walk.Place.{Place}
 use Rattle.cfb_places.specs.Laws.{PlacesAreTheWalk}
-use Rattle.cfb_places.specs.Places.{places_of}
 use Rattle.cfb_copies.specs.cfb_mini_sectors.State.{bytes_of, cases_of, content_of, entries_of, version_of}
 use Rattle.cfb_copies.specs.cfb_agreement.Files.{FileState, Holds}
 use Rattle.cfb_copies.specs.Copies.{ListsObjects}
 use Rattle.cfb_copies.specs.Salvaged.{TellsExtents, extents_at}
-use Rattle.cfb_copies.proofs.Prepared.{tree_in, tree_is}
+use Rattle.cfb_copies.proofs.Prepared.{tree_is}
 
 -- of the entries of these numbers
 abbrev pub extents_along : List Entry → (Entry → List ℕ) → List ℕ → List Extent

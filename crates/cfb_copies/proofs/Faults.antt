@@ -1,5 +1,5 @@
 -- Which of two media gave a fault.
-use Rattle.std.proofs.Common.{◌≡◌, inl, inr, ℕ, Bool, true, false, refl, sym, subst}
+use Rattle.std.proofs.Common.{◌≡◌, inl, inr, ℕ, Bool, true, false, refl, sym, ◌∙◌, subst}
 use Rattle.std.specs.Prelude.{IsTrue, ◌||◌}
 use Rattle.cfb_format.specs.declared.error.Error.{Error}
 use Rattle.cfb_format.specs.declared.error.Error.TheVariants.{AlreadyExists, Failed, Full, InvalidData, InvalidInput, Medium, Memory, NotFound, Unsound}
@@ -7,9 +7,9 @@ use Rattle.cfb_format.specs.declared.medium.MediumFault.{MediumFault}
 use Rattle.cfb_format.specs.Refused.{CountsError, IsBreak, IsMediumAnd}
 use Rattle.cfb_copies.specs.cfb_tables.Refused.{ChangeRefused}
 use Rattle.cfb_copies.specs.cfb_agreement.Files.{FileState, is_failed}
-use Rattle.cfb_copies.specs.Copies.{CopyRefused, IsKindOrMemory, IsNotPrepared, error_counted}
+use Rattle.cfb_copies.specs.Copies.{CopyRefused, IsKindOrMemory, IsNotPrepared}
 use Rattle.cfb_copies.specs.Salvaged.{IsFullOrMemory, SalvageRefused}
-use Rattle.cfb_copies.specs.Steps.{GivesFault, IsFaultOfEither, IsNoFault}
+use Rattle.cfb_copies.specs.Steps.{GivesFault, IsFaultOfEither, IsNoFault, IsNotFull}
 
 -- a counted failure is by a fault that can be given
 pub counted_gives : (gives : MediumFault → Bool) (m n : ℕ) (e : Error) → CountsError gives m n e → GivesFault gives e
@@ -109,41 +109,44 @@ medium_breaks P Unsound h = h
 medium_breaks P Failed h = h
 
 -- reading refuses for want of memory or by the medium where the byte can be read
-pub read_breaks : (P : Type 0) → (P → ⊥) → (e : Error) → ChangeRefused P (Unit {0}) ⊥ (Unit {0}) e → IsBreak (Unit {0}) e
+pub read_breaks : (P : Type 0) → (P → ⊥) → (e : Error) → ChangeRefused P (Unit {0}) ⊥ (Unit {0}) e → IsBreak ⊥ e
 read_breaks P none (NotFound d) h = h
 read_breaks P none (AlreadyExists d) h = h
 read_breaks P none (InvalidInput d) h = h
 read_breaks P none (InvalidData d) h = none h
 read_breaks P none (Medium f) h = tt
 read_breaks P none Memory h = tt
-read_breaks P none Full h = absurd h
+read_breaks P none Full h = h
 read_breaks P none Unsound h = h
 read_breaks P none Failed h = h
 
+-- ---- numbers are not what lacked
+
+pub no_full_break : (e : Error) → IsBreak ⊥ e → IsNotFull e
+no_full_break e h full = subst (λ (x : Error). IsBreak ⊥ x) full h
+
+pub memory_not_full : (e : Error) → e ≡ Memory → IsNotFull e
+memory_not_full e is full = let w : Memory ≡ Full = sym is ∙ full in cc
+
+pub medium_not_full : (P : MediumFault → Type 0) (e : Error) → IsMediumAnd P e → IsNotFull e
+medium_not_full P e h full = subst (λ (x : Error). IsMediumAnd P x) full h
+
+-- why `Full` came
+pub full_why : (invalid memory full medium : Type 0) (e : Error) → ChangeRefused invalid memory full medium e → e ≡ Full → full
+full_why invalid memory full medium e h is = subst (λ (x : Error). ChangeRefused invalid memory full medium x) is h
+
 -- ---- the answer of the copy
 
-pub counted_refused : (file : FileState) (e : Error) → is_failed file ≡ false → IsBreak (Unit {0}) e → CopyRefused file (error_counted e)
-counted_refused file (NotFound d) calm h = absurd h
-counted_refused file (AlreadyExists d) calm h = absurd h
-counted_refused file (InvalidInput d) calm h = absurd h
-counted_refused file (InvalidData d) calm h = absurd h
-counted_refused file (Medium f) calm h = calm
-counted_refused file Memory calm h = calm
-counted_refused file Full calm h = calm
-counted_refused file Unsound calm h = absurd h
-counted_refused file Failed calm h = absurd h
-
-pub counted_counts : (gives : MediumFault → Bool) (tells : Bool) (can : MediumFault → Bool) (old new : ℕ) (e : Error) → IsFaultOfEither gives tells can old new e
-    → IsFaultOfEither gives tells can old new (error_counted e)
-counted_counts gives tells can old new (NotFound d) h = h
-counted_counts gives tells can old new (AlreadyExists d) h = h
-counted_counts gives tells can old new (InvalidInput d) h = h
-counted_counts gives tells can old new (InvalidData d) h = h
-counted_counts gives tells can old new (Medium f) h = h
-counted_counts gives tells can old new Memory h = h
-counted_counts gives tells can old new Full h = h
-counted_counts gives tells can old new Unsound h = h
-counted_counts gives tells can old new Failed h = h
+pub break_refused : (file : FileState) (e : Error) → is_failed file ≡ false → IsBreak (Unit {0}) e → IsNotFull e → CopyRefused file e
+break_refused file (NotFound d) calm h enough = absurd h
+break_refused file (AlreadyExists d) calm h enough = absurd h
+break_refused file (InvalidInput d) calm h enough = absurd h
+break_refused file (InvalidData d) calm h enough = absurd h
+break_refused file (Medium f) calm h enough = calm
+break_refused file Memory calm h enough = calm
+break_refused file Full calm h enough = absurd (enough refl)
+break_refused file Unsound calm h enough = absurd h
+break_refused file Failed calm h enough = absurd h
 
 -- what was not prepared is refused so
 pub unprepared_refused : (file : FileState) (e : Error) → is_failed file ≡ false → IsNotPrepared file e → CopyRefused file e
@@ -187,13 +190,13 @@ refused_cut file Full h = inl refl
 refused_cut file Unsound h = absurd h
 refused_cut file Failed h = absurd h
 
-pub counted_cut : (file : FileState) (e : Error) → is_failed file ≡ false → IsBreak (Unit {0}) e → SalvageRefused file (error_counted e)
-counted_cut file (NotFound d) calm h = absurd h
-counted_cut file (AlreadyExists d) calm h = absurd h
-counted_cut file (InvalidInput d) calm h = absurd h
-counted_cut file (InvalidData d) calm h = absurd h
-counted_cut file (Medium f) calm h = calm
-counted_cut file Memory calm h = calm
-counted_cut file Full calm h = calm
-counted_cut file Unsound calm h = absurd h
-counted_cut file Failed calm h = absurd h
+pub break_cut : (file : FileState) (e : Error) → is_failed file ≡ false → IsBreak (Unit {0}) e → IsNotFull e → SalvageRefused file e
+break_cut file (NotFound d) calm h enough = absurd h
+break_cut file (AlreadyExists d) calm h enough = absurd h
+break_cut file (InvalidInput d) calm h enough = absurd h
+break_cut file (InvalidData d) calm h enough = absurd h
+break_cut file (Medium f) calm h enough = calm
+break_cut file Memory calm h enough = calm
+break_cut file Full calm h enough = absurd (enough refl)
+break_cut file Unsound calm h enough = absurd h
+break_cut file Failed calm h enough = absurd h

@@ -1,5 +1,7 @@
 -- A target that gets all objects, from an empty one on.
 use Rattle.std.proofs.Common.{◌≡◌, ℕ, List, [], sym, ◌∙◌, ap, subst}
+use Rattle.cfb_format.specs.Bytes.{max_regular_sector}
+use Rattle.cfb_format.specs.Full.{IsTooLarge}
 use Rattle.cfb_format.specs.Meaning.{Means, storage_info}
 use Rattle.cfb_format.specs.Names.{Cases}
 use Rattle.cfb_format.specs.Reading.{IsOutline, Outline}
@@ -11,9 +13,10 @@ use Rattle.cfb_built.specs.Copied.{CanAllBeCopied, CopyIsTheTree, WalkCanBeCopie
 use Rattle.cfb_copies.specs.cfb_objects.Laws.{BecomesTree}
 use Rattle.cfb_copies.specs.cfb_objects.Objects.{tree_from}
 use Rattle.cfb_places.specs.Laws.{TreeIsOrdered}
-use Rattle.cfb_copies.specs.cfb_mini_sectors.State.{bytes_of, cases_of, content_of, entries_of}
+use Rattle.cfb_copies.specs.cfb_mini_sectors.State.{bytes_of, cases_of, content_of, entries_of, version_of}
 use Rattle.cfb_copies.specs.cfb_agreement.Files.{FileState, Holds}
 use Rattle.cfb_copies.specs.Copies.{CanBeCopied, HasNoObjects, MeansCut, MeansTheSame, parts_in_file}
+use Rattle.cfb_copies.specs.Salvaged.{FitsCut}
 use Rattle.cfb_copies.proofs.Cutting.{cut-allowed, cut-copied, whole-tree}
 use Rattle.cfb_copies.proofs.Prepared.{means_in, tree_in, tree_is}
 
@@ -53,3 +56,8 @@ means_cut source copy held means tree said = subst (λ (t : Tree). Means (cases_
 -- which is the tree itself where all streams of it can be read
 pub means_same : (source copy : FileState) → MeansCut source copy → CanBeCopied source → MeansTheSame source copy
 means_same source copy cut can tree said = subst (λ (t : Tree). Means (cases_of copy.base) (bytes_of copy.base) t) (whole-tree tree (can tree said).0) (cut tree said)
+
+-- and for which there is room
+pub fits_cut : (source : FileState) → CanBeCopied source → FitsCut source
+fits_cut source can tree said large =
+    let both = can tree said in both.1 (subst (λ (t : Tree). IsTooLarge (version_of source.base) max_regular_sector t) (whole-tree tree both.0) large)

@@ -15,9 +15,10 @@ use Rattle.cfb_copies.proofs.cfb_content.Outlines.{content-moves-then, moved-at,
 use Rattle.cfb_copies.specs.cfb_entry_changes.Kept.{KeepsFound}
 use Rattle.cfb_copies.specs.cfb_agreement.Changes.{ChangesOneContent}
 use Rattle.cfb_copies.specs.cfb_agreement.Files.{Agrees, FileState, Holds, SameSetting, failures_of, is_failed}
-use Rattle.cfb_copies.specs.Steps.{FillsStream, GrowsTree, StaysWithoutFree}
+use Rattle.cfb_copies.specs.Steps.{FillsStream, GrowsTree, IsTight, StaysWithoutFree}
 use Rattle.cfb_volume.proofs.Settings.{setting-same}
 use Rattle.cfb_copies.proofs.cfb_agreement.InTurn.{setting-then}
+use Rattle.cfb_copies.proofs.cfb_agreement.Parts.{parts-keep-made}
 
 pub fills_none : (tells : Bool) (i : ℕ) (file : FileState) → is_failed file ≡ false → IsStreamOf file.base i → FillsStream tells i file file
 fills_none tells i file calm stream = record {
@@ -25,6 +26,7 @@ fills_none tells i file calm stream = record {
   unfailed = calm;
   stream = stream;
   moves = same-entries-moved file.base file.base i refl;
+  tight = λ told holds tight. tight;
   holds = λ told holds. holds;
   others = λ told holds. nothing-is-moved i file.base;
   header = λ told holds. header-stays file.base file.base refl;
@@ -35,18 +37,19 @@ fills_none tells i file calm stream = record {
 
 -- one write
 pub fills_written : (tells : Bool) (i : ℕ) (old new : FileState) → SameSetting old new → is_failed new ≡ false → IsStreamOf new.base i → MovesContent old.base new.base i
-    → (IsTrue tells → Holds old → Agrees new) → (IsTrue tells → Holds old → ChangesOneContent i old new) → (IsTrue tells → Holds old → StaysWithoutFree old new)
+    → (IsTrue tells → Holds old → IsTight old.base → IsTight new.base) → (IsTrue tells → Holds old → Agrees new) → (IsTrue tells → Holds old → ChangesOneContent i old new) → (IsTrue tells → Holds old → StaysWithoutFree old new)
     → (IsTrue tells → failures_of new ≡ failures_of old)
     → FillsStream tells i old new
-fills_written tells i old new setting calm stream moves agrees changes full counted = record {
+fills_written tells i old new setting calm stream moves tight agrees changes full counted = record {
   setting = setting;
   unfailed = calm;
   stream = stream;
   moves = moves;
+  tight = tight;
   holds = λ told holds. agrees told holds calm;
   others = λ told holds. (changes told holds).others;
   header = λ told holds. (changes told holds).header;
-  made = λ told holds made. (changes told holds).made calm made;
+  made = λ told holds made. parts-keep-made old.base new.base ((changes told holds).parts calm) made;
   none_free = full;
   calm = counted;
 }
@@ -58,6 +61,7 @@ fills_then tells i a b c p q = record {
   unfailed = q.unfailed;
   stream = q.stream;
   moves = content-moves-then a.base b.base c.base i p.moves q.moves;
+  tight = λ told holds tight. q.tight told (p.holds told holds) (p.tight told holds tight);
   holds = λ told holds. q.holds told (p.holds told holds);
   others = λ told holds. others-kept-then i a.base b.base c.base p.setting.limits p.moves (p.others told holds) (q.others told (p.holds told holds));
   header = λ told holds. header-then a.base b.base c.base p.setting.limits.version (p.header told holds) (q.header told (p.holds told holds));
@@ -86,6 +90,7 @@ fills_grow tells i old new stream f = record {
   unfailed = f.unfailed;
   outline = (stream.outline, moved-is-outline old.base new.base i stream.outline f.setting.limits.cases f.moves stream.is);
   stays = moved_found i old new f.setting f.moves;
+  tight = f.tight;
   holds = f.holds;
   header = f.header;
   made = f.made;

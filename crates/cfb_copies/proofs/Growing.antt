@@ -13,7 +13,7 @@ use Rattle.cfb_copies.specs.cfb_content.Contents.{KeepsFixedHeader}
 use Rattle.cfb_copies.proofs.cfb_content.FixedHeader.{header-stays, header-then}
 use Rattle.cfb_copies.specs.cfb_entry_changes.Kept.{KeepsFound}
 use Rattle.cfb_copies.specs.cfb_agreement.Files.{Agrees, FileState, Holds, IsAsMade, SameSetting, failures_of, is_failed}
-use Rattle.cfb_copies.specs.Steps.{GrowsTree, IsReachedIn, LeadToEntry, StaysWithoutFree}
+use Rattle.cfb_copies.specs.Steps.{GrowsTree, IsReachedIn, IsTight, LeadToEntry, StaysWithoutFree}
 use Rattle.cfb_volume.proofs.Settings.{setting-same}
 use Rattle.cfb_copies.proofs.cfb_agreement.InTurn.{setting-then}
 
@@ -29,6 +29,7 @@ grows_none tells file calm outline = record {
   stays = λ before after was is names k found.
       subst (λ (p : Outline). number_from (cases_of file.base) (entries_of file.base) 0 p names ≡ Some k)
       (IsOutline-unique (cases_of file.base) (entries_of file.base) before after was is) found;
+  tight = λ told holds tight. tight;
   holds = λ told holds. holds;
   header = λ told holds. header-stays file.base file.base refl;
   made = λ told holds made. made;
@@ -38,14 +39,15 @@ grows_none tells file calm outline = record {
 
 -- one change of entries
 pub grows_by : (tells : Bool) (old new : FileState) → SameSetting old new → is_failed new ≡ false → HasOutline (cases_of old.base) (entries_of old.base)
-    → HasOutline (cases_of new.base) (entries_of new.base) → KeepsFound old.base new.base
+    → HasOutline (cases_of new.base) (entries_of new.base) → KeepsFound old.base new.base → (IsTight old.base → IsTight new.base)
     → (IsTrue tells → Holds old → Agrees new) → (IsTrue tells → KeepsFixedHeader old.base new.base) → (IsTrue tells → Holds old → IsAsMade old.base → IsAsMade new.base)
     → StaysWithoutFree old new → (IsTrue tells → failures_of new ≡ failures_of old) → GrowsTree tells old new
-grows_by tells old new setting calm was now stays agrees header made full counted = record {
+grows_by tells old new setting calm was now stays tight agrees header made full counted = record {
   setting = setting;
   unfailed = calm;
   outline = now;
   stays = stays;
+  tight = λ told holds. tight;
   holds = λ told holds. agrees told holds calm;
   header = λ told holds. header told;
   made = made;
@@ -64,6 +66,7 @@ grows_then tells a b c p q = record {
   unfailed = q.unfailed;
   outline = q.outline;
   stays = λ before after was is names k found. q.stays p.outline.0 after p.outline.1 is names k (p.stays before p.outline.0 was p.outline.1 names k found);
+  tight = λ told holds tight. q.tight told (p.holds told holds) (p.tight told holds tight);
   holds = λ told holds. q.holds told (p.holds told holds);
   header = λ told holds. header-then a.base b.base c.base p.setting.limits.version (p.header told holds) (q.header told (p.holds told holds));
   made = λ told holds made. q.made told (p.holds told holds) (p.made told holds made);

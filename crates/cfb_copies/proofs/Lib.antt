@@ -24,3 +24,6 @@ pub mod Adding
 pub mod Appended
 pub mod Joining
 pub mod Turns
+pub mod Slots
+pub mod Tight
+pub mod Enough

@@ -1,6 +1,5 @@
 -- A file that can be copied, or can't.
-use Rattle.std.proofs.Common.{◌≡◌, ◌↔◌, inl, inr, ◌<◌, ◌+◌, ℕ, List, Bool, refl, sym, ◌∙◌, ap, subst, length, arith, get_or}
-use Rattle.std.specs.Prelude.{IsTrue}
+use Rattle.std.proofs.Common.{◌≡◌, ◌↔◌, inl, inr, ◌<◌, ◌+◌, ℕ, List, refl, sym, ◌∙◌, ap, subst, length, arith, get_or}
 use Rattle.std.specs.List.{All}
 use Rattle.std.proofs.lemmas.Bool.{cases_lt}
 use Rattle.std.proofs.lemmas.List.{get_or_default}
@@ -13,7 +12,7 @@ use Rattle.cfb_format.specs.Full.{IsTooLarge}
 use Rattle.cfb_format.specs.Meaning.{Means}
 use Rattle.cfb_format.specs.Reading.{IsOutline, Outline, numbers}
 use Rattle.cfb_outline.specs.Outlines.{HasInside}
-use Rattle.cfb_copy_sizes.specs.Needs.{TellsTooLarge}
+use Rattle.cfb_copy_sizes.specs.Needs.{AreTooLarge, HaveRoom}
 use Rattle.cfb_format.specs.Refused.{IsInvalidOrMemory}
 use Rattle.cfb_format.specs.Tree.{AreWhole, Tree}
 use Rattle.cfb_format.proofs.Unique.{Means-unique}
@@ -108,15 +107,22 @@ all_more P list i e inside before here j d below = elim (cases_lt j i) [
 ]
 
 -- whether the tree is too large, by what was counted
-pub too_large_if : (file : FileState) (held : Holds file) (version : Version) (limit : ℕ) (es : List Entry) (order : List ℕ) (answer : Bool) → TellsTooLarge version limit es order answer
-    → version ≡ version_of file.base → limit ≡ max_regular_sector → es ≡ entries_of file.base
-    → ((o : Outline) → HasInside (cases_of file.base) es 0 o → order ≡ numbers o)
-    → IsTrue answer ↔ IsTooLarge (version_of file.base) max_regular_sector (tree_in file held)
-too_large_if file held version limit es order answer tells v l e listed =
-    let children = held.reads.outline.children in
-    let contents = held.reads.outline.contents in
-    let listed_so : order ≡ numbers held.outline = listed held.outline (subst (λ (list : List Entry). HasInside (cases_of file.base) list 0 held.outline) (sym e) (record { children = children; contents = contents })) in
-    let told = subst (λ (list : List Entry). TellsTooLarge version limit list order answer) e tells in
-    subst (λ (w : Version). IsTrue answer ↔ IsTooLarge w max_regular_sector (tree_in file held)) v
-    (subst (λ (m : ℕ). IsTrue answer ↔ IsTooLarge version m (tree_in file held)) l
-    (told (cases_of file.base) (content_of file.base) held.outline contents listed_so))
+module _ (file : FileState) (held : Holds file) (version : Version) (es : List Entry) (order : List ℕ) (v : version ≡ version_of file.base) (e : es ≡ entries_of file.base)
+    (listed : (o : Outline) → HasInside (cases_of file.base) es 0 o → order ≡ numbers o) where
+  listed_so : order ≡ numbers held.outline
+  listed_so =
+      let children = held.reads.outline.children in
+      let contents = held.reads.outline.contents in
+      listed held.outline (subst (λ (list : List Entry). HasInside (cases_of file.base) list 0 held.outline) (sym e) (record { children = children; contents = contents }))
+
+  pub is_too_large_in : AreTooLarge version es order → IsTooLarge (version_of file.base) max_regular_sector (tree_in file held)
+  is_too_large_in large =
+      let told = subst (λ (list : List Entry). AreTooLarge version list order) e large in
+      subst (λ (w : Version). IsTooLarge w max_regular_sector (tree_in file held)) v
+      (told (cases_of file.base) (content_of file.base) held.outline held.reads.outline.contents listed_so)
+
+  pub has_room_in : HaveRoom version es order → IsTooLarge (version_of file.base) max_regular_sector (tree_in file held) → ⊥
+  has_room_in fits =
+      let told = subst (λ (list : List Entry). HaveRoom version list order) e fits in
+      subst (λ (w : Version). IsTooLarge w max_regular_sector (tree_in file held) → ⊥) v
+      (told (cases_of file.base) (content_of file.base) held.outline held.reads.outline.contents listed_so)

@@ -1,7 +1,6 @@
 -- A copy of a file: when there is one, and what it is.
 use Rattle.std.specs.Prelude.{ℕ, ◌≡◌, ◌<◌, ◌⊎◌, true, false, List, All, Result, IsErrAnd, length, slice_index, slice_index_or, ⊤}
 use Rattle.cfb_format.specs.declared.error.Error.{Error}
-use Rattle.cfb_format.specs.declared.error.Error.TheVariants.{AlreadyExists, Failed, Full, InvalidData, InvalidInput, Medium, Memory, NotFound, Unsound}
 use Rattle.cfb_format.specs.Bytes.{max_regular_sector}
 use Rattle.cfb_format.specs.Created.{created_bytes}
 use Rattle.cfb_format.specs.Full.{IsTooLarge}
@@ -20,7 +19,8 @@ use Rattle.cfb_copies.specs.cfb_alloc.Frame.{IsFixedHeaderByte}
 use Rattle.cfb_copies.specs.cfb_mini_sectors.State.{bytes_of, cases_of, content_of, entries_of, tables_in, version_of}
 use Rattle.cfb_copies.specs.cfb_agreement.Files.{FileState, Holds, IsAsMade, failures_of, is_failed}
 use Rattle.cfb_copies.specs.declared.keeping.Keep.{Keep}
-use Rattle.cfb_copies.specs.Steps.{IsCopyable, IsKeptAt, LeadToEntry}
+use Rattle.cfb_volume.specs.Slots.{used_count}
+use Rattle.cfb_copies.specs.Steps.{IsCopyable, IsKeptAt, IsTight, LeadToEntry}
 
 -- ---- what is copied
 
@@ -81,12 +81,13 @@ pub record TakesAfter (room : ℕ) (source copy : FileState) : Type 0 where
 abbrev pub HasCreatedHeader : FileState → Type 0
 HasCreatedHeader file = (i : ℕ) → IsFixedHeaderByte (version_of file.base) i → slice_index (bytes_of file.base) i ≡ slice_index (created_bytes (version_of file.base)) i
 
--- it is what its bytes say, and as a file that was made here is, header and all, and none of its sectors is free; so many calls of its medium
--- have failed
+-- it is what its bytes say, and as a file that was made here is, header and all; none of its sectors and mini sectors is free, and fewer of its
+-- directory's slots than a sector has; so many calls of its medium have failed
 pub record IsMadeCopy (failures : ℕ) (copy : FileState) : Type 0 where
   pub holds : Holds copy
   pub made : IsAsMade copy.base
   pub none_free : NoneFree (tables_in copy.base).fat
+  pub tight : IsTight copy.base
   pub header : HasCreatedHeader copy
   pub calm : failures_of copy ≡ failures
 
@@ -101,6 +102,13 @@ MeansCut source copy = (tree : Tree) → Means (cases_of source.base) (bytes_of 
 -- nothing is in the file
 abbrev pub HasNoObjects : FileState → Type 0
 HasNoObjects file = (tree : Tree) → Means (cases_of file.base) (bytes_of file.base) tree → tree.objects ≡ nothing
+
+-- it is as made and tight, may grow as far as there are numbers, and its root alone has a slot
+pub record IsFresh (file : FileState) : Type 0 where
+  pub made : IsAsMade file.base
+  pub limit : (tables_in file.base).max_sectors ≡ max_regular_sector
+  pub tight : IsTight file.base
+  pub used : used_count (entries_of file.base) ≡ 1
 
 -- ---- refusals
 
@@ -141,17 +149,3 @@ abbrev pub RefusesUnless : {T : Type 0} → FileState → Result T Error → Typ
 RefusesUnless file result = (tree : Tree) → Means (cases_of file.base) (bytes_of file.base) tree
     → ((AreWhole tree.objects → ⊥) → IsErrAnd result (IsKindOrMemory 4))
     × (AreWhole tree.objects → IsTooLarge (version_of file.base) max_regular_sector tree → IsErrAnd result (IsKindOrMemory 7))
-
--- ---- numbers that lack on the way
-
--- want of numbers is told as want of memory
-abbrev pub error_counted : Error → Error
-error_counted (NotFound d) = NotFound d
-error_counted (AlreadyExists d) = AlreadyExists d
-error_counted (InvalidInput d) = InvalidInput d
-error_counted (InvalidData d) = InvalidData d
-error_counted (Medium f) = Medium f
-error_counted Memory = Memory
-error_counted Full = Memory
-error_counted Unsound = Unsound
-error_counted Failed = Failed

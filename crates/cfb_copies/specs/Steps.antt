@@ -1,11 +1,14 @@
 -- The steps of a copy: what each leaves alone in the source, and what it makes of the target.
-use Rattle.std.specs.Prelude.{ℕ, ◌≡◌, ◌≢◌, ◌<◌, ◌≤◌, ◌⊎◌, Bool, true, false, IsTrue, List, ◌∷◌, length, Result, MatchResult, Some, ⊤}
+use Rattle.std.specs.Prelude.{ℕ, ◌≡◌, ◌≢◌, ◌+◌, ◌<◌, ◌≤◌, ◌⊎◌, Bool, true, false, IsTrue, List, ◌∷◌, length, Result, MatchResult, Some, ⊤}
 use Rattle.cfb_format.specs.declared.error.Error.{Error}
+use Rattle.cfb_format.specs.declared.error.Error.TheVariants.{Full}
 use Rattle.cfb_format.specs.declared.medium.MediumFault.{MediumFault}
 use Rattle.cfb_format.specs.declared.objtype.ObjType.TheVariants.{Storage, Stream}
-use Rattle.cfb_format.specs.Bytes.{max_stream_len}
+use Rattle.cfb_format.specs.Bytes.{entries_per_sector, max_regular_sector, max_stream_len}
+use Rattle.cfb_format.specs.Content.{mini_stream_cutoff}
 use Rattle.cfb_format.specs.DirectoryEntry.{Entry, unless_stream}
-use Rattle.cfb_format.specs.Meaning.{storage_info, stream_info}
+use Rattle.cfb_format.specs.Full.{IsTooLarge, free_count, object_count}
+use Rattle.cfb_format.specs.Meaning.{Means, storage_info, stream_info}
 use Rattle.cfb_format.specs.Medium.{FailsBy}
 use Rattle.cfb_format.specs.Names.{Cases, is_valid_name}
 use Rattle.cfb_format.specs.Reading.{IsOutline, Outline}
@@ -14,14 +17,16 @@ use Rattle.cfb_format.specs.Siblings.{entry_at}
 use Rattle.cfb_format.specs.Tree.{Tree}
 use Rattle.cfb_copies.specs.cfb_rules.CallChanges.{fields_changed_at, same_storage, same_stream, storage_added_at, stream_added_at}
 use Rattle.cfb_copies.specs.cfb_rules.Finding.{last_name, parent_names}
-use Rattle.cfb_built.specs.Copied.{Part, names_of, storage_part, stream_part}
+use Rattle.cfb_built.specs.Copied.{HasFreePlace, Part, names_of, part_copied, storage_part, stream_part}
 use Rattle.cfb_siblings.specs.Children.{HasChildren, IsAbsent}
 use Rattle.cfb_siblings.specs.Paths.{HasOutline, number_from}
 use Rattle.cfb_copies.specs.cfb_tables.Changes.{NoneFree}
 use Rattle.cfb_copies.specs.cfb_trees.Reached.{IsObject, IsReached}
 use Rattle.cfb_copies.specs.cfb_entries.declared.fields.Fields.{Fields}
-use Rattle.cfb_copies.specs.cfb_mini_sectors.State.{cases_of, entries_of, tables_in, version_of}
-use Rattle.cfb_copies.specs.cfb_content.Contents.{IsStreamOf, KeepsFixedHeader, KeepsOthers, MovesContent, len_of}
+use Rattle.cfb_copies.specs.cfb_mini_sectors.State.{MiniState, bytes_of, cases_of, entries_of, tables_in, version_of}
+use Rattle.cfb_copies.specs.cfb_content.Contents.{IsStreamOf, IsTooLongFor, KeepsFixedHeader, KeepsOthers, MovesContent, len_of}
+use Rattle.cfb_copies.specs.cfb_resizing.Turning.{LeavesNoMinis}
+use Rattle.cfb_volume.specs.Slots.{used_count}
 use Rattle.cfb_copies.specs.cfb_entry_changes.Kept.{KeepsFound}
 use Rattle.cfb_places.specs.Laws.{IsWholeAt}
 use Rattle.cfb_copies.specs.declared.keeping.Keep.{Keep}
@@ -64,12 +69,18 @@ CountsEither source_gives target_tells target_gives result old new =
 abbrev pub StaysWithoutFree : FileState → FileState → Type 0
 StaysWithoutFree old new = NoneFree (tables_in old.base).fat → NoneFree (tables_in new.base).fat
 
+-- no mini sector is free, and of the directory's slots fewer than a sector has hold nothing
+pub record IsTight (s : MiniState) : Type 0 where
+  pub minis : free_count s.minifat ≡ 0
+  pub slots : length (entries_of s) < used_count (entries_of s) + entries_per_sector (version_of s)
+
 -- the stream of that entry got other bytes, and nothing else has changed
 pub record FillsStream (tells : Bool) (entry : ℕ) (old new : FileState) : Type 0 where
   pub setting : SameSetting old new
   pub unfailed : is_failed new ≡ false
   pub stream : IsStreamOf new.base entry
   pub moves : MovesContent old.base new.base entry
+  pub tight : IsTrue tells → Holds old → IsTight old.base → IsTight new.base
   pub holds : IsTrue tells → Holds old → Holds new
   pub others : IsTrue tells → Holds old → KeepsOthers entry old.base new.base
   pub header : IsTrue tells → Holds old → KeepsFixedHeader old.base new.base
@@ -83,11 +94,40 @@ pub record GrowsTree (tells : Bool) (old new : FileState) : Type 0 where
   pub unfailed : is_failed new ≡ false
   pub outline : HasOutline (cases_of new.base) (entries_of new.base)
   pub stays : KeepsFound old.base new.base
+  pub tight : IsTrue tells → Holds old → IsTight old.base → IsTight new.base
   pub holds : IsTrue tells → Holds old → Holds new
   pub header : IsTrue tells → Holds old → KeepsFixedHeader old.base new.base
   pub made : IsTrue tells → Holds old → IsAsMade old.base → IsAsMade new.base
   pub none_free : IsTrue tells → Holds old → StaysWithoutFree old new
   pub calm : IsTrue tells → failures_of new ≡ failures_of old
+
+-- ---- room on the way
+
+-- the target has nothing to spare: it is as made and tight and may grow as far as there are numbers, and its used slots are those of its root and
+-- of this tree's objects; and a file of its version has room for the goal
+pub record HasRoomOnTheWay (target : FileState) (tree goal : Tree) : Type 0 where
+  pub made : IsAsMade target.base
+  pub limit : (tables_in target.base).max_sectors ≡ max_regular_sector
+  pub tight : IsTight target.base
+  pub used : used_count (entries_of target.base) ≡ 1 + object_count tree.objects
+  pub fits : IsTooLarge (version_of target.base) max_regular_sector goal → ⊥
+
+-- the part has a place in the tree that the target means, and room with what is there
+pub record HasRoomFor (target : FileState) (part : Part) : Type 0 where
+  pub tree : Tree
+  pub means : Means (cases_of target.base) (bytes_of target.base) tree
+  pub place : HasFreePlace (cases_of target.base) tree part
+  pub room : HasRoomOnTheWay target tree (part_copied (cases_of target.base) part tree)
+
+-- the stream of that entry can get so many bytes in pieces: with what it has of them there are numbers for the next piece, which is the last or puts
+-- the stream into sectors
+abbrev pub CanBeFilled : Bool → FileState → ℕ → ℕ → Type 0
+CanBeFilled tells target entry len = (mid : FileState) (size : ℕ) → FillsStream tells entry target mid → len_of mid.base entry < size → size ≤ len
+    → (mini_stream_cutoff ≤ size) ⊎ (size ≡ len) → LeavesNoMinis mid.base entry size → IsTooLongFor mid.base entry size → ⊥
+
+-- the error is another than `Full`
+abbrev pub IsNotFull : Error → Type 0
+IsNotFull e = e ≡ Full → ⊥
 
 -- ---- one object
 

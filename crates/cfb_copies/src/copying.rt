@@ -9,14 +9,15 @@ ghost use Rattle.cfb_format.specs.Tree.{Tree};
 ghost use Rattle.cfb_built.specs.Copied.{parts_copied};
 ghost use Rattle.cfb_copies.specs.cfb_mini_sectors.State.{bytes_of, cases_of, entries_of, version_of};
 ghost use Rattle.cfb_copies.specs.cfb_agreement.Files.{Agrees, Holds, failures_of, is_failed};
-ghost use Rattle.cfb_copies.specs.Copies.{AreCopyable, AreKept, AreReadable, AreReady, CanBeCopied, CopyRefused, HasNoObjects, IsMadeCopy, IsNotPrepared, ListsObjects, MeansCut, MeansTheSame, RefusesUnless, TakesAfter, error_counted, parts_in_file};
-ghost use Rattle.cfb_copies.specs.Steps.{CountsEither, GivesFault, GrowsTree, IsNoFault, IsReadOnly};
+ghost use Rattle.cfb_copies.specs.Copies.{AreCopyable, AreKept, AreReadable, AreReady, CanBeCopied, CopyRefused, HasNoObjects, IsFresh, IsMadeCopy, IsNotPrepared, ListsObjects, MeansCut, MeansTheSame, RefusesUnless, TakesAfter, parts_in_file};
+ghost use Rattle.cfb_copies.specs.Salvaged.{FitsCut};
+ghost use Rattle.cfb_copies.specs.Steps.{CountsEither, GivesFault, GrowsTree, HasRoomOnTheWay, IsNoFault, IsNotFull, IsReadOnly};
 
 use crate::checking::{check_objects, listed_entry};
 use crate::keeping::Keep;
 use crate::parts::{copy_object, fields_like};
 use cfb_built::copied_objects_are_the_tree;
-use cfb_copy_sizes::needs::is_too_large;
+use cfb_copy_sizes::needs::check_room;
 use cfb_creating::creating::create_file;
 use cfb_format::consts::MAX_REGULAR_SECTOR;
 use cfb_format::error::Error;
@@ -69,6 +70,12 @@ fn copy_listed<F: ReadMedium, W: Medium, A: Heap + Clone>(
         (parts_copied (cases_of target.old.base) (parts_in_file source.old o) tree)) }
     ensures err { IsTrue F.tells → IsTrue W.tells → (tree : Tree)
         → AreReady keep source.old target.old list.now tree → IfErr result (IsBreak Unit) }
+    ensures enough { IsTrue F.tells → IsTrue W.tells → (tree : Tree) (o : Outline)
+        → IsOutline (cases_of source.old.base) (entries_of source.old.base) o
+        → AreReady keep source.old target.old list.now tree
+        → HasRoomOnTheWay target.old tree
+        (parts_copied (cases_of target.old.base) (parts_in_file source.old o) tree)
+        → IfErr result IsNotFull }
     ensures counts { IsTrue F.tells → CountsEither F.read_faults W.tells
         (λ f. W.read_faults f || W.write_faults f) result
         (failures_of source.old) (failures_of source.new) }
@@ -106,6 +113,9 @@ pub(crate) fn fill<F: ReadMedium, W: Medium, A: Heap + Clone>(
     ensures err { IsTrue F.tells → IsTrue W.tells → Holds source.old → Holds target.old
         → AreKept keep source.old list.now → HasNoObjects target.old
         → IfErr result (IsBreak Unit) }
+    ensures enough { IsTrue F.tells → IsTrue W.tells → Holds source.old → Holds target.old
+        → AreKept keep source.old list.now → HasNoObjects target.old
+        → IsFresh target.old → FitsCut source.old → IfErr result IsNotFull }
     ensures counts { IsTrue F.tells → CountsEither F.read_faults W.tells
         (λ f. W.read_faults f || W.write_faults f) result
         (failures_of source.old) (failures_of source.new) }
@@ -143,9 +153,7 @@ fn prepare<F: ReadMedium, A: Heap + Clone>(source: &Volume<F, A>) -> Result<Vec<
     check_objects(source, listed)?;
     let order = contents(source.heap().clone()?, entries, 0)?;
     let numbers = order.as_slice();
-    if is_too_large(entries, numbers, source.version(), MAX_REGULAR_SECTOR) {
-        return Err(Error::Full);
-    }
+    check_room(entries, numbers, source.version())?;
     Ok(list)
 }
 
@@ -159,6 +167,7 @@ pub(crate) fn make_empty<F: ReadMedium, W: Medium, A: Heap + Clone>(
     ensures after { IfOk result (TakesAfter buffer_limit source.now) }
     ensures made { IsTrue W.tells → IfOk result (IsMadeCopy (W.failures dest)) }
     ensures empty { IsTrue W.tells → IfOk result HasNoObjects }
+    ensures fresh { IsTrue W.tells → IfOk result IsFresh }
     ensures err { IfErr result (IsBreak ⊥) }
     ensures fault { IsTrue W.tells → IfErr result (GivesFault W.write_faults) }
 {
@@ -172,17 +181,6 @@ pub(crate) fn make_empty<F: ReadMedium, W: Medium, A: Heap + Clone>(
         MAX_REGULAR_SECTOR,
     )?;
     Ok(Volume::new(mini, true, buffer_limit))
-}
-
-/// Why a step of a copy was refused. Numbers can't lack on the way, since they were counted before: that is not proved yet, and should
-/// they lack, it is told as want of memory.
-pub(crate) fn counted(error: Error) -> Error
-    ensures { result ≡ error_counted error }
-{
-    match error {
-        Error::Full => Error::Memory,
-        _ => error,
-    }
 }
 
 /// Copies the file into an empty medium: the copy has its version, its letters and its tree, no sector without an owner, and the header of a
@@ -219,8 +217,7 @@ pub fn copy_volume<F: ReadMedium, W: Medium, A: Heap + Clone>(
     let list = prepare(source)?;
     let mut target = make_empty(source, dest, buffer_limit)?;
     let listed = list.as_slice();
-    match fill(source, listed, &mut target, Keep::Whole) {
-        Ok(()) => Ok(target),
-        Err(error) => Err(counted(error)),
-    }
+    // Numbers can't lack on the way: they were counted before.
+    fill(source, listed, &mut target, Keep::Whole)?;
+    Ok(target)
 }

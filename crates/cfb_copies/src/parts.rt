@@ -1,5 +1,5 @@
 //! One object copied, with its fields and its bytes, but without what is in it.
-ghost use Rattle.std.specs.Prelude.{◌≡◌, ◌↔◌, ◌≤◌, ◌||◌, ◌∷◌, ℕ, List, false, true, length, chars, IsTrue, IfOk, IfErr, OnOk};
+ghost use Rattle.std.specs.Prelude.{◌≡◌, ◌+◌, ◌↔◌, ◌≤◌, ◌||◌, ◌∷◌, ℕ, List, false, true, length, chars, IsTrue, IfOk, IfErr, OnOk};
 ghost use Rattle.cfb_format.specs.Content.{mini_stream_cutoff};
 ghost use Rattle.cfb_format.specs.DirectoryEntry.{Entry};
 ghost use Rattle.cfb_format.specs.Refused.{IsBreak};
@@ -8,9 +8,11 @@ ghost use Rattle.cfb_codecs.specs.EntryModel.{entries_of as entries_in, entry_of
 ghost use Rattle.cfb_copies.specs.cfb_rules.Finding.{last_name, parent_names};
 ghost use Rattle.cfb_built.specs.Copied.{Part, names_of, part_copied};
 ghost use Rattle.cfb_copies.specs.cfb_objects.Laws.{BecomesTree};
+ghost use Rattle.cfb_copies.specs.cfb_directory.State.{IsFullForEntry};
 ghost use Rattle.cfb_copies.specs.cfb_mini_sectors.State.{bytes_of, cases_of, content_of, entries_of, version_of};
 ghost use Rattle.cfb_copies.specs.cfb_agreement.Files.{Holds, SameSetting, failures_of, is_failed};
-ghost use Rattle.cfb_copies.specs.Steps.{CanBeLike, CountsEither, GivesFault, GrowsTree, IsCopyable, IsKeptAt, IsLikeIn, IsNewIn, IsPart, IsReachedIn, IsReadOnly, LeadToEntry, TakesName, fields_like, like_added};
+ghost use Rattle.cfb_volume.specs.Slots.{used_count};
+ghost use Rattle.cfb_copies.specs.Steps.{CanBeLike, CountsEither, GivesFault, GrowsTree, HasRoomFor, IsCopyable, IsKeptAt, IsLikeIn, IsNewIn, IsNotFull, IsPart, IsReachedIn, IsReadOnly, LeadToEntry, TakesName, fields_like, like_added};
 
 use crate::checking::{kind_of, listed_entry, name_of};
 use crate::keeping::{Keep, kept_len};
@@ -76,6 +78,8 @@ fn insert_like<W: Medium, A: Heap + Clone>(
         (entry_at (entries_in entries.now) entry).name) }
     ensures is_like { IfOk result
         (IsLikeIn (entry_at (entries_in entries.now) entry) target.new) }
+    ensures used { OnOk result (used_count (entries_of target.new.base)
+        ≡ used_count (entries_of target.old.base) + 1) }
     ensures tree { IsTrue W.tells → Holds target.old → OnOk result
         ((first : List ℕ) (names : List (List ℕ))
         → LeadToEntry target.old (parent_names (first ∷ names)) parent
@@ -86,6 +90,8 @@ fn insert_like<W: Medium, A: Heap + Clone>(
     ensures err { IsTrue W.tells → Holds target.old
         → TakesName target.old parent (entry_at (entries_in entries.now) entry).name
         → IfErr result (IsBreak Unit) }
+    ensures enough { IsTrue W.tells → Holds target.old
+        → (IsFullForEntry target.old.base.directory → ⊥) → IfErr result IsNotFull }
     ensures fault { IsTrue W.tells → IfErr result (GivesFault W.write_faults) }
 {
     let like = listed_entry(entries, entry);
@@ -128,6 +134,8 @@ pub(crate) fn copy_object<F: ReadMedium, W: Medium, A: Heap + Clone>(
     ensures grows { OnOk result (GrowsTree W.tells target.old target.new) }
     ensures is_new { IfOk result (λ n. IsNewIn target.old target.new parent n
         (entry_at (entries_of source.old.base) entry).name) }
+    ensures used { OnOk result (used_count (entries_of target.new.base)
+        ≡ used_count (entries_of target.old.base) + 1) }
     ensures tree { IsTrue F.tells → IsTrue W.tells → Holds source.old → Holds target.old
         → IsKeptAt keep (entries_of source.old.base) (content_of source.old.base) entry
         → OnOk result ((part : Part)
@@ -139,6 +147,12 @@ pub(crate) fn copy_object<F: ReadMedium, W: Medium, A: Heap + Clone>(
         → IsKeptAt keep (entries_of source.old.base) (content_of source.old.base) entry
         → TakesName target.old parent (entry_at (entries_of source.old.base) entry).name
         → IfErr result (IsBreak Unit) }
+    ensures enough { IsTrue F.tells → IsTrue W.tells → Holds source.old → Holds target.old
+        → IsKeptAt keep (entries_of source.old.base) (content_of source.old.base) entry
+        → (part : Part)
+        → IsPart (content_of source.old.base) (entry_at (entries_of source.old.base) entry) part
+        → LeadToEntry target.old (parent_names (names_of part)) parent
+        → HasRoomFor target.old part → IfErr result IsNotFull }
     ensures counts { IsTrue F.tells → CountsEither F.read_faults W.tells
         (λ f. W.read_faults f || W.write_faults f) result
         (failures_of source.old) (failures_of source.new) }

@@ -8,7 +8,7 @@ ghost use Rattle.cfb_copies.specs.cfb_mini_sectors.State.{entries_of, version_of
 ghost use Rattle.cfb_copies.specs.cfb_content.Contents.{IsStreamOf, len_of};
 ghost use Rattle.cfb_copies.specs.cfb_agreement.Files.{Holds, failures_of, is_failed};
 ghost use Rattle.cfb_volume.specs.Answers.{content_at};
-ghost use Rattle.cfb_copies.specs.Steps.{CountsEither, FillsStream, IsReadOnly};
+ghost use Rattle.cfb_copies.specs.Steps.{CanBeFilled, CountsEither, FillsStream, IsNotFull, IsReadOnly};
 
 use cfb_format::error::Error;
 use cfb_format::medium::{Medium, ReadMedium};
@@ -33,7 +33,7 @@ fn read_piece<F: ReadMedium, A: Heap + Clone>(
         (into.new ≡ part (content_at source.old from) at (length into.old)) }
     ensures err { IsTrue F.tells → Holds source.old
         → at + length into.old ≤ length (content_at source.old from)
-        → IfErr result (IsBreak Unit) }
+        → IfErr result (IsBreak ⊥) }
     ensures counts { IsTrue F.tells → CountsFailure F.read_faults result
         (failures_of source.old) (failures_of source.new) }
 {
@@ -74,6 +74,9 @@ pub(crate) fn copy_bytes<F: ReadMedium, W: Medium, A: Heap + Clone>(
     ensures err { IsTrue F.tells → IsTrue W.tells → Holds source.old → Holds target.old
         → len ≡ length (content_at source.old from)
         → IfErr result (IsBreak Unit) }
+    ensures enough { IsTrue F.tells → IsTrue W.tells → Holds source.old → Holds target.old
+        → len ≡ length (content_at source.old from) → CanBeFilled W.tells target.old to len
+        → IfErr result IsNotFull }
     ensures counts { IsTrue F.tells → CountsEither F.read_faults W.tells
         (λ f. W.read_faults f || W.write_faults f) result
         (failures_of source.old) (failures_of source.new) }

@@ -10,7 +10,7 @@ ghost use Rattle.cfb_copies.specs.Salvaged.{FitsCut, IsFullOrMemory, IsSalvaged,
 ghost use Rattle.cfb_copies.specs.Steps.{CountsEither, IsNoFault, IsReadOnly};
 
 use crate::checking::{is_allowed, kind_of, not_copied};
-use crate::copying::{counted, fill, make_empty};
+use crate::copying::{fill, make_empty};
 use crate::keeping::{Keep, kept_len};
 pub use cfb_copy_sizes::cut::Extent;
 use cfb_copy_sizes::cut::is_too_large_cut;
@@ -145,11 +145,8 @@ pub fn salvage_volume<F: ReadMedium, W: Medium, A: Heap + Clone>(
     let prepared = prepare_cut(source)?;
     let mut volume = make_empty(source, dest, buffer_limit)?;
     let listed = prepared.list.as_slice();
-    match fill(source, listed, &mut volume, Keep::Readable) {
-        Ok(()) => {
-            let Prepared { list: _, extents } = prepared;
-            Ok(Salvaged { volume, extents })
-        }
-        Err(error) => Err(counted(error)),
-    }
+    // Numbers can't lack on the way: they were counted before.
+    fill(source, listed, &mut volume, Keep::Readable)?;
+    let Prepared { list: _, extents } = prepared;
+    Ok(Salvaged { volume, extents })
 }

@@ -40,7 +40,7 @@ contains-any (y ∷ xs) x m = go (nat_eq x y) refl (Contains-cases y xs x m) (λ
     go false h (inl e) more = absurd (eqb-false x y h (sym e))
     go false h (inr r) more = more r
 
-counted : (table used : List ℕ) → AllUsed table used → length table ≤ length used + free_count table
+pub counted : (table used : List ℕ) → AllUsed table used → length table ≤ length used + free_count table
 counted table used all =
     let free = all_free table (length table) in
     let each : (q : ℕ) → q < length table → list_any (nat_eq q) (used ++ free.0) ≡ true =

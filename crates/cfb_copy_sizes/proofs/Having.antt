@@ -6,10 +6,9 @@ use Rattle.cfb_format.specs.declared.version.Version.{Version}
 use Rattle.cfb_format.specs.declared.version.Version.TheVariants.{V3, V4}
 use Rattle.cfb_format.specs.Bytes.{entries_per_sector, max_regular_sector, sector_len, words_per_sector}
 use Rattle.cfb_format.specs.Full.{HasRoom, directory_sectors_for, given_back_for, max_entries, max_mini_sectors, minifat_len_for, rounded_up, sectors_for, sectors_in_chain, wanted_for}
-use Rattle.cfb_format.specs.Reading.{numbers}
 use Rattle.cfb_format.specs.Soundness.{large_streams, mini_stream_sectors, sectors_of}
 use Rattle.cfb_copy_sizes.specs.Growth.{ContentCanBeHad, EntryCanBeHad, others_in}
-use Rattle.cfb_copy_sizes.specs.Needs.{IsTooMuch, difats_beside, fats_beside, sectors_listed, sectors_needed}
+use Rattle.cfb_copy_sizes.specs.Needs.{IsTooMuch, difats_beside, fats_beside, sectors_needed}
 use Rattle.cfb_copy_sizes.proofs.Growth.{needed-can-be-taken}
 use Rattle.cfb_copy_sizes.proofs.Room.{room-is-for-tables}
 
@@ -52,40 +51,40 @@ next-slots V3 slots sectors n m is full more = (omega (arith, is, full, more), o
 next-slots V4 slots sectors n m is full more = (omega (arith, is, full, more), omega (arith, is, full, more))
 
 pub entry-can-be-had : EntryCanBeHad
-entry-can-be-had r s m o tight fits fewer-s fewer-m more-o full =
+entry-can-be-had r s m o sectors minis objects tight fits fewer-s fewer-m more-o full =
     let v = r.header.version in
-    let sl = sectors_listed v r.entries (numbers r.outline) in
-    let next = next-slots v (length r.entries) (length r.directory) (length (numbers r.outline)) o tight.slots full more-o in
+    let next = next-slots v (length r.entries) (length r.directory) o objects tight.slots full more-o in
     let slots = next.1 in
-    let most = few-slots v max_regular_sector s m o fits in
+    let most = few-slots v max_regular_sector sectors minis objects fits in
     let directory = next.0 in
     let others : others_in r ≡ length r.directory + length r.minifat_sectors + length (mini_stream_sectors r) + length (flat_map (sectors_of r) (large_streams r)) = refl in
     let listed = tight.minifat in
     let streams = tight.streams in
-    let minifat = more-words v (length r.minifat) m (length r.minifat_sectors) tight.minifat_sectors (omega (arith, listed, fewer-m)) in
-    let mini-stream = more-bytes v (length r.minifat) m (length (mini_stream_sectors r)) tight.mini_stream (omega (arith, listed, fewer-m)) in (
+    let minifat = more-words v (length r.minifat) minis (length r.minifat_sectors) tight.minifat_sectors (omega (arith, listed, fewer-m)) in
+    let mini-stream = more-bytes v (length r.minifat) minis (length (mini_stream_sectors r)) tight.mini_stream (omega (arith, listed, fewer-m)) in (
       omega (arith, slots, most),
-      needed-can-be-taken r (sectors_needed v s m o) 0 1 tight.exact tight.used tight.short (omega (arith, others, directory, streams, fewer-s, minifat, mini-stream)) (has-room v max_regular_sector s m o fits),
+      needed-can-be-taken r (sectors_needed v sectors minis objects) 0 1 tight.exact tight.used tight.short (omega (arith, others, directory, streams, fewer-s, minifat, mini-stream))
+          (has-room v max_regular_sector sectors minis objects fits),
     )
 
 pub content-can-be-had : ContentCanBeHad
-content-can-be-had r s m o i len tight fits fewer-s fewer-m fewer-o =
+content-can-be-had r s m o sectors minis objects i len tight fits fewer-s fewer-m fewer-o =
     let v = r.header.version in
     let n = minifat_len_for r i len in
     let listed = tight.minifat in
-    let few : n ≤ m = omega (arith, listed, fewer-m) in
-    let most = few-minis v max_regular_sector s m o fits in
+    let few : n ≤ minis = omega (arith, listed, fewer-m) in
+    let most = few-minis v max_regular_sector sectors minis objects fits in
     let streams = tight.streams in
     let others : others_in r ≡ length r.directory + length r.minifat_sectors + length (mini_stream_sectors r) + length (flat_map (sectors_of r) (large_streams r)) = refl in
     let wanted : wanted_for r i len ≡ (sectors_for v len - sectors_in_chain r i) + (rounded_up n (words_per_sector v) - length r.minifat_sectors) + (rounded_up (n * 64) (sector_len v) - length (mini_stream_sectors r)) = refl in
-    let before : length r.minifat ≤ m = omega (arith, listed, fewer-m) in
-    let directory = more-objects v (length (numbers r.outline)) o (length r.directory) tight.directory fewer-o in
-    let minifat = more-words v (length r.minifat) m (length r.minifat_sectors) tight.minifat_sectors before in
-    let mini-stream = more-bytes v (length r.minifat) m (length (mini_stream_sectors r)) tight.mini_stream before in
-    let minifat-then = more-words v n m (rounded_up n (words_per_sector v)) (omega arith) few in
-    let mini-stream-then = more-bytes v n m (rounded_up (n * 64) (sector_len v)) (omega arith) few in (
+    let before : length r.minifat ≤ minis = omega (arith, listed, fewer-m) in
+    let directory = more-objects v o objects (length r.directory) tight.directory fewer-o in
+    let minifat = more-words v (length r.minifat) minis (length r.minifat_sectors) tight.minifat_sectors before in
+    let mini-stream = more-bytes v (length r.minifat) minis (length (mini_stream_sectors r)) tight.mini_stream before in
+    let minifat-then = more-words v n minis (rounded_up n (words_per_sector v)) (omega arith) few in
+    let mini-stream-then = more-bytes v n minis (rounded_up (n * 64) (sector_len v)) (omega arith) few in (
       omega (arith, few, most),
-      needed-can-be-taken r (sectors_needed v s m o) (given_back_for r i len) (wanted_for r i len) tight.exact tight.used tight.short
+      needed-can-be-taken r (sectors_needed v sectors minis objects) (given_back_for r i len) (wanted_for r i len) tight.exact tight.used tight.short
           (omega (arith, others, wanted, directory, streams, fewer-s, minifat, mini-stream, minifat-then, mini-stream-then))
-          (has-room v max_regular_sector s m o fits),
+          (has-room v max_regular_sector sectors minis objects fits),
     )

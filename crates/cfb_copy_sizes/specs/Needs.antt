@@ -2,7 +2,7 @@
 use Rattle.std.specs.Prelude.{ℕ, ◌≡◌, ◌+◌, ◌-◌, ◌*◌, ◌<◌, ◌⊎◌, ◌↔◌, List, Bool, IsTrue, min}
 use Rattle.std.specs.List.{sum_by}
 use Rattle.cfb_format.specs.declared.version.Version.{Version}
-use Rattle.cfb_format.specs.Bytes.{sector_len, words_per_sector, entries_per_sector}
+use Rattle.cfb_format.specs.Bytes.{sector_len, words_per_sector, entries_per_sector, max_regular_sector}
 use Rattle.cfb_format.specs.Content.{mini_sector_len}
 use Rattle.cfb_format.specs.DirectoryEntry.{Entry, unless_stream}
 use Rattle.cfb_format.specs.Full.{HasRoom, IsTooLarge, directory_sectors_for, max_entries, max_mini_sectors, mini_sectors_for, rounded_up, sectors_for}
@@ -58,3 +58,13 @@ IsTooMuch version limit sectors mini_sectors objects = (¬ (HasRoom version limi
 abbrev pub TellsTooLarge : Version → ℕ → List Entry → List ℕ → Bool → Type 0
 TellsTooLarge version limit entries order answer = (cases : Cases) (content : Entry → List ℕ) (o : Outline) → HasContents cases entries o → order ≡ numbers o
     → IsTrue answer ↔ IsTooLarge version limit (tree_from entries content o)
+
+-- each tree whose objects these are, in this order, is too large for every file of that version
+abbrev pub AreTooLarge : Version → List Entry → List ℕ → Type 0
+AreTooLarge version entries order = (cases : Cases) (content : Entry → List ℕ) (o : Outline) → HasContents cases entries o → order ≡ numbers o
+    → IsTooLarge version max_regular_sector (tree_from entries content o)
+
+-- there is room for each of them
+abbrev pub HaveRoom : Version → List Entry → List ℕ → Type 0
+HaveRoom version entries order = (cases : Cases) (content : Entry → List ℕ) (o : Outline) → HasContents cases entries o → order ≡ numbers o
+    → IsTooLarge version max_regular_sector (tree_from entries content o) → ⊥

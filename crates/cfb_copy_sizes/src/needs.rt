@@ -1,16 +1,18 @@
 //! What the objects of a directory need: sectors, mini sectors and entries, counted from their
 //! lengths (MS-CFB 2.3, 2.4 and 2.6).
-ghost use Rattle.std.specs.Prelude.{◌≡◌, ◌≤◌, ◌<◌, ◌↔◌, ◌^◌, IsTrue, min};
+ghost use Rattle.std.specs.Prelude.{◌≡◌, ◌≤◌, ◌<◌, ◌↔◌, ◌^◌, IsTrue, IfErr, OnOk, min};
 ghost use Rattle.cfb_codecs.specs.EntryModel.{entries_of};
 ghost use Rattle.cfb_format.specs.Bytes.{max_regular_sector};
 ghost use Rattle.cfb_format.specs.Full.{HasRoom, max_mini_sectors, mini_sectors_for, sectors_for};
 ghost use Rattle.cfb_format.specs.Siblings.{entry_at};
-ghost use Rattle.cfb_copy_sizes.specs.Needs.{IsTooMuch, TellsTooLarge, at_most_u64, content_len, difats_beside, mini_sectors_listed, sectors_listed};
+ghost use Rattle.cfb_format.specs.declared.error.Error.TheVariants.{Full};
+ghost use Rattle.cfb_copy_sizes.specs.Needs.{AreTooLarge, HaveRoom, IsTooMuch, TellsTooLarge, at_most_u64, content_len, difats_beside, mini_sectors_listed, sectors_listed};
 
 use cfb_codecs::direntry::DirEntry;
 use cfb_format::consts::{
     MAX_REGULAR_SECTOR, MINI_SECTOR_LEN, MINI_STREAM_CUTOFF, NUM_DIFAT_ENTRIES_IN_HEADER,
 };
+use cfb_format::error::Error;
 use cfb_format::objtype::ObjType;
 use cfb_format::version::Version;
 use std::alloc::Allocator;
@@ -160,4 +162,25 @@ pub fn is_too_large<A: Allocator>(
     let needs = needs_of(entries, order, version);
     let limit = max_sectors.min(MAX_REGULAR_SECTOR);
     is_too_much(version, limit, needs, order.len() as u64)
+}
+
+/// Looks whether a file of this version has room for a tree, as `is_too_large` does; `max_sectors`
+/// is the format's. It asks for no memory, so want of it is never told in place of want of room.
+///
+/// # Errors
+///
+/// `Full` exactly where no file has room for the tree, and no other error.
+pub fn check_room<A: Allocator>(
+    entries: &[DirEntry<A>],
+    order: &[u32],
+    version: Version,
+) -> Result<(), Error>
+    ensures room { OnOk result (HaveRoom version (entries_of entries.now) order.now) }
+    ensures full { IfErr result (λ e.
+        (e ≡ Full) × AreTooLarge version (entries_of entries.now) order.now) }
+{
+    if is_too_large(entries, order, version, MAX_REGULAR_SECTOR) {
+        return Err(Error::Full);
+    }
+    Ok(())
 }

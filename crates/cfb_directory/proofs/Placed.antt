@@ -1,14 +1,17 @@
 -- A directory that the bytes hold has its places, and its slots stay where they are not written.
-use Rattle.std.proofs.Common.{◌≡◌, ◌≢◌, ◌≤◌, ◌<◌, ◌+◌, ◌*◌, inl, inr, ℕ, List, [], ◌∷◌, true, refl, sym, ◌∙◌, subst, length, arith}
+use Rattle.std.proofs.Common.{◌≡◌, ◌≢◌, ◌≤◌, ◌<◌, ◌+◌, ◌*◌, ◌/◌, inl, inr, ℕ, List, [], ◌∷◌, true, refl, sym, ◌∙◌, subst, length, arith}
 use Rattle.std.specs.Prelude.{slice_index, nat_eq, Contains}
 use Rattle.std.specs.List.{IsDistinct}
+use Rattle.std.proofs.lemmas.Bool.{cases_eq, cases_lt}
 use Rattle.std.proofs.lemmas.Grind.{same_number_lists}
 use Rattle.cfb_format.specs.declared.version.Version.{Version}
 use Rattle.cfb_format.specs.declared.version.Version.TheVariants.{V3, V4}
 use Rattle.cfb_format.specs.declared.validate.Validation.{Validation}
-use Rattle.cfb_format.specs.Bytes.{sector_len, entries_per_sector}
+use Rattle.cfb_format.specs.Bytes.{sector_len, sector_start, entries_per_sector}
 use Rattle.cfb_format.specs.Medium.{part}
+use Rattle.cfb_format.proofs.Along.{next_start}
 use Rattle.cfb_format.proofs.ByteLemmas.{part_at, length-part}
+use Rattle.cfb_sectors.specs.Sectors.{SectorStays}
 use Rattle.cfb_directory.specs.cfb_tables.Tables.{first_or_end}
 use Rattle.cfb_directory.proofs.cfb_tables.ChainLemmas.{members-busy}
 use Rattle.cfb_alloc.specs.Agreement.{HasSectors}
@@ -18,7 +21,7 @@ use Rattle.cfb_alloc.specs.InSector.{IsNoTableSector}
 use Rattle.cfb_alloc.proofs.HeldOrder.{members-no_table}
 use Rattle.cfb_slots.specs.Slots.{ChangesSlots, HavePlaces, slot_of, slot_place}
 use Rattle.cfb_directory.specs.State.{DirectoryState, HoldsDirectory, directory_version, directory_tables}
-use Rattle.cfb_slots.proofs.SlotPlaces.{header-outside, slot_inside, slots_apart}
+use Rattle.cfb_slots.proofs.SlotPlaces.{header-outside, slot_fits, slot_inside, slot_member, slots_apart}
 use Rattle.cfb_format.proofs.Members.{Contains-here}
 
 -- its sectors have a slot for each entry
@@ -56,6 +59,35 @@ slot_left touched v sectors old new k once whole changes within lk out =
     let ne : k ≢ j = λ e. out (subst (Contains touched) (sym e) m) in
     elim (slots_apart v sectors once k j ne lk lj) [ inl before ↦ inl (omega (arith, before, small)) | inr behind ↦ inr (omega (arith, behind)) ])
     ∙ sym (part_at old at 128 i small))
+
+-- a sector that has none of these slots
+sector_after : (v : Version) (a b : ℕ) → a < b → sector_start v (a + 1) ≤ sector_start v b
+sector_after V3 a b less = omega arith
+sector_after V4 a b less = omega arith
+
+pub sector_left : (touched : List ℕ) (v : Version) (sectors old new : List ℕ) → ChangesSlots touched v sectors old new
+    → ((k : ℕ) → Contains touched k → k < length sectors * entries_per_sector v) → (i : ℕ) → (Contains sectors i → ⊥) → SectorStays v i old new
+unfolding SectorStays
+sector_left touched v sectors old new changes within i out = record {
+  no_shorter = changes.no_shorter;
+  each = λ p lt low high. changes.others p lt (λ k m.
+      let n = slice_index sectors (k / entries_per_sector v) in
+      let fits = slot_fits v k in
+      let end = next_start v n in
+      elim (cases_eq i n) [
+        | inl same ↦ absurd (out (subst (Contains sectors) (sym same) (slot_member v sectors k (within k m))))
+        | inr other ↦ elim (cases_lt i n) [
+          | inl less ↦ inl (let next = sector_after v i n less in omega (arith, high, next))
+          | inr from ↦ inr (let next = sector_after v n i (omega (arith, from, other)) in omega (arith, low, next, fits, end))
+        ]
+      ]);
+}
+
+-- a directory whose sectors are placed keeps the others as it writes slots of its entries
+pub others_left : (touched : List ℕ) (v : Version) (sectors old new : List ℕ) (entries count : ℕ) → HavePlaces v sectors entries count → ChangesSlots touched v sectors old new
+    → ((k : ℕ) → Contains touched k → k < entries) → (i : ℕ) → (Contains sectors i → ⊥) → SectorStays v i old new
+others_left touched v sectors old new entries count placed changes within =
+    sector_left touched v sectors old new changes (λ k m. let low = within k m in let all = placed.slots in omega (arith, low, all))
 
 -- the header lies before all slots
 pub header_left : (touched : List ℕ) (v : Version) (sectors old new : List ℕ) → ChangesSlots touched v sectors old new

@@ -6,6 +6,7 @@ use Rattle.cfb_format.specs.declared.objtype.ObjType.TheVariants.{Unallocated}
 use Rattle.cfb_format.specs.Bytes.{sector_len}
 use Rattle.cfb_format.specs.Refused.{AfterMedium}
 use Rattle.cfb_format.specs.Siblings.{entry_at}
+use Rattle.cfb_sectors.specs.Sectors.{SectorStays}
 use Rattle.cfb_directory.specs.cfb_siblings.Children.{HasChildren, HasRedApart}
 use Rattle.cfb_slots.specs.Slots.{slot_of}
 use Rattle.cfb_directory.specs.State.{DirectoryState, HoldsDirectory, directory_version, directory_bytes}
@@ -37,3 +38,7 @@ StaysRedApart old new parent = (list : List ℕ) → HasChildren old.cases old.e
 -- every byte of the header stays, and of what fills the place of a sector behind it
 abbrev pub KeepsWholeHeader : DirectoryState → DirectoryState → Type 0
 KeepsWholeHeader old new = (i : ℕ) → i < length (directory_bytes old) → i < sector_len (directory_version old) → slice_index (directory_bytes new) i ≡ slice_index (directory_bytes old) i
+
+-- of the file's sectors those of the directory alone change, be the others in use or free
+abbrev pub KeepsOtherSectors : DirectoryState → DirectoryState → Type 0
+KeepsOtherSectors old new = (i : ℕ) → (Contains old.sectors i → ⊥) → SectorStays (directory_version old) i (directory_bytes old) (directory_bytes new)

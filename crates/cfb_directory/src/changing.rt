@@ -16,7 +16,7 @@ ghost use Rattle.cfb_entries.specs.Fields.{fields_in, entry_with_fields, entries
 ghost use Rattle.cfb_directory.specs.Growing.{ArePlaced};
 ghost use Rattle.cfb_slots.specs.Slots.{IsLeastAbove};
 ghost use Rattle.cfb_directory.specs.State.{HoldsDirectory, KeepsDirectoryLimits, directory_of};
-ghost use Rattle.cfb_directory.specs.Steps.{IsDirectoryNotHeld, KeepsOtherSlots, StaysRedApart, KeepsSlotsBut, KeepsWholeHeader, DirectoryStopsShort};
+ghost use Rattle.cfb_directory.specs.Steps.{IsDirectoryNotHeld, KeepsOtherSectors, KeepsOtherSlots, StaysRedApart, KeepsSlotsBut, KeepsWholeHeader, DirectoryStopsShort};
 
 use cfb_alloc::alloc::Allocator;
 use cfb_entries::entries::Entries;
@@ -61,6 +61,9 @@ pub(crate) fn remove_entry<F: Medium, A: Heap + Clone>(
     ensures spares { IsTrue F.tells → Spares sectors.now allocator.old allocator.new }
     ensures header { IsTrue F.tells
         → KeepsWholeHeader (directory_of allocator.old sectors.now entries.old)
+        (directory_of allocator.new sectors.now entries.new) }
+    ensures others { IsTrue F.tells
+        → KeepsOtherSectors (directory_of allocator.old sectors.now entries.old)
         (directory_of allocator.new sectors.now entries.new) }
     ensures slots { IsTrue F.tells → (validation : Validation)
         → HoldsDirectory validation (directory_of allocator.old sectors.now entries.old)
@@ -115,6 +118,9 @@ pub(crate) fn change_fields<F: Medium, A: Heap, W: FnOnce(Fields) -> Fields>(
     ensures spares { IsTrue F.tells → Spares sectors.now allocator.old allocator.new }
     ensures header { IsTrue F.tells
         → KeepsWholeHeader (directory_of allocator.old sectors.now entries.old)
+        (directory_of allocator.new sectors.now entries.new) }
+    ensures others { IsTrue F.tells
+        → KeepsOtherSectors (directory_of allocator.old sectors.now entries.old)
         (directory_of allocator.new sectors.now entries.new) }
     ensures slots { IsTrue F.tells → (validation : Validation)
         → HoldsDirectory validation (directory_of allocator.old sectors.now entries.old)

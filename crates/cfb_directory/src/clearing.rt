@@ -10,7 +10,7 @@ ghost use Rattle.cfb_entries.specs.Clearing.{HasCleared};
 ghost use Rattle.cfb_directory.specs.Clearing.{KeepsSlotsOutside};
 ghost use Rattle.cfb_slots.specs.Slots.{IsLeastAbove};
 ghost use Rattle.cfb_directory.specs.State.{HoldsDirectory, KeepsDirectoryLimits, directory_of};
-ghost use Rattle.cfb_directory.specs.Steps.{IsDirectoryNotHeld, KeepsWholeHeader, DirectoryStopsShort};
+ghost use Rattle.cfb_directory.specs.Steps.{IsDirectoryNotHeld, KeepsOtherSectors, KeepsWholeHeader, DirectoryStopsShort};
 
 use crate::changing::unplaced;
 use cfb_alloc::alloc::Allocator;
@@ -44,6 +44,9 @@ pub(crate) fn clear_storage<F: Medium, A: Heap + Clone>(
     ensures spares { IsTrue F.tells → Spares sectors.now allocator.old allocator.new }
     ensures header { IsTrue F.tells
         → KeepsWholeHeader (directory_of allocator.old sectors.now entries.old)
+        (directory_of allocator.new sectors.now entries.new) }
+    ensures others { IsTrue F.tells
+        → KeepsOtherSectors (directory_of allocator.old sectors.now entries.old)
         (directory_of allocator.new sectors.now entries.new) }
     ensures slots { IsTrue F.tells → (validation : Validation)
         → HoldsDirectory validation (directory_of allocator.old sectors.now entries.old)

@@ -30,7 +30,7 @@ ghost use Rattle.cfb_entries.specs.Fields.{fields_in, entry_with_fields, entries
 ghost use Rattle.cfb_directory.specs.Clearing.{KeepsSlotsOutside};
 ghost use Rattle.cfb_directory.specs.Inserting.{CanInsert, InsertsObject, KeepsSectorsIfFree, SparesRest, WritesDirectory};
 ghost use Rattle.cfb_directory.specs.State.{HoldsDirectory, IsFullForEntry, KeepsDirectoryLimits, directory_bytes, directory_tables, directory_version};
-ghost use Rattle.cfb_directory.specs.Steps.{IsDirectoryNotHeld, KeepsOtherSlots, StaysRedApart, KeepsSlotsBut, KeepsWholeHeader, DirectoryStopsShort};
+ghost use Rattle.cfb_directory.specs.Steps.{IsDirectoryNotHeld, KeepsOtherSectors, KeepsOtherSlots, StaysRedApart, KeepsSlotsBut, KeepsWholeHeader, DirectoryStopsShort};
 
 use crate::changing::{change_fields, remove_entry};
 use crate::clearing::clear_storage;
@@ -396,6 +396,7 @@ impl<F: Medium, A: Heap + Clone> Directory<F, A> {
             → OnOk result (HoldsDirectory validation self.new) }
         ensures spares { IsTrue F.tells → Spares self.old.sectors self.old.table self.new.table }
         ensures header { IsTrue F.tells → KeepsWholeHeader self.old self.new }
+        ensures others { IsTrue F.tells → KeepsOtherSectors self.old self.new }
         ensures slots { IsTrue F.tells → (validation : Validation)
             → HoldsDirectory validation self.old → KeepsOtherSlots parent self.old self.new }
         ensures limits { KeepsDirectoryLimits self.old self.new }
@@ -435,6 +436,7 @@ impl<F: Medium, A: Heap + Clone> Directory<F, A> {
             → OnOk result (HoldsDirectory validation self.new) }
         ensures spares { IsTrue F.tells → Spares self.old.sectors self.old.table self.new.table }
         ensures header { IsTrue F.tells → KeepsWholeHeader self.old self.new }
+        ensures others { IsTrue F.tells → KeepsOtherSectors self.old self.new }
         ensures slots { IsTrue F.tells → (validation : Validation)
             → HoldsDirectory validation self.old
             → KeepsSlotsOutside (top ∷ inside.now) self.old self.new }
@@ -488,6 +490,7 @@ impl<F: Medium, A: Heap> Directory<F, A> {
             → OnOk result (HoldsDirectory validation self.new) }
         ensures spares { IsTrue F.tells → Spares self.old.sectors self.old.table self.new.table }
         ensures header { IsTrue F.tells → KeepsWholeHeader self.old self.new }
+        ensures others { IsTrue F.tells → KeepsOtherSectors self.old self.new }
         ensures slots { IsTrue F.tells → (validation : Validation)
             → HoldsDirectory validation self.old → KeepsSlotsBut number self.old self.new }
         ensures limits { KeepsDirectoryLimits self.old self.new }

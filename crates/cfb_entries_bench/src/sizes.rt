@@ -2,7 +2,7 @@
 use crate::checked::check;
 use crate::directories::{Given, directory};
 use cfb_codecs::direntry::DirEntry;
-use cfb_copy_sizes::needs::is_too_large;
+use cfb_copy_sizes::needs::{check_room, is_too_large};
 use cfb_format::color::Color::Black;
 use cfb_format::consts::NO_STREAM as NONE;
 use cfb_format::error::Error;
@@ -77,5 +77,24 @@ fn objects_need(alloc: Global, (order, version, sectors): &Row) -> Result<bool, 
 fn several_objects(rt: HostRuntime) {
     for (number, row) in ROWS.iter().enumerate() {
         check(&rt, &objects_need(rt.alloc(), row), number);
+    }
+}
+
+/// A version, and the length of the longest stream that a file of it has room for beside the root: with
+/// it, its directory sector, the FAT's and the DIFAT's each number of a sector is taken.
+const LONGEST: [(Version, u64); 2] = [(V3, 4_261_148_649 * 512), (V4, 4_290_768_885 * 4096)];
+
+fn room_ends(alloc: Global, (version, len): &(Version, u64)) -> Result<bool, Error> {
+    let longest = directory(alloc, &[ROOT, ("", Stream, Black, [NONE; 3], *len)])?;
+    let longer = ("", Stream, Black, [NONE; 3], len.saturating_add(1));
+    let past = directory(alloc, &[ROOT, longer])?;
+    check_room(&longest, &[1], *version)?;
+    Ok(matches!(check_room(&past, &[1], *version), Err(Error::Full)))
+}
+
+#[test]
+fn room_for_one_stream(rt: HostRuntime) {
+    for (number, row) in LONGEST.iter().enumerate() {
+        check(&rt, &room_ends(rt.alloc(), row), number);
     }
 }

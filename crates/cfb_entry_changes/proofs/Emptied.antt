@@ -21,9 +21,9 @@ use Rattle.cfb_objects.proofs.Same.{tree-stays}
 use Rattle.cfb_entry_changes.specs.Standing.{StreamsStand, WritesEntries}
 use Rattle.cfb_entry_changes.specs.Clearing.{ClearsStorage, WritesClearing}
 use Rattle.cfb_content.proofs.SnugMini.{kept-is-snug-mini}
-use Rattle.cfb_entry_changes.specs.Laws.{ClearedEmptiesTree, ClearedHasOutline, ClearedIsAllUsed, ClearedIsBalanced, ClearedIsChangeable, ClearedIsFound, ClearedIsSnug, ClearedIsSnugMini, ClearedKeepsRoot}
+use Rattle.cfb_entry_changes.specs.Laws.{ClearedEmptiesTree, ClearedHasOutline, ClearedLosesNone, ClearedIsBalanced, ClearedIsChangeable, ClearedIsFound, ClearedIsSnug, ClearedIsSnugMini, ClearedKeepsRoot}
 use Rattle.cfb_entry_changes.proofs.Cleared.{after, now-balanced, now-found, now-is, now-reaches, now-tree, kind-same, root-apart}
-use Rattle.cfb_entry_changes.proofs.Standing.{all-used-now, changeable-now, reads-as-before, snug-now}
+use Rattle.cfb_entry_changes.proofs.Standing.{none-lost-now, changeable-now, reads-as-before, snug-now}
 use Rattle.cfb_entry_changes.proofs.Trees.{entries-become}
 use Rattle.cfb_format.proofs.Members.{Contains-or}
 
@@ -118,11 +118,11 @@ cleared-is-changeable v old new top w =
     let is = w.clears.storage.is in
     changeable-now v old new o (left old new top w.clears o is) (λ k. k) (writes v old new top w) is (new_is old new top w.clears o is) (stands-still old new top w.clears o is)
 
-pub cleared-is-all-used : ClearedIsAllUsed
-cleared-is-all-used v old new top w =
+pub cleared-loses-none : ClearedLosesNone
+cleared-loses-none v old new top w =
     let o = w.clears.storage.outline in
     let is = w.clears.storage.is in
-    all-used-now v old new o (left old new top w.clears o is) (λ k. k) (writes v old new top w) is (new_is old new top w.clears o is) (stands-still old new top w.clears o is)
+    none-lost-now v old new o (left old new top w.clears o is) (λ k. k) (writes v old new top w) is (new_is old new top w.clears o is) (stands-still old new top w.clears o is)
 
 pub cleared-is-snug : ClearedIsSnug
 cleared-is-snug v old new top w =

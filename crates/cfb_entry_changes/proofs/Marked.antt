@@ -31,8 +31,8 @@ use Rattle.cfb_content.proofs.SnugMini.{kept-is-snug-mini}
 use Rattle.cfb_objects.proofs.Balance.{fields-keep-balance}
 use Rattle.cfb_entry_changes.specs.Standing.{SameContent, StreamsStand, WritesEntries}
 use Rattle.cfb_entry_changes.specs.Marking.{GivesFields, MarksEntry, WritesFields}
-use Rattle.cfb_entry_changes.specs.Laws.{MarkedChangesTree, MarkedHasOutline, MarkedIsAllUsed, MarkedIsBalanced, MarkedIsChangeable, MarkedIsFound, MarkedIsSnug, MarkedIsSnugMini, MarkedKeepsRoot}
-use Rattle.cfb_entry_changes.proofs.Standing.{all-used-now, changeable-now, reads-as-before, snug-now}
+use Rattle.cfb_entry_changes.specs.Laws.{MarkedChangesTree, MarkedHasOutline, MarkedLosesNone, MarkedIsBalanced, MarkedIsChangeable, MarkedIsFound, MarkedIsSnug, MarkedIsSnugMini, MarkedKeepsRoot}
+use Rattle.cfb_entry_changes.proofs.Standing.{none-lost-now, changeable-now, reads-as-before, snug-now}
 use Rattle.cfb_entry_changes.proofs.Trees.{entries-become}
 
 module _ (old new : MiniState) (i : ℕ) (fields : Fields) (t : MarksEntry old new i fields) where
@@ -155,9 +155,9 @@ pub marked-is-changeable : MarkedIsChangeable
 marked-is-changeable v old new i fields o is w =
     changeable-now v old new o o (λ k. k) (writes v old new i fields w) is (new_is old new i fields w.marked o is) (stands old new i fields w.marked o is)
 
-pub marked-is-all-used : MarkedIsAllUsed
-marked-is-all-used v old new i fields o is w =
-    all-used-now v old new o o (λ k. k) (writes v old new i fields w) is (new_is old new i fields w.marked o is) (stands old new i fields w.marked o is)
+pub marked-loses-none : MarkedLosesNone
+marked-loses-none v old new i fields o is w =
+    none-lost-now v old new o o (λ k. k) (writes v old new i fields w) is (new_is old new i fields w.marked o is) (stands old new i fields w.marked o is)
 
 pub marked-is-snug : MarkedIsSnug
 marked-is-snug v old new i fields o is w =

@@ -12,7 +12,7 @@ use Rattle.cfb_format.specs.Reading.{IsOutline, Outline, stream_numbers}
 use Rattle.cfb_format.specs.Siblings.{entry_at}
 use Rattle.cfb_format.specs.Soundness.{IsSound, used_mini_sectors, used_sectors}
 use Rattle.cfb_entry_changes.specs.cfb_tables.Owners.{Uses}
-use Rattle.cfb_entry_changes.proofs.cfb_tables.UseLemmas.{nothing-loose, uses-kept}
+use Rattle.cfb_entry_changes.proofs.cfb_tables.UseLemmas.{uses-kept}
 use Rattle.cfb_entry_changes.specs.cfb_alloc.Agreement.{WordsAgree}
 use Rattle.cfb_entry_changes.specs.cfb_siblings.Children.{ButLinks}
 use Rattle.cfb_entry_changes.specs.cfb_sound_changes.Kept.{ShowsSoundness}
@@ -20,11 +20,12 @@ use Rattle.cfb_entry_changes.proofs.cfb_sound_changes.Kept.{used-sound}
 use Rattle.cfb_entry_changes.specs.cfb_mini_sectors.State.{MiniState, bytes_of, cases_of, content_of, entries_of, parts_of, reading_of, tables_in}
 use Rattle.cfb_content.specs.Contents.{IsSnug, len_of, parts_with}
 use Rattle.cfb_content.proofs.Apart.{content-is, sound-at, version-is}
+use Rattle.cfb_content.proofs.Lost.{changes-lose-none}
 use Rattle.cfb_content.proofs.Owned.{empty-owns-nothing}
 use Rattle.cfb_content.proofs.Readable.{kept-is-readable}
 use Rattle.cfb_content.proofs.Snug.{empty-is-snug, kept-is-snug}
 use Rattle.cfb_entry_changes.specs.Putting.{WritesObject}
-use Rattle.cfb_entry_changes.specs.InsertionLaws.{PutIsAllUsed, PutIsChangeable, PutIsSnug}
+use Rattle.cfb_entry_changes.specs.InsertionLaws.{PutLosesNone, PutIsChangeable, PutIsSnug}
 use Rattle.cfb_entry_changes.proofs.Entries.{kept-links, len-is, streams}
 use Rattle.cfb_entry_changes.proofs.Streams.{content-kept, minis-change, sectors-change, uses}
 
@@ -103,16 +104,19 @@ put-is-changeable v old new parent n name kind moment writes = record {
   sound = λ h after is_h new_is. sound-now v old new parent n name kind moment writes after new_is h is_h;
 }
 
-pub put-is-all-used : PutIsAllUsed
-put-is-all-used v old new parent n name kind moment writes all =
+pub put-loses-none : PutLosesNone
+put-loses-none v old new parent n name kind moment writes after new_is =
     let o = writes.put.storage.outline in
-    let is = writes.put.storage.is in
-    record {
-      sectors = λ after new_is. nothing-loose (tables_in old).fat (used_sectors (parts_with old o)) (tables_in new).fat (used_sectors (parts_with new after))
-          (sectors-change v old new parent n name kind moment writes o is after new_is) (all.sectors o is);
-      mini_sectors = λ after new_is. nothing-loose old.minifat (used_mini_sectors (parts_with old o)) new.minifat (used_mini_sectors (parts_with new after))
-          (minis-change v old new parent n name kind moment writes o is after new_is) (all.mini_sectors o is);
-    }
+    let is = writes.put.storage.is in (
+      o,
+      is,
+      record {
+        sectors = changes-lose-none (tables_in old).fat (used_sectors (parts_with old o)) (tables_in new).fat (used_sectors (parts_with new after))
+            (sectors-change v old new parent n name kind moment writes o is after new_is);
+        mini_sectors = changes-lose-none old.minifat (used_mini_sectors (parts_with old o)) new.minifat (used_mini_sectors (parts_with new after))
+            (minis-change v old new parent n name kind moment writes o is after new_is);
+      },
+    )
 
 pub put-is-snug : PutIsSnug
 put-is-snug v old new parent n name kind moment writes snug k now =

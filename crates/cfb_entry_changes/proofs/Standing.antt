@@ -13,8 +13,8 @@ use Rattle.cfb_format.specs.Reading.{IsOutline, Outline, stream_numbers}
 use Rattle.cfb_format.specs.Siblings.{entry_at}
 use Rattle.cfb_format.specs.Soundness.{IsSound, mini_stream_sectors, used_mini_sectors, used_sectors}
 use Rattle.cfb_format.proofs.Unique.{IsOutline-unique}
-use Rattle.cfb_entry_changes.specs.cfb_tables.Owners.{AllUsed, UseChanges, Uses, tally}
-use Rattle.cfb_entry_changes.proofs.cfb_tables.UseLemmas.{nothing-loose, uses-kept}
+use Rattle.cfb_entry_changes.specs.cfb_tables.Owners.{UseChanges, Uses, tally}
+use Rattle.cfb_entry_changes.proofs.cfb_tables.UseLemmas.{uses-kept}
 use Rattle.cfb_entry_changes.specs.cfb_alloc.Agreement.{WordsAgree}
 use Rattle.cfb_entry_changes.specs.cfb_soundness.Streams.{own_mini_sectors, own_sectors}
 use Rattle.cfb_entry_changes.specs.cfb_sound_changes.Grown.{GrowsBy}
@@ -24,9 +24,10 @@ use Rattle.cfb_entry_changes.proofs.cfb_sound_changes.Kept.{sound-used, used-sou
 use Rattle.cfb_entry_changes.proofs.cfb_sound_changes.MiniGrown.{used-minis-grow}
 use Rattle.cfb_entry_changes.specs.cfb_mini_sectors.State.{IsChangeable, MiniState, bytes_of, cases_of, content_of, entries_of, parts_of, reading_of, tables_in}
 use Rattle.cfb_entry_changes.proofs.cfb_mini_sectors.HeldMini.{held-mini-is-read}
-use Rattle.cfb_content.specs.Contents.{AreAllUsed, AreSnug, KeepsContent, len_of, mini_sectors_owned, parts_with, sectors_owned}
+use Rattle.cfb_content.specs.Contents.{AreSnug, KeepsContent, LosesNone, LosesNoneUnder, len_of, mini_sectors_owned, parts_with, sectors_owned}
 use Rattle.cfb_content.proofs.Apart.{content-is, held-header, sound-at, version-is}
 use Rattle.cfb_content.proofs.Kept.{keeps-then}
+use Rattle.cfb_content.proofs.Lost.{changes-lose-none}
 use Rattle.cfb_content.proofs.Outlines.{streams-once}
 use Rattle.cfb_content.proofs.Owned.{empty-owns-nothing}
 use Rattle.cfb_content.proofs.Readable.{kept-is-readable}
@@ -35,7 +36,7 @@ use Rattle.cfb_entry_changes.proofs.SameUse.{once-in-both, same-growth, same-tal
 use Rattle.cfb_entry_changes.proofs.Spared.{put-keeps-streams}
 use Rattle.cfb_entry_changes.proofs.Streams.{own-minis-stay, own-sectors-stay}
 use Rattle.cfb_entry_changes.specs.Standing.{SameContent, StreamsStand, WritesEntries}
-use Rattle.cfb_entry_changes.specs.Laws.{EntriesKeepStreams, StandingIsAllUsed, StandingIsChangeable, StandingIsSnug, StreamsAreKeptInTurn}
+use Rattle.cfb_entry_changes.specs.Laws.{EntriesKeepStreams, StandingLosesNone, StandingIsChangeable, StandingIsSnug, StreamsAreKeptInTurn}
 use Rattle.cfb_format.proofs.Members.{Contains-cases, Contains-here, Contains-nil, Contains-or, Contains-there, cons-distinct, distinct-cons, none_distinct, same_flat}
 
 -- ---- lists of numbers that stood elsewhere
@@ -230,15 +231,17 @@ module _ (v : Validation) (old new : MiniState) (o after : Outline) (from : ℕ 
     sound = λ h p is_h is_p. one-outline (λ (q : Outline). IsSound (bytes_of new) (reading_of h new q)) (sound-now v old new w o is after new_is from stand h is_h) p is_p;
   }
 
-  pub all-used-now : AreAllUsed old → AreAllUsed new
-  all-used-now all = record {
-    sectors = one-outline (λ (q : Outline). AllUsed (tables_in new).fat (used_sectors (parts_with new q)))
-        (nothing-loose (tables_in old).fat (used_sectors (parts_with old o)) (tables_in new).fat (used_sectors (parts_with new after))
-        (sectors-change v old new w o is after new_is from stand) (all.sectors o is));
-    mini_sectors = one-outline (λ (q : Outline). AllUsed new.minifat (used_mini_sectors (parts_with new q)))
-        (nothing-loose old.minifat (used_mini_sectors (parts_with old o)) new.minifat (used_mini_sectors (parts_with new after))
-        (minis-change v old new w o is after new_is from stand) (all.mini_sectors o is));
-  }
+  pub none-lost-now : LosesNone old new
+  none-lost-now p is_p = (
+    o,
+    is,
+    one-outline (λ (q : Outline). LosesNoneUnder old new o q) (record {
+      sectors = changes-lose-none (tables_in old).fat (used_sectors (parts_with old o)) (tables_in new).fat (used_sectors (parts_with new after))
+          (sectors-change v old new w o is after new_is from stand);
+      mini_sectors = changes-lose-none old.minifat (used_mini_sectors (parts_with old o)) new.minifat (used_mini_sectors (parts_with new after))
+          (minis-change v old new w o is after new_is from stand);
+    }) p is_p,
+  )
 
   pub snug-now : AreSnug old → AreSnug new
   snug-now all k stream =
@@ -252,8 +255,8 @@ module _ (v : Validation) (old new : MiniState) (o after : Outline) (from : ℕ 
 pub standing-is-changeable : StandingIsChangeable
 standing-is-changeable v old new o after from w is new_is stand = changeable-now v old new o after from w is new_is stand
 
-pub standing-is-all-used : StandingIsAllUsed
-standing-is-all-used v old new o after from w is new_is stand = all-used-now v old new o after from w is new_is stand
+pub standing-loses-none : StandingLosesNone
+standing-loses-none v old new o after from w is new_is stand = none-lost-now v old new o after from w is new_is stand
 
 pub standing-is-snug : StandingIsSnug
 standing-is-snug v old new o after from w is new_is stand = snug-now v old new o after from w is new_is stand

@@ -26,9 +26,9 @@ use Rattle.cfb_content.specs.Contents.{len_of}
 use Rattle.cfb_content.proofs.SnugMini.{kept-is-snug-mini}
 use Rattle.cfb_entry_changes.specs.Standing.{SameContent, StreamsStand, WritesEntries}
 use Rattle.cfb_entry_changes.specs.Taking.{TakesObject, WritesRemoval}
-use Rattle.cfb_entry_changes.specs.Laws.{TakenHasOutline, TakenIsAllUsed, TakenIsChangeable, TakenIsNotFound, TakenIsSnug, TakenIsSnugMini, TakenKeepsRoot, TakenLeavesTree, TakenStandsAt}
+use Rattle.cfb_entry_changes.specs.Laws.{TakenHasOutline, TakenLosesNone, TakenIsChangeable, TakenIsNotFound, TakenIsSnug, TakenIsSnugMini, TakenKeepsRoot, TakenLeavesTree, TakenStandsAt}
 use Rattle.cfb_entry_changes.proofs.Dropped.{object-is-removed}
-use Rattle.cfb_entry_changes.proofs.Standing.{all-used-now, changeable-now, reads-as-before, snug-now}
+use Rattle.cfb_entry_changes.proofs.Standing.{none-lost-now, changeable-now, reads-as-before, snug-now}
 use Rattle.cfb_entry_changes.proofs.Trees.{entries-become}
 
 -- entries that differ in links alone name one content
@@ -161,10 +161,10 @@ taken-is-changeable v old new parent name w =
     changeable-now v old new w.taken.storage.outline q.0 (stood_at old new parent name w.taken) (writes v old new parent name w) w.taken.storage.is q.1
     (stands old new parent name w.taken w.taken.storage.outline w.taken.storage.is q.0 q.1)
 
-pub taken-is-all-used : TakenIsAllUsed
-taken-is-all-used v old new parent name w =
+pub taken-loses-none : TakenLosesNone
+taken-loses-none v old new parent name w =
     let q = taken-has-outline old new parent name w.taken w.taken.storage.outline w.taken.storage.is in
-    all-used-now v old new w.taken.storage.outline q.0 (stood_at old new parent name w.taken) (writes v old new parent name w) w.taken.storage.is q.1
+    none-lost-now v old new w.taken.storage.outline q.0 (stood_at old new parent name w.taken) (writes v old new parent name w) w.taken.storage.is q.1
     (stands old new parent name w.taken w.taken.storage.outline w.taken.storage.is q.0 q.1)
 
 pub taken-is-snug : TakenIsSnug

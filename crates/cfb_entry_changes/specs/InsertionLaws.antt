@@ -16,7 +16,7 @@ use Rattle.cfb_entry_changes.specs.cfb_directory.State.{IsFullForEntry}
 use Rattle.cfb_entry_changes.specs.cfb_mini_sectors.State.{IsChangeable, MiniState, bytes_of, cases_of, entries_of, parts_of, root_len_of, table_of, tables_in}
 use Rattle.cfb_entry_changes.specs.cfb_mini_sectors.Steps.{IsSnugMini, KeepsMini}
 use Rattle.cfb_objects.specs.Laws.{BecomesTree}
-use Rattle.cfb_content.specs.Contents.{AreAllUsed, KeepsContent, AreSnug}
+use Rattle.cfb_content.specs.Contents.{AreSnug, KeepsContent, LosesNone}
 use Rattle.cfb_entry_changes.specs.cfb_trees.Balance.{StayBalanced}
 use Rattle.cfb_entry_changes.specs.Putting.{IsNewObject, PutsObject, WritesObject}
 
@@ -78,10 +78,10 @@ abbrev pub PutIsChangeable : Type 0
 PutIsChangeable = (validation : Validation) (old new : MiniState) (parent n : ℕ) (name : List ℕ) (kind : ObjType) (moment : ℕ)
     → WritesObject validation old new parent n name kind moment → IsChangeable validation new
 
--- and nothing is loose, if nothing was
-abbrev pub PutIsAllUsed : Type 0
-PutIsAllUsed = (validation : Validation) (old new : MiniState) (parent n : ℕ) (name : List ℕ) (kind : ObjType) (moment : ℕ)
-    → WritesObject validation old new parent n name kind moment → AreAllUsed old → AreAllUsed new
+-- and nothing is lost
+abbrev pub PutLosesNone : Type 0
+PutLosesNone = (validation : Validation) (old new : MiniState) (parent n : ℕ) (name : List ℕ) (kind : ObjType) (moment : ℕ)
+    → WritesObject validation old new parent n name kind moment → LosesNone old new
 
 -- and each stream has exactly what its length needs, if each had
 abbrev pub PutIsSnug : Type 0

@@ -20,7 +20,7 @@ use Rattle.cfb_entry_changes.specs.cfb_mini_sectors.Steps.{IsSnugMini}
 use Rattle.cfb_objects.specs.Changes.{ContentsStay}
 use Rattle.cfb_objects.specs.Laws.{BecomesTree}
 use Rattle.cfb_objects.specs.Objects.{tree_from}
-use Rattle.cfb_content.specs.Contents.{AreAllUsed, AreSnug, KeepsContent, MovesContent}
+use Rattle.cfb_content.specs.Contents.{AreSnug, KeepsContent, LosesNone, MovesContent}
 use Rattle.cfb_entry_changes.specs.Standing.{StandStill, StreamsStand, WritesEntries}
 use Rattle.cfb_entry_changes.specs.Kept.{AllStayBalanced, AllStayBalancedBut, FindsAllBut, FindsTheSame}
 use Rattle.cfb_entry_changes.specs.Taking.{TakesObject, WritesRemoval}
@@ -47,10 +47,10 @@ abbrev pub StandingIsChangeable : Type 0
 StandingIsChangeable = (validation : Validation) (old new : MiniState) (o after : Outline) (from : ℕ → ℕ) → WritesEntries validation old new
     → IsOutline (cases_of old) (entries_of old) o → IsOutline (cases_of new) (entries_of new) after → StreamsStand old new o after from → IsChangeable validation new
 
--- and nothing is loose, if nothing was
-abbrev pub StandingIsAllUsed : Type 0
-StandingIsAllUsed = (validation : Validation) (old new : MiniState) (o after : Outline) (from : ℕ → ℕ) → WritesEntries validation old new
-    → IsOutline (cases_of old) (entries_of old) o → IsOutline (cases_of new) (entries_of new) after → StreamsStand old new o after from → AreAllUsed old → AreAllUsed new
+-- and nothing is lost
+abbrev pub StandingLosesNone : Type 0
+StandingLosesNone = (validation : Validation) (old new : MiniState) (o after : Outline) (from : ℕ → ℕ) → WritesEntries validation old new
+    → IsOutline (cases_of old) (entries_of old) o → IsOutline (cases_of new) (entries_of new) after → StreamsStand old new o after from → LosesNone old new
 
 -- and each has exactly the sectors that its length needs, if each had
 abbrev pub StandingIsSnug : Type 0
@@ -92,12 +92,12 @@ TakenIsBalanced = (old new : MiniState) (parent : ℕ) (name : List ℕ) (taken 
 
 -- ---- in the file
 
--- the file can be changed again, and nothing is loose, if nothing was
+-- the file can be changed again, and nothing is lost
 abbrev pub TakenIsChangeable : Type 0
 TakenIsChangeable = (validation : Validation) (old new : MiniState) (parent : ℕ) (name : List ℕ) → WritesRemoval validation old new parent name → IsChangeable validation new
 
-abbrev pub TakenIsAllUsed : Type 0
-TakenIsAllUsed = (validation : Validation) (old new : MiniState) (parent : ℕ) (name : List ℕ) → WritesRemoval validation old new parent name → AreAllUsed old → AreAllUsed new
+abbrev pub TakenLosesNone : Type 0
+TakenLosesNone = (validation : Validation) (old new : MiniState) (parent : ℕ) (name : List ℕ) → WritesRemoval validation old new parent name → LosesNone old new
 
 abbrev pub TakenIsSnug : Type 0
 TakenIsSnug = (validation : Validation) (old new : MiniState) (parent : ℕ) (name : List ℕ) → WritesRemoval validation old new parent name → AreSnug old → AreSnug new
@@ -133,12 +133,12 @@ ClearedKeepsRoot = (old new : MiniState) (top : ℕ) → ClearsStorage old new t
 abbrev pub ClearedIsBalanced : Type 0
 ClearedIsBalanced = (old new : MiniState) (top : ℕ) → ClearsStorage old new top → AllStayBalanced old new
 
--- the file can be changed again, and nothing is loose, if nothing was
+-- the file can be changed again, and nothing is lost
 abbrev pub ClearedIsChangeable : Type 0
 ClearedIsChangeable = (validation : Validation) (old new : MiniState) (top : ℕ) → WritesClearing validation old new top → IsChangeable validation new
 
-abbrev pub ClearedIsAllUsed : Type 0
-ClearedIsAllUsed = (validation : Validation) (old new : MiniState) (top : ℕ) → WritesClearing validation old new top → AreAllUsed old → AreAllUsed new
+abbrev pub ClearedLosesNone : Type 0
+ClearedLosesNone = (validation : Validation) (old new : MiniState) (top : ℕ) → WritesClearing validation old new top → LosesNone old new
 
 abbrev pub ClearedIsSnug : Type 0
 ClearedIsSnug = (validation : Validation) (old new : MiniState) (top : ℕ) → WritesClearing validation old new top → AreSnug old → AreSnug new
@@ -173,14 +173,14 @@ MarkedIsFound = (old new : MiniState) (i : ℕ) (fields : Fields) → MarksEntry
 abbrev pub MovedIsFound : Type 0
 MovedIsFound = (old new : MiniState) (i : ℕ) → cases_of new ≡ cases_of old → MovesContent old new i → FindsTheSame old new
 
--- the file can be changed again, and nothing is loose, if nothing was
+-- the file can be changed again, and nothing is lost
 abbrev pub MarkedIsChangeable : Type 0
 MarkedIsChangeable = (validation : Validation) (old new : MiniState) (i : ℕ) (fields : Fields) (o : Outline) → IsOutline (cases_of old) (entries_of old) o
     → WritesFields validation old new i fields → IsChangeable validation new
 
-abbrev pub MarkedIsAllUsed : Type 0
-MarkedIsAllUsed = (validation : Validation) (old new : MiniState) (i : ℕ) (fields : Fields) (o : Outline) → IsOutline (cases_of old) (entries_of old) o
-    → WritesFields validation old new i fields → AreAllUsed old → AreAllUsed new
+abbrev pub MarkedLosesNone : Type 0
+MarkedLosesNone = (validation : Validation) (old new : MiniState) (i : ℕ) (fields : Fields) (o : Outline) → IsOutline (cases_of old) (entries_of old) o
+    → WritesFields validation old new i fields → LosesNone old new
 
 abbrev pub MarkedIsSnug : Type 0
 MarkedIsSnug = (validation : Validation) (old new : MiniState) (i : ℕ) (fields : Fields) (o : Outline) → IsOutline (cases_of old) (entries_of old) o

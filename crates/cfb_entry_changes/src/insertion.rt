@@ -1,6 +1,6 @@
 //! What a new object in the directory makes of a file. None of these functions does anything: each has a law as its contract.
 ghost use Rattle.cfb_entry_changes.specs.Balance.{InsertionKeepsBalance};
-ghost use Rattle.cfb_entry_changes.specs.InsertionLaws.{PutHasOutline, PutIsAllUsed, PutIsBalanced, PutIsChangeable, PutIsExact, PutObjectIsFound, PutIsNew, PutKeepsRoot, PutKeepsStreams, PutGrowsTightly, PutStorageJoinsTree, PutStreamJoinsTree, FullForEntryIsFull, PutIsSnug, PutIsSnugMini};
+ghost use Rattle.cfb_entry_changes.specs.InsertionLaws.{PutHasOutline, PutLosesNone, PutIsBalanced, PutIsChangeable, PutIsExact, PutObjectIsFound, PutIsNew, PutKeepsRoot, PutKeepsStreams, PutGrowsTightly, PutStorageJoinsTree, PutStreamJoinsTree, FullForEntryIsFull, PutIsSnug, PutIsSnugMini};
 
 /// The new object is one of the tree, empty and of its kind, and stands at its names; the mini stream keeps its length (MS-CFB 2.6).
 pub fn new_objects_are_in_the_tree()
@@ -15,11 +15,12 @@ pub fn insertions_keep_streams()
     ensures { PutKeepsStreams }
 {}
 
-/// A sound file is sound again: what the directory took had been free, and the new object uses nothing. Nothing is loose in it and its
-/// tables are exact and its chains as long as they need to be, if it was so before, and where the file went on none of its sectors is free.
+/// A sound file is sound again: what the directory took had been free, and the new object uses nothing. Nothing is lost in it that
+/// was not lost before, its tables are exact and its chains as long as they need to be, if they were, and where the file went on none of its
+/// sectors is free.
 pub fn insertions_keep_files_sound()
     ensures changeable { PutIsChangeable }
-    ensures all_used { PutIsAllUsed }
+    ensures loses_none { PutLosesNone }
     ensures exact { PutIsExact }
     ensures snug { PutIsSnug }
     ensures snug_mini { PutIsSnugMini }

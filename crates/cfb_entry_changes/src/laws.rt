@@ -1,15 +1,15 @@
 //! What changes of entries make of a file. None of these functions does anything: each has a law as
 //! its contract.
-ghost use Rattle.cfb_entry_changes.specs.Laws.{ClearedEmptiesTree, ClearedHasOutline, ClearedIsAllUsed, ClearedIsBalanced, ClearedIsChangeable, ClearedIsFound, ClearedIsSnug, ClearedIsSnugMini, ClearedKeepsRoot, EntriesKeepStreams, MarkedChangesTree, MarkedHasOutline, MarkedIsAllUsed, MarkedIsBalanced, MarkedIsChangeable, MarkedIsFound, MarkedIsSnug, MarkedIsSnugMini, MarkedKeepsRoot, MovedIsFound, ObjectIsRemoved, StandingIsAllUsed, StandingIsChangeable, StandingIsSnug, StreamsAreKeptInTurn, TakenHasOutline, TakenIsAllUsed, TakenIsBalanced, TakenIsChangeable, TakenIsNotFound, TakenIsSnug, TakenIsSnugMini, TakenKeepsRoot, TakenLeavesTree, TakenStandsAt};
+ghost use Rattle.cfb_entry_changes.specs.Laws.{ClearedEmptiesTree, ClearedHasOutline, ClearedLosesNone, ClearedIsBalanced, ClearedIsChangeable, ClearedIsFound, ClearedIsSnug, ClearedIsSnugMini, ClearedKeepsRoot, EntriesKeepStreams, MarkedChangesTree, MarkedHasOutline, MarkedLosesNone, MarkedIsBalanced, MarkedIsChangeable, MarkedIsFound, MarkedIsSnug, MarkedIsSnugMini, MarkedKeepsRoot, MovedIsFound, ObjectIsRemoved, StandingLosesNone, StandingIsChangeable, StandingIsSnug, StreamsAreKeptInTurn, TakenHasOutline, TakenLosesNone, TakenIsBalanced, TakenIsChangeable, TakenIsNotFound, TakenIsSnug, TakenIsSnugMini, TakenKeepsRoot, TakenLeavesTree, TakenStandsAt};
 
 /// The contents of all streams stay where entries alone are written. Where each stream stands at an
-/// entry of its own again, a sound file is sound again, nothing is loose in it, if nothing was, and
-/// its chains are as long as they need to be, if they were.
+/// entry of its own again, a sound file is sound again, nothing is lost in it that was not lost
+/// before, and its chains are as long as they need to be, if they were.
 pub fn streams_stand_at_their_entries()
     ensures kept { EntriesKeepStreams }
     ensures in_turn { StreamsAreKeptInTurn }
     ensures changeable { StandingIsChangeable }
-    ensures all_used { StandingIsAllUsed }
+    ensures loses_none { StandingLosesNone }
     ensures snug { StandingIsSnug }
 {}
 
@@ -29,12 +29,11 @@ pub fn taken_objects_are_gone()
     ensures balance { TakenIsBalanced }
 {}
 
-/// A sound file is sound again, nothing is loose in it and its chains are as long as they need to
-/// be,
-/// if it was so before, and its bytes mean the tree without the object.
+/// A sound file is sound again, nothing is lost in it that was not lost before, its chains are as
+/// long as they need to be, if they were, and its bytes mean the tree without the object.
 pub fn removals_leave_the_meant_tree()
     ensures changeable { TakenIsChangeable }
-    ensures all_used { TakenIsAllUsed }
+    ensures loses_none { TakenLosesNone }
     ensures snug { TakenIsSnug }
     ensures snug_mini { TakenIsSnugMini }
     ensures tree { TakenLeavesTree }
@@ -49,12 +48,11 @@ pub fn cleared_storages_are_empty()
     ensures balance { ClearedIsBalanced }
 {}
 
-/// A sound file is sound again, nothing is loose in it and its chains are as long as they need to
-/// be,
-/// if it was so before, and its bytes mean the tree with nothing in that storage.
+/// A sound file is sound again, nothing is lost in it that was not lost before, its chains are as
+/// long as they need to be, if they were, and its bytes mean the tree with nothing in that storage.
 pub fn clearings_empty_the_meant_storage()
     ensures changeable { ClearedIsChangeable }
-    ensures all_used { ClearedIsAllUsed }
+    ensures loses_none { ClearedLosesNone }
     ensures snug { ClearedIsSnug }
     ensures snug_mini { ClearedIsSnugMini }
     ensures tree { ClearedEmptiesTree }
@@ -70,12 +68,11 @@ pub fn fields_keep_the_outline()
     ensures content { MovedIsFound }
 {}
 
-/// A sound file is sound again, nothing is loose in it and its chains are as long as they need to
-/// be,
-/// if it was so before, and its bytes mean the tree with these fields.
+/// A sound file is sound again, nothing is lost in it that was not lost before, its chains are as
+/// long as they need to be, if they were, and its bytes mean the tree with these fields.
 pub fn fields_change_the_meant_tree()
     ensures changeable { MarkedIsChangeable }
-    ensures all_used { MarkedIsAllUsed }
+    ensures loses_none { MarkedLosesNone }
     ensures snug { MarkedIsSnug }
     ensures snug_mini { MarkedIsSnugMini }
     ensures tree { MarkedChangesTree }

@@ -13,9 +13,14 @@ ghost use Rattle.cfb_compound_file.specs.Taken.{TakesOptions};
 use cfb_compound_file::compound_file::CompoundFile;
 use cfb_compound_file::options::OpenOptions;
 use cfb_files::file::{FileMedium, FileReadMedium};
-use cfb_format::error::Error;
+use cfb_format::error::{Detail, Error};
+use cfb_format::medium::MediumFault;
 use cfb_format::version::Version;
-use std::alloc::Allocator as Heap;
+use cfb_journal::medium::JournaledMedium;
+use cfb_journal::recovery::RecoveryError;
+use cfb_journal_file::disk::FileDisk;
+use cfb_journal_file::place::Place;
+use std::alloc::{Allocator as Heap, Global};
 use std::fs::File;
 use std::random::RandomSource;
 use std::rt::Files;
@@ -39,7 +44,7 @@ pub fn open<R: Files<File = File> + RandomSource, A: Heap + Clone>(
 }
 
 /// Opens the compound file at this path of the system, to be read and changed in place. The file is locked as long as it is open
-/// (`cfb_files::locking`).
+/// (`cfb_files::locking`). A change that is interrupted can leave it damaged: `open_journaled` opens it so that none can.
 ///
 /// # Errors
 ///
@@ -96,6 +101,39 @@ pub fn create_as<R: Files<File = File> + RandomSource, A: Heap + Clone>(
 {
     let medium = FileMedium::create(rt, path)?;
     seeded_options(rt).create_as(alloc, version, medium)
+}
+
+/// Opens the compound file at this path of the system, to be read and changed as a whole or not at all: what is changed between two calls of
+/// `flush` is in the file all or not, whatever the disk does. Letting the file go without `flush` takes back what was changed since the last
+/// one. A journal stands beside the file meanwhile, at the same path with `-journal` behind it; what an interrupted change left there is
+/// ended or taken back first. The file is locked as long as it is open.
+///
+/// # Errors
+///
+/// `Medium(Open)` where the file is not opened, and where another has it open to be changed; `InvalidData` where the journal is none that an
+/// interrupted change leaves; else as `CompoundFile::open`.
+pub fn open_journaled<'a, R: Files<File = File> + RandomSource>(
+    rt: &'a R,
+    alloc: Global,
+    path: &str,
+) -> Result<CompoundFile<JournaledMedium<FileDisk<'a, R>>>, Error>
+    ensures options { IfOk result (TakesOptions permissive_options) }
+    ensures unfailed { IfOk result (λ file. is_failed file ≡ false) }
+    ensures kinds { IfErr result IsOfOpening }
+{
+    let Ok(place) = Place::of(rt, alloc, path) else {
+        return Err(Error::Medium(MediumFault::Open));
+    };
+    let Ok(disk) = FileDisk::open(rt, place) else {
+        return Err(Error::Medium(MediumFault::Open));
+    };
+    match JournaledMedium::open(alloc, disk) {
+        Ok(medium) => seeded_options(rt).open_with(alloc, medium),
+        Err(RecoveryError::Medium(fault)) => Err(Error::Medium(fault)),
+        Err(RecoveryError::Damaged) => Err(Error::InvalidData(Detail::text(
+            "the journal beside the file is damaged",
+        ))),
+    }
 }
 
 /// The options that nobody has changed, with a seed from the system that nobody knows, or 0 where the system gives none: names can't be

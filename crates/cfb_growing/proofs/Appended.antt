@@ -9,7 +9,7 @@ use Rattle.cfb_format.specs.declared.version.Version.{Version}
 use Rattle.cfb_format.specs.Bytes.{sector_len}
 use Rattle.cfb_format.specs.Chain.{IsChain}
 use Rattle.cfb_format.specs.Content.{content_chain}
-use Rattle.cfb_format.specs.Full.{rounded_up}
+use Rattle.cfb_format.specs.Full.{free_count, rounded_up}
 use Rattle.cfb_format.specs.Medium.{written}
 use Rattle.cfb_format.specs.Siblings.{entry_at}
 use Rattle.cfb_format.proofs.ByteLemmas.{length-written, written_at, written_below}
@@ -33,7 +33,7 @@ use Rattle.cfb_growing.proofs.cfb_content.Readable.{large-read-by-places, large-
 use Rattle.cfb_growing.proofs.cfb_content.WholeStreams.{large-entry}
 use Rattle.cfb_resizing.specs.Turning.{Appends, LeavesNoMinis, LiesAlongSectors, MovesWith, PutsBehind, StandBehind, StopsOrBegun}
 use Rattle.cfb_resizing.proofs.Named.{WasNamed, mini-then}
-use Rattle.cfb_resizing.proofs.Tightness.{leaves-nothing, taken-stays-full}
+use Rattle.cfb_resizing.proofs.Tightness.{kept-minis-full, leaves-nothing, taken-stays-full}
 use Rattle.cfb_resizing.proofs.Turned.{change, had-large, had-small, large, len-is, owns-large, sector-byte, sized-large, tables-then, version-is}
 use Rattle.cfb_resizing.proofs.TurnedInSectors.{grow-owned, grow-whole, grown-in, grown-longer, made-here}
 use Rattle.cfb_resizing.proofs.PutBehind.{same-is-still}
@@ -141,6 +141,14 @@ appended-stays-full old new i start from stays (inl t) none =
 appended-stays-full old new i start from stays (inr t) none =
     taken-stays-full (tables_in t.mid) (tables_in new) (ends_of []) (gained [] t.ys) t.longer.taken
     (subst (λ (s : MiniState). NoneFree (tables_in s).fat) (sym (t.none (leaves-nothing old i (len_of old i + length from) t.was t.lies.large stays))) none)
+
+-- nor a mini sector
+pub appended-minis-full : (old new : MiniState) (i start : ℕ) (from : List ℕ) → LeavesNoMinis old i (len_of old i + length from) → PutsBehind old new i from start
+    → free_count old.minifat ≡ 0 → free_count new.minifat ≡ 0
+appended-minis-full old new i start from stays (inl t) none = kept-minis-full old new t.mini none
+appended-minis-full old new i start from stays (inr t) none =
+    kept-minis-full t.mid new t.mini
+    (subst (λ (s : MiniState). free_count s.minifat ≡ 0) (sym (t.none (leaves-nothing old i (len_of old i + length from) t.was t.lies.large stays))) none)
 
 -- ---- a chain that went on in the allocator that was lent
 

@@ -4,6 +4,7 @@ ghost use Rattle.std.specs.Prelude.{◌≡◌, ◌+◌, ◌<◌, ◌≤◌, ◌�
 ghost use Rattle.cfb_format.specs.declared.validate.Validation.{Validation};
 ghost use Rattle.cfb_format.specs.Bytes.{max_stream_len};
 ghost use Rattle.cfb_format.specs.Content.{mini_stream_cutoff};
+ghost use Rattle.cfb_format.specs.Full.{free_count};
 ghost use Rattle.cfb_format.specs.Medium.{written};
 ghost use Rattle.cfb_format.specs.Refused.{CountsFailure};
 ghost use Rattle.cfb_format.specs.Siblings.{entry_at};
@@ -134,6 +135,10 @@ fn append_in_sectors<F: Medium, A: Heap + Clone>(
         → (validation : Validation) → IsChangeable validation mini.old
         → LeavesNoMinis mini.old entry (len_of mini.old entry + length bytes.now)
         → NoneFree (tables_in mini.old).fat → OnOk result (NoneFree (tables_in mini.new).fat) }
+    ensures minis_full { IsTrue F.tells
+        → (validation : Validation) → IsChangeable validation mini.old
+        → LeavesNoMinis mini.old entry (len_of mini.old entry + length bytes.now)
+        → free_count mini.old.minifat ≡ 0 → OnOk result (free_count mini.new.minifat ≡ 0) }
     ensures refused { IsTrue F.tells → IfErr result (StopsOrBegun mini.old mini.new) }
     ensures still { OnErr result (IsStill mini.old mini.new
         ⊎ ((table_of mini.new).file.begun ≡ true)) }
@@ -266,6 +271,10 @@ pub(crate) fn append_long_all<F: Medium, A: Heap + Clone>(
         → (validation : Validation) → IsChangeable validation mini.old
         → LeavesNoMinis mini.old entry (len_of mini.old entry + length bytes.now)
         → NoneFree (tables_in mini.old).fat → OnOk result (NoneFree (tables_in mini.new).fat) }
+    ensures minis_full { IsTrue F.tells
+        → (validation : Validation) → IsChangeable validation mini.old
+        → LeavesNoMinis mini.old entry (len_of mini.old entry + length bytes.now)
+        → free_count mini.old.minifat ≡ 0 → OnOk result (free_count mini.new.minifat ≡ 0) }
     ensures refused { IsTrue F.tells → (validation : Validation) → HoldsMini validation mini.old
         → IfErr result (StopsOrIsFull mini.old mini.new) }
     ensures still { OnErr result (IsStill mini.old mini.new

@@ -2,6 +2,7 @@
 ghost use Rattle.std.specs.Prelude.{◌≡◌, ◌+◌, ◌<◌, ◌≤◌, ◌⊎◌, ◌||◌, length, max, take, true, IsTrue, IfOk, IfErr, OnOk, OnErr};
 ghost use Rattle.cfb_format.specs.declared.validate.Validation.{Validation};
 ghost use Rattle.cfb_format.specs.Bytes.{max_stream_len};
+ghost use Rattle.cfb_format.specs.Full.{free_count};
 ghost use Rattle.cfb_format.specs.Medium.{written};
 ghost use Rattle.cfb_format.specs.Refused.{CountsFailure, IsMemory};
 ghost use Rattle.cfb_format.specs.Siblings.{entry_at};
@@ -168,6 +169,10 @@ pub fn append_all<F: Medium, A: Heap + Clone>(
         → (validation : Validation) → IsChangeable validation mini.old
         → LeavesNoMinis mini.old entry (len_of mini.old entry + length bytes.now)
         → NoneFree (tables_in mini.old).fat → OnOk result (NoneFree (tables_in mini.new).fat) }
+    ensures minis_full { IsTrue F.tells
+        → (validation : Validation) → IsChangeable validation mini.old
+        → LeavesNoMinis mini.old entry (len_of mini.old entry + length bytes.now)
+        → free_count mini.old.minifat ≡ 0 → OnOk result (free_count mini.new.minifat ≡ 0) }
     ensures refused { IsTrue F.tells → (validation : Validation) → HoldsMini validation mini.old
         → IfErr result (StopsOrIsFull mini.old mini.new) }
     ensures still { OnErr result (IsStill mini.old mini.new

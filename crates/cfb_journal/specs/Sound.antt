@@ -42,3 +42,8 @@ logical blocks file = applied (frames_from 0 (contents blocks)) file
 pub record IsAllOrNothing (opened : View) (after : List ℕ) (v : View) : Type 0 where
   pub each : (before : List ℕ) → recovered opened.seen ≡ Some before
       → (c : Image) → v.left_since opened.moment c → (opened.may_leave c → ⊥) → RestoresEither before after c
+
+-- The same of a change that was let go: it stands for what the two files stood for as they were opened.
+pub record IsTakenBack (opened : View) (v : View) : Type 0 where
+  pub each : (before : List ℕ) → recovered opened.seen ≡ Some before
+      → (c : Image) → v.left_since opened.moment c → (opened.may_leave c → ⊥) → Restores before c

@@ -2,7 +2,7 @@
 ghost use Rattle.std.specs.Prelude.{◌≡◌, IsTrue, true, None, Some, IfOk, IsErrOf, OnOk};
 ghost use Rattle.cfb_journal.specs.Disk.{IsOpened};
 ghost use Rattle.cfb_journal.specs.Journal.{recovered};
-ghost use Rattle.cfb_journal.specs.Sound.{IsAllOrNothing, logical};
+ghost use Rattle.cfb_journal.specs.Sound.{IsAllOrNothing, IsTakenBack, logical};
 ghost use Rattle.cfb_journal.specs.States.{IsQuiet};
 ghost use Rattle.cfb_journal.specs.declared.recovery.RecoveryError.TheVariants.{Damaged};
 
@@ -54,6 +54,16 @@ impl<D: Disk> Transaction<D> {
         let mut medium = medium;
         let done = medium.flush();
         (done, medium.into_disk())
+    }
+
+    /// Lets the change go. Whatever a crash left since the disk was opened, opening it again shows
+    /// the file as it was; so it does if there is no crash.
+    pub fn roll_back(self) -> D
+        ensures same { result ≡ self.medium.disk }
+        ensures taken_back { IsTrue D.tells → IsTakenBack D.opened (D.view result) }
+    {
+        let Transaction { medium } = self;
+        medium.into_disk()
     }
 }
 

@@ -1,11 +1,11 @@
 //! Commands written as lines.
-ghost use Rattle.std.specs.Prelude.{◌≡◌, ◌<◌, ◌∷◌, ◌++◌, [], IfOk, OnOk, chars, flat_map, string_bytes};
+ghost use Rattle.std.specs.Prelude.{◌≡◌, ◌<◌, ◌∷◌, ◌++◌, [], IfOk, OnOk, chars, string_bytes};
 ghost use Rattle.std.specs.Fmt.{decimal};
 ghost use Rattle.cfb_format.specs.Timestamp.{unix_epoch};
 ghost use Rattle.cfb_lines.specs.cfb_rules.Calls.{create_storage, set_created_time, set_modified_time, set_state_bits, set_storage_clsid};
-ghost use Rattle.cfb_lines.specs.cfb_rules.Lists.{by_path, creates, on_stream as stream_command};
-ghost use Rattle.cfb_lines.specs.cfb_rules.StreamCalls.{write};
-ghost use Rattle.cfb_lines.specs.Fields.{hex_digit, hex_pair};
+ghost use Rattle.cfb_lines.specs.cfb_rules.Lists.{by_path};
+ghost use Rattle.cfb_lines.specs.declared.word.Word.TheVariants.{Put};
+ghost use Rattle.cfb_lines.specs.Fields.{AddsHex, hex_digit, hex_pair};
 ghost use Rattle.cfb_lines.specs.Writing.{AddsLines, IsHeadOf, IsLineOf, Lacks};
 
 use crate::word::Word;
@@ -165,10 +165,10 @@ fn push_pair<A: Allocator>(text: &mut String<A>, byte: u8) -> Result<(), AllocEr
     Ok(())
 }
 
-/// Appends two digits to the base 16 for each of these bytes.
-fn push_hex<A: Allocator>(text: &mut String<A>, bytes: &[u8]) -> Result<(), AllocError>
+/// Appends two digits to the base 16 for each of these bytes. Memory may be refused.
+pub fn push_hex<A: Allocator>(text: &mut String<A>, bytes: &[u8]) -> Result<(), AllocError>
     ensures { OnOk result
-        (string_bytes text.new ≡ string_bytes text.old ++ flat_map hex_pair bytes.now) }
+        (AddsHex (string_bytes text.old) (string_bytes text.new) bytes.now) }
 {
     for byte in bytes {
         push_pair(text, *byte)?;
@@ -176,19 +176,15 @@ fn push_hex<A: Allocator>(text: &mut String<A>, bytes: &[u8]) -> Result<(), Allo
     Ok(())
 }
 
-/// Appends the line of a stream with these bytes. Memory may be refused.
-pub fn push_content<A: Allocator + Clone>(
+/// Appends the line of a stream up to the digits of its bytes. `push_hex` appends these, in any number
+/// of pieces, and an end of the line follows them. Memory may be refused.
+pub fn push_content_head<A: Allocator + Clone>(
     alloc: &A,
     text: &mut String<A>,
     path: &str,
-    bytes: &[u8],
 ) -> Result<(), AllocError>
-    requires { Lacks 92 (chars path.now) }
-    ensures { OnOk result (AddsLines (string_bytes text.old) (string_bytes text.new)
-        (stream_command creates (chars path.now) (write bytes.now ∷ []) ∷ [])) }
+    ensures { OnOk result
+        (IsHeadOf (string_bytes text.old) (string_bytes text.new) Put (chars path.now)) }
 {
-    push_head(alloc, text, Word::Put, path)?;
-    push_hex(text, bytes)?;
-    text.push_str("\n")?;
-    Ok(())
+    push_head(alloc, text, Word::Put, path)
 }

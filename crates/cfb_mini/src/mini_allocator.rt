@@ -34,7 +34,7 @@ ghost use Rattle.cfb_mini.specs.cfb_directory.Growing.{ArePlaced};
 ghost use Rattle.cfb_mini.specs.cfb_directory.Inserting.{CanInsert, InsertsObject, KeepsSectorsIfFree, SparesRest, WritesDirectory};
 ghost use Rattle.cfb_mini.specs.cfb_slots.Slots.{IsLeastAbove};
 ghost use Rattle.cfb_mini.specs.cfb_directory.State.{HoldsDirectory, IsFullForEntry};
-ghost use Rattle.cfb_mini.specs.cfb_directory.Steps.{KeepsOtherSlots, KeepsSlotsBut, KeepsWholeHeader, StaysRedApart};
+ghost use Rattle.cfb_mini.specs.cfb_directory.Steps.{KeepsOtherSectors, KeepsOtherSlots, KeepsSlotsBut, KeepsWholeHeader, StaysRedApart};
 ghost use Rattle.cfb_mini.specs.cfb_directory.Steps.{IsDirectoryNotHeld};
 ghost use Rattle.cfb_mini.specs.cfb_mini_table.MiniTable.{AcceptsMini, IsTooFewMini, MiniGivesBack, TakesMini, read_entries};
 ghost use Rattle.cfb_mini.specs.cfb_mini_sectors.State.{MiniState, HoldsMini, bytes_of, cases_of, entries_of, mini_place, mini_stream_of, parts_of, root_len_of, table_of, tables_in, version_of};
@@ -892,6 +892,8 @@ impl<F: Medium, A: Heap + Clone> MiniAllocator<F, A> {
         ensures spares { IsTrue F.tells
             → Spares self.old.directory.sectors (table_of self.old) (table_of self.new) }
         ensures header { IsTrue F.tells → KeepsWholeHeader self.old.directory self.new.directory }
+        ensures others { IsTrue F.tells
+            → KeepsOtherSectors self.old.directory self.new.directory }
         ensures slots { IsTrue F.tells
             → (validation : Validation) → HoldsDirectory validation self.old.directory
             → KeepsOtherSlots parent self.old.directory self.new.directory }
@@ -1014,6 +1016,8 @@ impl<F: Medium, A: Heap> MiniAllocator<F, A> {
         ensures spares { IsTrue F.tells
             → Spares self.old.directory.sectors (table_of self.old) (table_of self.new) }
         ensures header { IsTrue F.tells → KeepsWholeHeader self.old.directory self.new.directory }
+        ensures others { IsTrue F.tells
+            → KeepsOtherSectors self.old.directory self.new.directory }
         ensures slots { IsTrue F.tells
             → (validation : Validation) → HoldsDirectory validation self.old.directory
             → KeepsSlotsBut number self.old.directory self.new.directory }

@@ -21,6 +21,7 @@ use Rattle.cfb_chains.specs.declared.chain.Numbers as numbers
 use Rattle.cfb_mini_chains.proofs.cfb_table_words.Runs.{placed_once}
 use Rattle.cfb_mini_chains.specs.cfb_soundness.Places.{mini_start}
 use Rattle.cfb_mini_sectors.specs.State.{MiniState, HoldsMini, bytes_of, mini_place, mini_stream_of, table_of, version_of}
+use Rattle.cfb_mini_sectors.specs.Pieces.{AreZeros}
 use Rattle.cfb_mini_sectors.specs.Steps.{IsZeroMini, SparesMini, mini_stream_needs}
 use Rattle.cfb_mini_sectors.proofs.MiniFrames.{held-places, place-stays, shorter-place, version-place}
 use Rattle.cfb_mini_chains.proofs.MiniStreamBegun.{begun-distinct, begun-whole}
@@ -178,6 +179,17 @@ zero_mini_stays old new at n m kept put cleared =
     record {
       there = omega (arith, place_same, size, long, there);
       zeros = λ i less. (λ j. byte_at (put j) (place_same j + i)) ∙ zero_under (bytes_of old) at n (mini_place old m + i) (cleared.zeros i less);
+    }
+
+-- and so are zeros that stand in the file, wherever they do
+pub zeros_stay : (a b : List ℕ) (at n p : ℕ) → b ≡ written a at (replicate n 0) → AreZeros a p → AreZeros b p
+zeros_stay a b at n p put cleared =
+    let size = ap (λ (xs : List ℕ). length xs) put in
+    let long = length-written a at (replicate n 0) in
+    let there = cleared.there in
+    record {
+      there = omega (arith, size, long, there);
+      zeros = λ i less. (λ j. byte_at (put j) (p + i)) ∙ zero_under a at n (p + i) (cleared.zeros i less);
     }
 
 -- ---- a lent mini chain

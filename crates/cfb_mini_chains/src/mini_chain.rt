@@ -12,6 +12,7 @@ ghost use Rattle.cfb_mini_chains.specs.cfb_sectors.Sectors.{IsRaised};
 ghost use Rattle.cfb_tables.specs.Clean.{IsUnnamed};
 ghost use Rattle.cfb_tables.specs.Listed.{gained};
 ghost use Rattle.cfb_tables.specs.Refused.{ChangeRefused, WalkRefused};
+ghost use Rattle.cfb_mini_sectors.specs.Pieces.{AreZeros};
 ghost use Rattle.cfb_mini_sectors.specs.State.{HoldsMini, bytes_of, mini_place, mini_stream_of, table_of};
 ghost use Rattle.cfb_mini_sectors.specs.Steps.{AreStartsUnnamed, IsInMiniStream, IsNotHeld, IsTooFewFor, IsZeroMini, KeepsHeader, SparesMini, StopsShort, StopsShortOrFull, system_sectors};
 ghost use Rattle.cfb_mini.specs.MiniSectors.{ChangesFileOnly, HasMiniByte, HasMiniSector, IsStill, KeepsDirectory, KeepsMiniBytesBut, LengthensMini, ShortensMini, place_in_mini_sectors};
@@ -384,10 +385,10 @@ impl<'a, F: Medium, A: Heap> MiniChain<'a, F, A> {
 }
 
 impl<'a, F: Medium, A: Heap> MiniChain<'a, F, A> {
-    ghost use Rattle.cfb_mini_chains.specs.LentMiniChain.{minialloc_of, state_of, start_sector_of, ids_of, len_of, position_of, missing_of, mini_sector_at, HasGained, HasKept, IsAsBefore, HasMiniSectorAt, OtherMiniSectorsStay, HasWritten, HasResized};
+    ghost use Rattle.cfb_mini_chains.specs.LentMiniChain.{minialloc_of, state_of, start_sector_of, ids_of, len_of, position_of, missing_of, mini_sector_at, HasGained, HasKept, IsAsBefore, HasMiniSectorAt, OtherMiniSectorsStay, HasWritten, HasResized, file_bytes_of};
 
-    /// Frees its mini sectors: then it has none. What is freed reads as zeros where the mini stream still has it; the sectors of the MiniFAT
-    /// and of the mini stream that are not needed then are given back. Where it had none nothing changes.
+    /// Frees its mini sectors: then it has none. Where they stood the file has zeros, also where the mini stream ends before; the sectors of
+    /// the MiniFAT and of the mini stream that are not needed then are given back. Where it had none nothing changes.
     ///
     /// It asks for no memory. `InvalidData` where the bytes do not hold the mini sectors, and `Medium` where the medium fails. Nothing has
     /// changed where it is refused, but after `Medium`: then no other mini sector in use has changed.
@@ -413,6 +414,10 @@ impl<'a, F: Medium, A: Heap> MiniChain<'a, F, A> {
             → HoldsMini validation (state_of self.old) → OnOk result ((m : ℕ)
             → Contains (ids_of self.old) m → IsInMiniStream (state_of self.new) m
             → IsZeroMini (state_of self.new) m) }
+        ensures erased { IsTrue F.tells → (validation : Validation)
+            → HoldsMini validation (state_of self.old) → OnOk result ((m : ℕ)
+            → Contains (ids_of self.old) m
+            → AreZeros (file_bytes_of self.new) (mini_place (state_of self.old) m)) }
         ensures spares { IsTrue F.tells → Spares (system_sectors (state_of self.old))
             (table_of (state_of self.old)) (table_of (state_of self.new)) }
         ensures mini_spares { IsTrue F.tells
@@ -541,6 +546,10 @@ impl<'a, F: Medium, A: Heap> MiniChain<'a, F, A> {
             → HoldsMini validation (state_of self.old) → OnOk result ((m : ℕ)
             → Contains (drop (rounded_up len mini_sector_len) (ids_of self.old)) m
             → IsInMiniStream (state_of self.new) m → IsZeroMini (state_of self.new) m) }
+        ensures erased { IsTrue F.tells → (validation : Validation)
+            → HoldsMini validation (state_of self.old) → OnOk result ((m : ℕ)
+            → Contains (drop (rounded_up len mini_sector_len) (ids_of self.old)) m
+            → AreZeros (file_bytes_of self.new) (mini_place (state_of self.old) m)) }
         ensures spares { IsTrue F.tells → Spares (system_sectors (state_of self.old))
             (table_of (state_of self.old)) (table_of (state_of self.new)) }
         ensures mini_spares { IsTrue F.tells
@@ -660,6 +669,10 @@ impl<'a, F: Medium, A: Heap> MiniChain<'a, F, A> {
             → HoldsMini validation (state_of self.old) → OnOk result ((m : ℕ)
             → Contains (drop count (ids_of self.old)) m
             → IsInMiniStream (state_of self.new) m → IsZeroMini (state_of self.new) m) }
+        ensures erased { IsTrue F.tells → (validation : Validation)
+            → HoldsMini validation (state_of self.old) → OnOk result ((m : ℕ)
+            → Contains (drop count (ids_of self.old)) m
+            → AreZeros (file_bytes_of self.new) (mini_place (state_of self.old) m)) }
         ensures spares { IsTrue F.tells → Spares (system_sectors (state_of self.old))
             (table_of (state_of self.old)) (table_of (state_of self.new)) }
         ensures mini_spares { IsTrue F.tells
@@ -771,6 +784,10 @@ fn shorten_list<F: Medium, A: Heap>(
         → (validation : Validation) → HoldsMini validation minialloc.old → OnOk result ((m : ℕ)
         → Contains (drop count ids.old.items) m
         → IsInMiniStream minialloc.new m → IsZeroMini minialloc.new m) }
+    ensures erased { IsTrue F.tells
+        → (validation : Validation) → HoldsMini validation minialloc.old → OnOk result ((m : ℕ)
+        → Contains (drop count ids.old.items) m
+        → AreZeros (bytes_of minialloc.new) (mini_place minialloc.old m)) }
     ensures spares { IsTrue F.tells
         → Spares (system_sectors minialloc.old) (table_of minialloc.old) (table_of minialloc.new) }
     ensures mini_spares { IsTrue F.tells

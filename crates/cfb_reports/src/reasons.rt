@@ -1,4 +1,9 @@
 //! Reasons why a file is not sound, as text.
+ghost use Rattle.std.specs.Prelude.{◌≡◌, ◌++◌, IfErr, OnOk, string_bytes};
+ghost use Rattle.cfb_format.specs.declared.error.Error.TheVariants.{Memory};
+ghost use Rattle.cfb_reports.specs.Names.{path_of};
+ghost use Rattle.cfb_reports.specs.Reasons.{both_text, break_text, coverage_text, cut_text, loose_text, past_text, reason_text, room_text, shared_text, size_in, user_text, word_text};
+
 use crate::names::{Names, unit_of};
 use cfb_flaws::flaw::{Break, Flaw};
 use cfb_flaws::owner::{Owner, Table};
@@ -15,7 +20,9 @@ pub(crate) struct Sizes {
 
 impl Sizes {
     /// How many numbers that table has.
-    fn of(self, table: Table) -> usize {
+    fn of(self, table: Table) -> usize
+        ensures { result ≡ size_in self table }
+    {
         match table {
             Table::Fat => self.sectors,
             Table::Minifat => self.mini_sectors,
@@ -29,15 +36,16 @@ pub(crate) fn push_flaw<A: Heap + Clone>(
     names: &Names<A>,
     sizes: Sizes,
     flaw: &Flaw,
-) -> Result<(), Error> {
+) -> Result<(), Error>
+    ensures reason { OnOk result (string_bytes text.new
+        ≡ string_bytes text.old ++ reason_text (path_of names.now) sizes flaw.now) }
+    ensures err { IfErr result (λ e. e ≡ Memory) }
+{
     match *flaw {
-        Flaw::TooFewWords { words, sectors } => write!(
-            text,
-            "the FAT has words for {words} sectors, the file has {sectors}"
-        )?,
+        Flaw::TooFewWords { words, sectors } => push_coverage(text, words, sectors),
         Flaw::ListedTwice(sector) => {
             push_shared(text, Table::Fat, sector, sector)?;
-            text.push_str("the FAT and by the FAT")?;
+            push_both(text, names, Owner::Fat, Owner::Fat)
         }
         Flaw::UsedTwice {
             table,
@@ -47,9 +55,7 @@ pub(crate) fn push_flaw<A: Heap + Clone>(
             other,
         } => {
             push_shared(text, table, first, last)?;
-            names.push_owner(text, owner)?;
-            text.push_str(" and by ")?;
-            names.push_owner(text, other)?;
+            push_both(text, names, owner, other)
         }
         Flaw::Broken {
             table,
@@ -57,36 +63,17 @@ pub(crate) fn push_flaw<A: Heap + Clone>(
             place,
         } => {
             names.push_owner(text, owner)?;
-            text.push_str(" breaks")?;
-            push_break(text, table, sizes.of(table), place)?;
+            push_break(text, table, sizes.of(table), place)
         }
-        _ => push_other(text, names, sizes, flaw)?,
-    }
-    Ok(())
-}
-
-/// Appends a reason of another kind. `Memory`.
-fn push_other<A: Heap + Clone>(
-    text: &mut String<A>,
-    names: &Names<A>,
-    sizes: Sizes,
-    flaw: &Flaw,
-) -> Result<(), Error> {
-    match *flaw {
-        Flaw::TooLittleRoom { room, named } => {
-            text.push_str("the mini stream has room for ")?;
-            write!(text, "{room} mini sectors, the MiniFAT names {named}")?;
-        }
+        Flaw::TooLittleRoom { room, named } => push_room(text, room, named),
         Flaw::Loose {
             table,
             number,
             next,
             owner,
         } => {
-            let unit = unit_of(table);
-            write!(text, "{unit} {number}, which nothing uses, goes on in ")?;
-            write!(text, "{unit} {next}, ")?;
-            push_user(text, names, owner)?;
+            push_loose(text, table, number, next)?;
+            push_user(text, names, owner)
         }
         Flaw::Cut {
             stream,
@@ -94,13 +81,22 @@ fn push_other<A: Heap + Clone>(
             len,
         } => {
             names.push_path(text, stream)?;
-            write!(text, ": {readable} of its {len} bytes can be read")?;
+            push_cut(text, readable, len)
         }
-        _ => {
-            let last = sizes.sectors.saturating_sub(1);
-            write!(text, "the FAT points past the last sector, {last}")?;
-        }
+        Flaw::PastFile => push_past_file(text, sizes),
     }
+}
+
+/// Appends that the FAT has too few words. `Memory`.
+fn push_coverage<A: Heap>(text: &mut String<A>, words: u64, sectors: u64) -> Result<(), Error>
+    ensures text { OnOk result (string_bytes text.new
+        ≡ string_bytes text.old ++ coverage_text words sectors) }
+    ensures err { IfErr result (λ e. e ≡ Memory) }
+{
+    write!(
+        text,
+        "the FAT has words for {words} sectors, the file has {sectors}"
+    )?;
     Ok(())
 }
 
@@ -110,7 +106,11 @@ fn push_shared<A: Heap>(
     table: Table,
     first: u32,
     last: u32,
-) -> Result<(), Error> {
+) -> Result<(), Error>
+    ensures text { OnOk result (string_bytes text.new
+        ≡ string_bytes text.old ++ shared_text table first last) }
+    ensures err { IfErr result (λ e. e ≡ Memory) }
+{
     let unit = unit_of(table);
     if first == last {
         write!(text, "{unit} {first} is used twice: by ")?;
@@ -120,20 +120,20 @@ fn push_shared<A: Heap>(
     Ok(())
 }
 
-/// Appends who has a number that another goes on in. `Memory`.
-fn push_user<A: Heap + Clone>(
+/// Appends two owners. `Memory`.
+fn push_both<A: Heap + Clone>(
     text: &mut String<A>,
     names: &Names<A>,
     owner: Owner,
-) -> Result<(), Error> {
-    match owner {
-        Owner::Free => text.push_str("which is free")?,
-        _ => {
-            text.push_str("used by ")?;
-            names.push_owner(text, owner)?;
-        }
-    }
-    Ok(())
+    other: Owner,
+) -> Result<(), Error>
+    ensures text { OnOk result (string_bytes text.new
+        ≡ string_bytes text.old ++ both_text (path_of names.now) owner other) }
+    ensures err { IfErr result (λ e. e ≡ Memory) }
+{
+    names.push_owner(text, owner)?;
+    text.push_str(" and by ")?;
+    names.push_owner(text, other)
 }
 
 /// Appends where a chain of a table with so many numbers breaks. `Memory`.
@@ -142,35 +142,120 @@ fn push_break<A: Heap>(
     table: Table,
     count: usize,
     place: Break,
-) -> Result<(), Error> {
+) -> Result<(), Error>
+    ensures text { OnOk result (string_bytes text.new
+        ≡ string_bytes text.old ++ break_text table count place) }
+    ensures err { IfErr result (λ e. e ≡ Memory) }
+{
     let unit = unit_of(table);
     match place {
         Break::BeginsAt(start) => {
-            text.push_str(": it begins at ")?;
-            push_word(text, count, start)?;
+            text.push_str(" breaks: it begins at ")?;
+            push_word(text, count, start)
         }
         Break::LeadsTo(from, to) => {
-            write!(text, ": {unit} {from} leads to ")?;
-            push_word(text, count, to)?;
+            write!(text, " breaks: {unit} {from} leads to ")?;
+            push_word(text, count, to)
         }
-        Break::LeadsBackTo(from, to) => write!(text, ": {unit} {from} leads to {to} again")?,
-        Break::Somewhere => (),
+        Break::LeadsBackTo(from, to) => {
+            write!(text, " breaks: {unit} {from} leads to {to} again")?;
+            Ok(())
+        }
+        Break::Somewhere => {
+            text.push_str(" breaks")?;
+            Ok(())
+        }
+    }
+}
+
+/// Appends a word of a table with so many numbers: a mark, or a number past the last. `Memory`.
+fn push_word<A: Heap>(text: &mut String<A>, count: usize, word: u32) -> Result<(), Error>
+    ensures text { OnOk result (string_bytes text.new
+        ≡ string_bytes text.old ++ word_text count word) }
+    ensures err { IfErr result (λ e. e ≡ Memory) }
+{
+    if word == FREE_SECTOR {
+        text.push_str("a free mark")?;
+    } else if word == FAT_SECTOR {
+        text.push_str("a FAT mark")?;
+    } else if word == DIFAT_SECTOR {
+        text.push_str("a DIFAT mark")?;
+    } else if word == INVALID_SECTOR {
+        text.push_str("an invalid mark")?;
+    } else if count == 0 {
+        write!(text, "{word}, and there is none")?;
+    } else {
+        let last = count - 1;
+        write!(text, "{word}, past the last, {last}")?;
     }
     Ok(())
 }
 
-/// Appends a word of a table with so many numbers: a mark, or a number past the last. `Memory`.
-fn push_word<A: Heap>(text: &mut String<A>, count: usize, word: u32) -> Result<(), Error> {
-    match word {
-        FREE_SECTOR => text.push_str("a free mark")?,
-        FAT_SECTOR => text.push_str("a FAT mark")?,
-        DIFAT_SECTOR => text.push_str("a DIFAT mark")?,
-        INVALID_SECTOR => text.push_str("an invalid mark")?,
-        _ if count == 0 => write!(text, "{word}, and there is none")?,
-        _ => {
-            let last = count.saturating_sub(1);
-            write!(text, "{word}, past the last, {last}")?;
-        }
+/// Appends that the mini stream has too little room. `Memory`.
+fn push_room<A: Heap>(text: &mut String<A>, room: u64, named: u64) -> Result<(), Error>
+    ensures text { OnOk result (string_bytes text.new
+        ≡ string_bytes text.old ++ room_text room named) }
+    ensures err { IfErr result (λ e. e ≡ Memory) }
+{
+    write!(
+        text,
+        "the mini stream has room for {room} mini sectors, the MiniFAT names {named}"
+    )?;
+    Ok(())
+}
+
+/// Appends what nothing uses and goes on. `Memory`.
+fn push_loose<A: Heap>(
+    text: &mut String<A>,
+    table: Table,
+    number: u64,
+    next: u32,
+) -> Result<(), Error>
+    ensures text { OnOk result (string_bytes text.new
+        ≡ string_bytes text.old ++ loose_text table number next) }
+    ensures err { IfErr result (λ e. e ≡ Memory) }
+{
+    let unit = unit_of(table);
+    write!(text, "{unit} {number}, which nothing uses, goes on in ")?;
+    write!(text, "{unit} {next}, ")?;
+    Ok(())
+}
+
+/// Appends who has a number that another goes on in. `Memory`.
+fn push_user<A: Heap + Clone>(
+    text: &mut String<A>,
+    names: &Names<A>,
+    owner: Owner,
+) -> Result<(), Error>
+    ensures text { OnOk result (string_bytes text.new
+        ≡ string_bytes text.old ++ user_text (path_of names.now) owner) }
+    ensures err { IfErr result (λ e. e ≡ Memory) }
+{
+    if owner.is_same(Owner::Free) {
+        text.push_str("which is free")?;
+        return Ok(());
     }
+    text.push_str("used by ")?;
+    names.push_owner(text, owner)
+}
+
+/// Appends how much can be read of a stream. `Memory`.
+fn push_cut<A: Heap>(text: &mut String<A>, readable: u64, len: u64) -> Result<(), Error>
+    ensures text { OnOk result (string_bytes text.new
+        ≡ string_bytes text.old ++ cut_text readable len) }
+    ensures err { IfErr result (λ e. e ≡ Memory) }
+{
+    write!(text, ": {readable} of its {len} bytes can be read")?;
+    Ok(())
+}
+
+/// Appends that the FAT points past the file. `Memory`.
+fn push_past_file<A: Heap>(text: &mut String<A>, sizes: Sizes) -> Result<(), Error>
+    ensures text { OnOk result (string_bytes text.new
+        ≡ string_bytes text.old ++ past_text sizes.sectors) }
+    ensures err { IfErr result (λ e. e ≡ Memory) }
+{
+    let last = sizes.sectors.saturating_sub(1);
+    write!(text, "the FAT points past the last sector, {last}")?;
     Ok(())
 }

@@ -1,7 +1,6 @@
 //! Runs of sectors that are used alike.
-ghost use Rattle.std.specs.Prelude.{◌≡◌, ◌↔◌, ◌<◌, ◌≤◌, ◌+◌, IsTrue, length, slice_index_or, IfOk, IfErr};
+ghost use Rattle.std.specs.Prelude.{◌≡◌, ◌↔◌, ◌<◌, ◌≤◌, ◌+◌, IsTrue, length, slice_get, IfOk, IfErr};
 ghost use Rattle.cfb_format.specs.declared.error.Error.TheVariants.{Memory};
-ghost use Rattle.cfb_reports.specs.declared.runs.Use.{Use as UseOf};
 ghost use Rattle.cfb_reports.specs.Runs.{AreRuns, Joined};
 
 use cfb_flaws::owner::Owner;
@@ -15,11 +14,11 @@ pub struct Use {
     pub second: Option<Owner>,
 }
 
-/// So many sectors from the first one on that are used alike.
+/// The sectors from the first one to the last one, which are used alike.
 #[derive(Clone, Copy, Debug, PartialEq, Eq, Drop)]
 pub struct Run {
     pub first: usize,
-    pub count: usize,
+    pub last: usize,
     pub used: Use,
 }
 
@@ -42,8 +41,7 @@ impl Use {
 /// Whether the sector behind this one is used alike.
 fn goes_on(uses: &[Use], i: usize) -> bool
     requires { i < length uses.now }
-    ensures { IsTrue result → (i + 1 < length uses.now)
-        × ((u : UseOf) → slice_index_or uses.now (i + 1) u ≡ slice_index_or uses.now i u) }
+    ensures { IsTrue result ↔ (slice_get uses.now (i + 1) ≡ slice_get uses.now i) }
 {
     if i + 1 >= uses.len() {
         return false;
@@ -71,7 +69,7 @@ fn next_run<A: Heap>(
     }
     runs.push(Run {
         first,
-        count: i + 1 - first,
+        last: i,
         used: uses[i],
     })?;
     Ok(i + 1)

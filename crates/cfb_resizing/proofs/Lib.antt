@@ -9,6 +9,7 @@ pub use Rattle.cfb_content.proofs.cfb_directory
 pub use Rattle.cfb_content.proofs.cfb_mini_sectors
 pub use Rattle.cfb_content.proofs.cfb_mini
 pub mod Named
+pub mod Erased
 pub mod Turned
 pub mod Padded
 pub mod RoomForMove

@@ -19,12 +19,13 @@ use Rattle.cfb_resizing.specs.cfb_chains.ChainPlaces.{place_along}
 use Rattle.cfb_resizing.proofs.cfb_chains.LentContent.{wanted_is}
 use Rattle.cfb_resizing.proofs.cfb_chains.OwnWrites.{enough_by}
 use Rattle.cfb_resizing.specs.cfb_mini_table.MiniTable.{MiniGivesBack}
-use Rattle.cfb_resizing.specs.cfb_mini_sectors.State.{HoldsMini, IsChangeable, MiniState, bytes_of, content_of, entries_of, table_of, tables_in, version_of}
+use Rattle.cfb_resizing.specs.cfb_mini_sectors.Pieces.{AreZeros}
+use Rattle.cfb_resizing.specs.cfb_mini_sectors.State.{HoldsMini, IsChangeable, MiniState, bytes_of, content_of, entries_of, mini_place, table_of, tables_in, version_of}
 use Rattle.cfb_resizing.specs.cfb_mini_sectors.Steps.{CanGiveRoomBack, IsInMiniStream, IsSnugMini, IsZeroMini, SparesMini, system_sectors}
 use Rattle.cfb_resizing.proofs.cfb_mini_sectors.HeldMini.{no-tables}
 use Rattle.cfb_resizing.proofs.cfb_mini_sectors.MiniFrames.{nothing-touched as no-mini-touched}
 use Rattle.cfb_resizing.specs.cfb_mini.MiniSectors.{IsStill}
-use Rattle.cfb_content.specs.Contents.{IsStreamOf, KeepsOthers, len_of, mini_place_along, mini_sectors_owned}
+use Rattle.cfb_content.specs.Contents.{IsStreamOf, KeepsOthers, len_of, mini_place_along, mini_sectors_owned, sector_of_mini}
 use Rattle.cfb_content.specs.Laws.{LacksNumbersFor}
 use Rattle.cfb_content.specs.Parts.{IsWholeMiniChain}
 use Rattle.cfb_content.specs.Room.{ComesFree, room_given}
@@ -134,7 +135,8 @@ module _ (v : Validation) (s new : MiniState) (i size count : ℕ) (list ids byt
     (len : length bytes ≡ len_of s i + length from) (got : (k : ℕ) → k < len_of s i → slice_index bytes k ≡ slice_index (bytes_of s) (mini_place_along s list k))
     (put : (k : ℕ) → k < length from → slice_index bytes (len_of s i + k) ≡ slice_index from k)
     (padded : IsPaddedAlong (length bytes) (count * sector_len (version_of s)) (λ k. k) (place_along (version_of s) ids) bytes (bytes_of new))
-    (wiped : (m : ℕ) → Contains list m → IsInMiniStream new m → IsZeroMini new m) where
+    (wiped : (m : ℕ) → Contains list m → IsInMiniStream new m → IsZeroMini new m)
+    (erased : (m : ℕ) → Contains list m → (Contains ids (sector_of_mini s m) → ⊥) → AreZeros (bytes_of new) (mini_place s m)) where
   owned : mini_sectors_owned s i ≡ list
   owned = owned-minis s i short list whole
 
@@ -185,6 +187,7 @@ module _ (v : Validation) (s new : MiniState) (i size count : ℕ) (list ids byt
     freed = subst (λ (l : List ℕ). MiniGivesBack [] l s.minifat carried.mid.minifat) (sym owned) carried.freed;
     snug = subst (λ (l : List ℕ). 0 < length l → IsSnugMini new) (sym owned) carried.snug;
     wiped = subst (λ (l : List ℕ). (m : ℕ) → Contains l m → IsInMiniStream new m → IsZeroMini new m) (sym owned) wiped;
+    erased = subst (λ (l : List ℕ). (m : ℕ) → Contains l m → (Contains ids (sector_of_mini s m) → ⊥) → AreZeros (bytes_of new) (mini_place s m)) (sym owned) erased;
     mini = carried.mini;
     longer = carried.longer;
     lies = lies;
@@ -206,6 +209,7 @@ moved-turns v s new i size start from none held t = inr (inr (inr (inr (inr (rec
   freed = t.freed;
   snug = t.snug;
   wiped = t.wiped;
+  erased = t.erased;
   mini = t.mini;
   longer = t.longer;
   lies = record {
@@ -304,8 +308,9 @@ module _ (s mid new : MiniState) (i size count start len l : ℕ) (list : List �
       → (HoldsMini v mid → GoesUnnamed mid list
       → IsPaddedAlong (length content) (count * sector_len (version_of mid)) (λ k. k) (place_along (version_of mid) ids) content (bytes_of new))
       → (HoldsMini v mid → GoesUnnamed mid list → (m : ℕ) → Contains list m → IsInMiniStream new m → IsZeroMini new m)
+      → (HoldsMini v mid → (m : ℕ) → Contains list m → (Contains ids (sector_of_mini mid m) → ⊥) → AreZeros (bytes_of new) (mini_place mid m))
       → MovesWith s new i size from (first_or_end ids)
-  move-moved ids content from listed first fits same same-first listed-is v change carried apart around chain long got put padded wiped =
+  move-moved ids content from listed first fits same same-first listed-is v change carried apart around chain long got put padded wiped erased =
       let named = unnamed v change in
       moved-with v s new i size count list ids content from change at short large fits there wanted
       ((subst (λ (m : MiniState). HoldsMini v m → CarriesToSectors count list ids m new) same carried) change.held)
@@ -317,3 +322,4 @@ module _ (s mid new : MiniState) (i size count start len l : ℕ) (list : List �
       ((subst (λ (m : MiniState). HoldsMini v m → GoesUnnamed m list
       → IsPaddedAlong (length content) (count * sector_len (version_of m)) (λ k. k) (place_along (version_of m) ids) content (bytes_of new)) same padded) change.held named)
       ((subst (λ (m : MiniState). HoldsMini v m → GoesUnnamed m list → (k : ℕ) → Contains list k → IsInMiniStream new k → IsZeroMini new k) same wiped) change.held named)
+      ((subst (λ (m : MiniState). HoldsMini v m → (k : ℕ) → Contains list k → (Contains ids (sector_of_mini m k) → ⊥) → AreZeros (bytes_of new) (mini_place m k)) same erased) change.held)

@@ -15,7 +15,7 @@ use Rattle.cfb_sectors.specs.Words.{RangeStays}
 use Rattle.cfb_tables.specs.Tables.{TableState, first_or_end}
 use Rattle.cfb_tables.proofs.ChainLemmas.{members-busy}
 use Rattle.cfb_resizing.specs.cfb_directory.Growing.{ArePlaced}
-use Rattle.cfb_resizing.specs.cfb_directory.Steps.{KeepsWholeHeader}
+use Rattle.cfb_resizing.specs.cfb_directory.Steps.{KeepsOtherSectors, KeepsWholeHeader}
 use Rattle.cfb_resizing.specs.cfb_alloc.Frame.{IsForeign, Spares}
 use Rattle.cfb_resizing.specs.cfb_alloc.ListedChain.{Shortens}
 use Rattle.cfb_format.specs.Full.{rounded_up}
@@ -107,6 +107,7 @@ pub record WasNamed (v : Validation) (old mid new : MiniState) (i : ℕ) : Type 
   pub others : KeepsOthers i old mid
   pub held : HoldsMini v mid
   pub spares : Spares mid.directory.sectors (table_of mid) (table_of new)
+  pub slots : KeepsOtherSectors mid.directory new.directory
   pub system : KeepsSystem mid new
   pub mini : KeepsMini mid new
   pub limits : KeepsLimits mid new

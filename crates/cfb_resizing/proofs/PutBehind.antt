@@ -7,6 +7,7 @@ use Rattle.cfb_format.specs.declared.validate.Validation.{Validation}
 use Rattle.cfb_format.specs.declared.version.Version.{Version}
 use Rattle.cfb_format.specs.declared.version.Version.TheVariants.{V3, V4}
 use Rattle.cfb_format.specs.Bytes.{max_stream_len}
+use Rattle.cfb_format.specs.Full.{free_count}
 use Rattle.cfb_format.specs.Medium.{written}
 use Rattle.cfb_resizing.specs.cfb_rules.StreamCalls.{resized}
 use Rattle.cfb_tables.specs.Changes.{NoneFree}
@@ -18,7 +19,7 @@ use Rattle.cfb_resizing.specs.cfb_mini_sectors.Held.{with_table}
 use Rattle.cfb_resizing.specs.cfb_mini.MiniSectors.{IsStill}
 use Rattle.cfb_resizing.proofs.cfb_mini.WholeFiles.{same-whole}
 use Rattle.cfb_content.specs.Changed.{MovesAlone, StaysTidy}
-use Rattle.cfb_content.specs.Contents.{AreAllUsed, IsNotChangeable, MovesContent, SizesChain, StopsStillOrBegun, dir_count_of}
+use Rattle.cfb_content.specs.Contents.{IsNotChangeable, LosesNone, MovesContent, SizesChain, StopsStillOrBegun, dir_count_of}
 use Rattle.cfb_content.proofs.Outlines.{same-entries-moved}
 use Rattle.cfb_resizing.specs.Turning.{KeepsTablesTight, StopsOrIsFull}
 use Rattle.cfb_resizing.proofs.cfb_rules.StreamBounds.{length_resized}
@@ -34,6 +35,9 @@ fits-u64 V4 n le = omega (arith, le)
 module _ (old new : MiniState) (rest : new ≡ with_table old (record (table_of old) { file = (table_of new).file })) where
   pub filed-tables : tables_in new ≡ tables_in old
   filed-tables = ap (λ (s : MiniState). tables_in s) rest
+
+  pub filed-minis-full : free_count old.minifat ≡ 0 → free_count new.minifat ≡ 0
+  filed-minis-full none = ap (λ (s : MiniState). free_count s.minifat) rest ∙ none
 
   pub filed-entries : entries_of new ≡ entries_of old
   filed-entries = ap (λ (s : MiniState). entries_of s) rest
@@ -63,8 +67,9 @@ module _ (old new : MiniState) (rest : new ≡ with_table old (record (table_of 
     directory = moves.directory;
   })
 
-  pub filed-used : AreAllUsed old → AreAllUsed new
-  filed-used used = subst AreAllUsed (sym rest) (record { sectors = used.sectors; mini_sectors = used.mini_sectors })
+  pub filed-loses-none : LosesNone old new
+  filed-loses-none = subst (λ (s : MiniState). LosesNone old s) (sym rest)
+      (λ after is. (after, is, record { sectors = λ i busy out. (busy, out); mini_sectors = λ i busy out. (busy, out) }))
 
   pub filed-tidy : (v : Validation) (before : MiniState) → HoldsMini v new → dir_count_of new ≡ dir_count_of old → length (bytes_of old) ≤ length (bytes_of new)
       → StaysTidy before old → StaysTidy before new

@@ -6,7 +6,7 @@ use Rattle.std.proofs.lemmas.List.Elements.{Contains-append_cases, Contains-appe
 use Rattle.cfb_format.specs.Bytes.{free_sector, words_per_sector}
 use Rattle.cfb_format.specs.Chain.{value}
 use Rattle.cfb_format.specs.Content.{is_large, mini_stream_cutoff}
-use Rattle.cfb_format.specs.Full.{rounded_up}
+use Rattle.cfb_format.specs.Full.{free_count, rounded_up}
 use Rattle.cfb_format.specs.Siblings.{entry_at}
 use Rattle.cfb_tables.specs.Changes.{NoneFree}
 use Rattle.cfb_tables.specs.Listed.{ends_of, gained}
@@ -127,6 +127,27 @@ turned-stays-full old new i size start le stays (inr (inr (inr (inr (inl t))))) 
 turned-stays-full old new i size start le stays (inr (inr (inr (inr (inr t))))) none =
     taken-stays-full (tables_in t.mid) (tables_in new) (ends_of []) (gained [] t.ys) t.longer.taken
     (subst (λ (s : MiniState). NoneFree (tables_in s).fat) (sym (t.none (leaves-nothing old i size t.was t.lies.large stays))) none)
+
+-- ---- nor a mini sector
+
+-- the same MiniFAT has as few that are free
+pub kept-minis-full : (old new : MiniState) → KeepsMini old new → free_count old.minifat ≡ 0 → free_count new.minifat ≡ 0
+kept-minis-full old new mini none = ap free_count mini.minifat ∙ none
+
+pub turned-minis-full : (old new : MiniState) (i size start : ℕ) → len_of old i ≤ size → LeavesNoMinis old i size → Turns old new i size start
+    → free_count old.minifat ≡ 0 → free_count new.minifat ≡ 0
+turned-minis-full old new i size start le stays (inl t) none = kept-minis-full old new t.mini none
+turned-minis-full old new i size start le stays (inr (inl t)) none = absurd (let fewer = t.fewer in omega (arith, fewer, le))
+turned-minis-full old new i size start le stays (inr (inr (inl t))) none = elim t.grown [
+  | inl (grows, takes) ↦ let left = takes.left in omega (arith, left, none)
+  | inr (same, system, mini) ↦ kept-minis-full old new mini none
+]
+turned-minis-full old new i size start le stays (inr (inr (inr (inl t)))) none = absurd (let fewer = t.fewer in omega (arith, fewer, le))
+turned-minis-full old new i size start le stays (inr (inr (inr (inr (inl t))))) none =
+    absurd (let large = leb-true 4096 (len_of old i) t.was in let small = t.lies.small in omega (arith, large, small, le))
+turned-minis-full old new i size start le stays (inr (inr (inr (inr (inr t))))) none =
+    kept-minis-full t.mid new t.mini
+    (subst (λ (s : MiniState). free_count s.minifat ≡ 0) (sym (t.none (leaves-nothing old i size t.was t.lies.large stays))) none)
 
 -- ---- sectors
 

@@ -10,7 +10,7 @@ use Rattle.cfb_format.specs.Bytes.{sector_len, sector_start}
 use Rattle.cfb_format.specs.Chain.{IsChain}
 use Rattle.cfb_format.specs.Content.{content_chain, is_large, mini_sector_len}
 use Rattle.cfb_format.specs.DirectoryEntry.{Entry}
-use Rattle.cfb_format.specs.Full.{rounded_up}
+use Rattle.cfb_format.specs.Full.{free_count, rounded_up}
 use Rattle.cfb_format.specs.Siblings.{entry_at}
 use Rattle.cfb_resizing.specs.cfb_rules.StreamCalls.{resized}
 use Rattle.cfb_sectors.specs.Sectors.{SectorStays}
@@ -25,7 +25,7 @@ use Rattle.cfb_resizing.specs.cfb_chains.ChainPlaces.{place_along}
 use Rattle.cfb_resizing.specs.cfb_mini_table.MiniTable.{MiniGivesBack, TakesMini}
 use Rattle.cfb_resizing.specs.cfb_mini_sectors.State.{HoldsMini, MiniState, bytes_of, content_of, entries_of, mini_stream_of, parts_of, tables_in, version_of, IsChangeable}
 use Rattle.cfb_resizing.specs.cfb_mini_sectors.Steps.{IsInMiniStream, IsZeroMini, IsSnugMini}
-use Rattle.cfb_content.specs.Contents.{SizesChain, WipesMinis, len_of, mini_place_along, mini_sectors_owned, sectors_owned, AreAllUsed}
+use Rattle.cfb_content.specs.Contents.{SizesChain, ErasesMinis, WipesMinis, len_of, mini_place_along, mini_sectors_owned, sector_of_mini, sectors_owned, AreAllUsed, LosesNone}
 use Rattle.cfb_content.specs.Laws.{StandsResized}
 use Rattle.cfb_content.specs.Uses.{ChangesContent, ChangesUse, Owns}
 use Rattle.cfb_content.specs.Changed.{FreesMini, StaysTidy, WasChanged}
@@ -38,6 +38,7 @@ use Rattle.cfb_content.proofs.WholeStreams.{no-sectors}
 use Rattle.cfb_resizing.specs.Turning.{LiesAlongSectors, LiesTurnedInMinis, LiesTurnedInSectors, Turns, TurnsByCut, TurnsByGrowth, TurnsByMiniCut, TurnsByMiniGrowth, TurnsLarge, TurnsSmall, ResizesContent, LeavesNoMinis}
 use Rattle.cfb_resizing.proofs.Named.{WasNamed, chain-foreign, mini-stays, mini-stays-there, mini-then, named-changes, settles-then, system-then}
 use Rattle.cfb_resizing.proofs.CarriedToSectors.{zeros-stay}
+use Rattle.cfb_resizing.proofs.Erased.{named-zeros}
 use Rattle.cfb_format.proofs.Members.{Contains-nil}
 use Rattle.cfb_format.proofs.Along.{next_start}
 use Rattle.cfb_resizing.proofs.cfb_chains.ChainContent.{rest_short}
@@ -60,6 +61,7 @@ pub record WasTurned (old new : MiniState) (i size : ℕ) : Type 0 where
   pub content : content_of new (entry_at (entries_of new) i) ≡ resized (content_of old (entry_at (entries_of old) i)) size
   pub sized : SizesChain old new i
   pub wiped : WipesMinis old new i
+  pub erased : ErasesMinis old new i
 
 -- then all is as it was promised
 pub turned-whole : (old new : MiniState) (i size : ℕ) → WasTurned old new i size → len_of new i ≡ size → length (content_of new (entry_at (entries_of new) i)) ≡ len_of new i
@@ -71,7 +73,7 @@ always-on-ok (Err e) p = tt
 
 -- what a step answers of each mode, it answers of all
 pub all-changed : {T E : Type 0} (r : Result T E) (old new : MiniState) (i : ℕ) → ((v : Validation) → IsChangeable v old → OnOk r (IsChangeable v new))
-    → ((v : Validation) → IsChangeable v old → AreAllUsed old → OnOk r (AreAllUsed new)) → ((v : Validation) → IsChangeable v old → OnOk r (SizesChain old new i))
+    → ((v : Validation) → IsChangeable v old → OnOk r (LosesNone old new)) → ((v : Validation) → IsChangeable v old → OnOk r (SizesChain old new i))
     → ((v : Validation) → IsChangeable v old → IsSnugMini old → IsSnugMini new) → ((v : Validation) → IsChangeable v old → FreesMini old new → IsSnugMini new)
     → ((v : Validation) → IsChangeable v old → OnOk r (StaysTidy old new)) → OnOk r (WasChanged old new i)
 all-changed (Ok x) old new i holds owned sized snug freed tidy =
@@ -81,10 +83,12 @@ all-changed (Err e) old new i holds owned sized snug freed tidy = tt
 pub all-resized : {T E : Type 0} (r : Result T E) (old new : MiniState) (i size : ℕ)
     → ((v : Validation) → IsChangeable v old → OnOk r (content_of new (entry_at (entries_of new) i) ≡ resized (content_of old (entry_at (entries_of old) i)) size))
     → ((v : Validation) → IsChangeable v old → OnOk r (WipesMinis old new i))
+    → ((v : Validation) → IsChangeable v old → OnOk r (ErasesMinis old new i))
     → ((v : Validation) → IsChangeable v old → len_of old i ≤ size → LeavesNoMinis old i size → NoneFree (tables_in old).fat → NoneFree (tables_in new).fat)
+    → ((v : Validation) → IsChangeable v old → len_of old i ≤ size → LeavesNoMinis old i size → free_count old.minifat ≡ 0 → free_count new.minifat ≡ 0)
     → OnOk r (ResizesContent old new i size)
-all-resized (Ok x) old new i size content wiped full = record { content = content; wiped = wiped; stays_full = full }
-all-resized (Err e) old new i size content wiped full = tt
+all-resized (Ok x) old new i size content wiped erased full minis = record { content = content; wiped = wiped; erased = erased; stays_full = full; minis_full = minis }
+all-resized (Err e) old new i size content wiped erased full minis = tt
 
 module _ (v : Validation) (old mid new : MiniState) (i size start : ℕ) (was : WasNamed v old mid new i) (held : HoldsMini v new)
     (named : entry_at (entries_of new) i ≡ record (entry_at (entries_of mid) i) { start_sector = start; stream_len = size }) where
@@ -118,6 +122,9 @@ module _ (v : Validation) (old mid new : MiniState) (i size start : ℕ) (was : 
 
   pub gave-none : is_large (entry_at (entries_of old) i) ≡ true → WipesMinis old new i
   gave-none b m c out inside = absurd (Contains-nil m (subst (λ (l : List ℕ). Contains l m) (large-no-mini old (entry_at (entries_of old) i) b) c))
+
+  pub left-none : is_large (entry_at (entries_of old) i) ≡ true → ErasesMinis old new i
+  left-none b m c out other = absurd (Contains-nil m (subst (λ (l : List ℕ). Contains l m) (large-no-mini old (entry_at (entries_of old) i) b) c))
 
   -- what the mini stream still has of it reads as zeros still
   gave-zeros : (m : ℕ) → IsInMiniStream new m → (IsInMiniStream mid m → IsZeroMini mid m) → IsZeroMini new m
@@ -189,10 +196,11 @@ module _ (v : Validation) (old mid new : MiniState) (i size start : ℕ) (was : 
       zeros = λ k le lt. sector-byte ys within k (omega (arith, lt, len-is)) ∙ lies.stands.zeros k le (omega (arith, lt, len-is));
     })
 
-    large-turned : ChangesUse old new → WipesMinis old new i → WasTurned old new i size
-    large-turned used wiped = record {
+    large-turned : ChangesUse old new → WipesMinis old new i → ErasesMinis old new i → WasTurned old new i size
+    large-turned used wiped erased = record {
       sized = sized-large ys within;
       wiped = wiped;
+      erased = erased;
       used = used;
       chain = owns-turned.chain;
       content = large-is-resized v old new i ys was.changeable was.stream (large ys within) owns-turned
@@ -248,10 +256,11 @@ module _ (v : Validation) (old mid new : MiniState) (i size start : ℕ) (was : 
               ∙ ap (λ n. max n (length (mini_sectors_owned old i))) (sym needed ∙ sym (small-needs new now short));
         }
 
-    small-turned : ChangesUse old new → WipesMinis old new i → WasTurned old new i size
-    small-turned used wiped = record {
+    small-turned : ChangesUse old new → WipesMinis old new i → ErasesMinis old new i → WasTurned old new i size
+    small-turned used wiped erased = record {
       sized = sized-small;
       wiped = wiped;
+      erased = erased;
       used = used;
       chain = owns-small.chain;
       content = small-is-resized v old new i ns was.changeable was.stream held.mini_stream small owns-small (λ k lt. lies.enough k (omega (arith, lt, len-is))) small-stands
@@ -269,12 +278,12 @@ module _ (v : Validation) (old mid new : MiniState) (i size start : ℕ) (was : 
   by-growth : TurnsByGrowth old mid i size start → WasTurned old new i size
   by-growth t = large-turned t.ys t.lies
       (large-goes-on v i old new (sectors_owned old i) t.ys [] t.count change (mini-then old mid new t.mini was.mini)
-      (tables-then (λ (w : TableState). Lengthens t.count (sectors_owned old i) t.ys (tables_in old) w) t.longer) (had-large t.was) (owns-turned t.ys t.lies)) (gave-none t.was)
+      (tables-then (λ (w : TableState). Lengthens t.count (sectors_owned old i) t.ys (tables_in old) w) t.longer) (had-large t.was) (owns-turned t.ys t.lies)) (gave-none t.was) (left-none t.was)
 
   by-cut : TurnsByCut old mid i size start → WasTurned old new i size
   by-cut t = large-turned t.ys t.lies
       (large-is-cut v i old new (sectors_owned old i) t.ys [] t.left change (mini-then old mid new t.mini was.mini)
-      (tables-then (λ (w : TableState). Shortens t.left (sectors_owned old i) t.ys (tables_in old) w) t.shorter) (had-large t.was) (owns-turned t.ys t.lies)) (gave-none t.was)
+      (tables-then (λ (w : TableState). Shortens t.left (sectors_owned old i) t.ys (tables_in old) w) t.shorter) (had-large t.was) (owns-turned t.ys t.lies)) (gave-none t.was) (left-none t.was)
 
   by-mini-growth : TurnsByMiniGrowth old mid i size start → WasTurned old new i size
   by-mini-growth t = small-turned t.ns t.lies (elim t.grown [
@@ -286,6 +295,8 @@ module _ (v : Validation) (old mid new : MiniState) (i size start : ℕ) (was : 
         same-is-used v i old new [] (mini_sectors_owned old i) change (system-then old mid new system was.system) (mini-then old mid new mini was.mini) (had-small t.was)
         (subst (λ (l : List ℕ). Owns new i [] l) same (owns-small t.ns t.lies))
   ]) (λ m c out inside. absurd (out (subst (λ (l : List ℕ). Contains l m) (sym ((owns-small t.ns t.lies).mini_sectors_are ∙ t.listed))
+      (Contains-append_left (mini_sectors_owned old i) (gained (mini_sectors_owned old i) t.ns) m c))))
+      (λ m c out other. absurd (out (subst (λ (l : List ℕ). Contains l m) (sym ((owns-small t.ns t.lies).mini_sectors_are ∙ t.listed))
       (Contains-append_left (mini_sectors_owned old i) (gained (mini_sectors_owned old i) t.ns) m c))))
 
   by-mini-cut : TurnsByMiniCut old mid i size start → WasTurned old new i size
@@ -299,6 +310,11 @@ module _ (v : Validation) (old mid new : MiniState) (i size start : ℕ) (was : 
         | inl stays ↦ λ room. absurd (out (subst (λ (l : List ℕ). Contains l m) (sym ((owns-small t.ns t.lies).mini_sectors_are ∙ t.listed)) stays))
         | inr gone ↦ t.wiped m gone
       ]))
+      (λ m c out other. elim (Contains-append_cases (take t.left (mini_sectors_owned old i)) (drop t.left (mini_sectors_owned old i)) m
+      (subst (λ (l : List ℕ). Contains l m) (sym (take-append-drop t.left (mini_sectors_owned old i))) c)) [
+        | inl stays ↦ absurd (out (subst (λ (l : List ℕ). Contains l m) (sym ((owns-small t.ns t.lies).mini_sectors_are ∙ t.listed)) stays))
+        | inr gone ↦ named-zeros v old mid new i was m c (t.erased m gone)
+      ])
 
   made-small : TurnsSmall old mid i size start → WasTurned old new i size
   made-small t = small-turned t.ns t.lies (elim t.grown [
@@ -311,13 +327,15 @@ module _ (v : Validation) (old mid new : MiniState) (i size start : ℕ) (was : 
         large-is-cut v i old new (sectors_owned old i) [] [] 0 change (mini-then old t.mid new t.mini (mini-then t.mid mid new mini was.mini))
         (subst (λ (w : TableState). Shortens 0 (sectors_owned old i) [] (tables_in old) w) (sym (was.system.tables ∙ system.tables)) t.freed)
         (had-large t.was) (subst (λ (l : List ℕ). Owns new i [] l) none (owns-small t.ns t.lies))
-  ]) (gave-none t.was)
+  ]) (gave-none t.was) (left-none t.was)
 
   made-large : TurnsLarge old mid i size start → WasTurned old new i size
   made-large t = large-turned t.ys t.lies
       (small-becomes-large v i old t.mid new (mini_sectors_owned old i) t.ys t.count change t.room t.freed (mini-then t.mid mid new t.mini was.mini)
       (tables-then (λ (w : TableState). Lengthens t.count [] t.ys (tables_in t.mid) w) t.longer) (had-small t.was) (owns-turned t.ys t.lies))
       (λ m c out inside. gave-zeros m inside (t.wiped m c))
+      (λ m c out other. named-zeros v old mid new i was m c
+      (t.erased m c (λ own. other (subst (λ (l : List ℕ). Contains l (sector_of_mini old m)) (sym (owns-turned t.ys t.lies).sectors_are) own))))
 
   pub turned : Turns old mid i size start → WasTurned old new i size
   turned (inl t) = by-growth t

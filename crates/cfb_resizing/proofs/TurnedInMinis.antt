@@ -27,7 +27,7 @@ use Rattle.cfb_resizing.proofs.cfb_mini_sectors.MiniFrames.{held-places, shorter
 use Rattle.cfb_resizing.proofs.cfb_mini_sectors.MiniStreams.{begins}
 use Rattle.cfb_resizing.specs.cfb_alloc.Alloc.{AllocatorState}
 use Rattle.cfb_resizing.specs.cfb_alloc.Frame.{Spares}
-use Rattle.cfb_resizing.specs.cfb_mini_sectors.Pieces.{HasMini, HaveMinis}
+use Rattle.cfb_resizing.specs.cfb_mini_sectors.Pieces.{AreZeros, HasMini, HaveMinis}
 use Rattle.cfb_resizing.specs.cfb_mini.MiniSectors.{HasMiniSector, KeepsMiniBytesBut}
 use Rattle.cfb_resizing.proofs.cfb_mini.MiniGiven.{held-can}
 use Rattle.cfb_resizing.proofs.cfb_mini.MiniKnown.{has-mini, held-stream, mini-has}
@@ -91,7 +91,8 @@ module _ (v : Validation) (old new : MiniState) (i size wanted : ℕ) (list list
     (given : MiniGivesBack (ends_of (take wanted list)) (drop wanted list) old.minifat new.minifat) (room : SettlesRoom old new)
     (version : version_of new ≡ version_of old) (stays : BeginsSystem old new)
     (left : IsChain new.minifat (first_or_end list') list') (keeps : KeepsMiniBytesBut (drop wanted list) old new)
-    (wiped : (m : ℕ) → Contains (drop wanted list) m → IsInMiniStream new m → IsZeroMini new m) (snug : wanted < length list → IsSnugMini new) where
+    (wiped : (m : ℕ) → Contains (drop wanted list) m → IsInMiniStream new m → IsZeroMini new m)
+    (erased : (m : ℕ) → Contains (drop wanted list) m → AreZeros (bytes_of new) (mini_place old m)) (snug : wanted < length list → IsSnugMini new) where
   cut-owned : mini_sectors_owned old i ≡ list
   cut-owned = owned-minis old i small list whole
 
@@ -161,6 +162,7 @@ module _ (v : Validation) (old new : MiniState) (i size wanted : ℕ) (list list
     listed = listed ∙ ap (λ (l : List ℕ). take wanted l) (sym cut-owned);
     given_back = subst (λ (l : List ℕ). MiniGivesBack (ends_of (take wanted l)) (drop wanted l) old.minifat new.minifat) (sym cut-owned) given;
     wiped = subst (λ (l : List ℕ). (m : ℕ) → Contains (drop wanted l) m → IsInMiniStream new m → IsZeroMini new m) (sym cut-owned) wiped;
+    erased = subst (λ (l : List ℕ). (m : ℕ) → Contains (drop wanted l) m → AreZeros (bytes_of new) (mini_place old m)) (sym cut-owned) erased;
     snug = subst (λ (l : List ℕ). wanted < length l → IsSnugMini new) (sym cut-owned) snug;
     lies = mini-cut-lies;
   }))))

@@ -6,7 +6,7 @@ use Rattle.cfb_format.specs.declared.validate.Validation.{Validation}
 use Rattle.cfb_format.specs.Bytes.{end_of_chain, sector_len}
 use Rattle.cfb_format.specs.Chain.{IsChain}
 use Rattle.cfb_format.specs.Content.{is_large, mini_sector_len, mini_stream_cutoff}
-use Rattle.cfb_format.specs.Full.{IsFullOfMiniSectors, rounded_up}
+use Rattle.cfb_format.specs.Full.{IsFullOfMiniSectors, free_count, rounded_up}
 use Rattle.cfb_format.specs.Refused.{HasReason, at_every_error}
 use Rattle.cfb_format.specs.Siblings.{entry_at}
 use Rattle.cfb_resizing.specs.cfb_rules.StreamCalls.{resized}
@@ -18,11 +18,12 @@ use Rattle.cfb_resizing.specs.cfb_alloc.Frame.{table_sectors}
 use Rattle.cfb_resizing.specs.cfb_alloc.ListedChain.{Lengthens, Shortens}
 use Rattle.cfb_resizing.specs.cfb_chains.ChainPlaces.{place_along}
 use Rattle.cfb_resizing.specs.cfb_mini_table.MiniTable.{MiniGivesBack, TakesMini}
-use Rattle.cfb_resizing.specs.cfb_mini_sectors.State.{HoldsMini, IsChangeable, MiniState, bytes_of, content_of, entries_of, parts_of, table_of, tables_in, version_of}
+use Rattle.cfb_resizing.specs.cfb_mini_sectors.Pieces.{AreZeros}
+use Rattle.cfb_resizing.specs.cfb_mini_sectors.State.{HoldsMini, IsChangeable, MiniState, bytes_of, content_of, entries_of, mini_place, parts_of, table_of, tables_in, version_of}
 use Rattle.cfb_resizing.specs.cfb_mini_sectors.Steps.{AreStartsUnnamed, GrowsFor, IsInMiniStream, IsSnugMini, IsZeroMini, KeepsLimits, KeepsMini, KeepsSystem, MovesRoot, SettlesRoom, system_sectors}
 use Rattle.cfb_resizing.specs.cfb_mini.MiniSectors.{IsStill}
 use Rattle.cfb_content.specs.Changed.{StaysTidy}
-use Rattle.cfb_content.specs.Contents.{WipesMinis, len_of, mini_place_along, mini_sectors_owned, sectors_owned}
+use Rattle.cfb_content.specs.Contents.{ErasesMinis, WipesMinis, len_of, mini_place_along, mini_sectors_owned, sector_of_mini, sectors_owned}
 
 -- ---- bytes and zeros
 
@@ -112,6 +113,7 @@ pub record TurnsByMiniCut (old new : MiniState) (i size start : ℕ) : Type 0 wh
   pub listed : ns ≡ take left (mini_sectors_owned old i)
   pub given_back : MiniGivesBack (ends_of (take left (mini_sectors_owned old i))) (drop left (mini_sectors_owned old i)) old.minifat new.minifat
   pub wiped : (m : ℕ) → Contains (drop left (mini_sectors_owned old i)) m → IsInMiniStream new m → IsZeroMini new m
+  pub erased : (m : ℕ) → Contains (drop left (mini_sectors_owned old i)) m → AreZeros (bytes_of new) (mini_place old m)
   pub snug : left < length (mini_sectors_owned old i) → IsSnugMini new
   pub lies : LiesTurnedInMinis old new i size start ns
 
@@ -138,6 +140,7 @@ pub record TurnsLarge (old new : MiniState) (i size start : ℕ) : Type 0 where
   pub none : mini_sectors_owned old i ≡ [] → mid ≡ old
   pub freed : MiniGivesBack [] (mini_sectors_owned old i) old.minifat mid.minifat
   pub wiped : (m : ℕ) → Contains (mini_sectors_owned old i) m → IsInMiniStream new m → IsZeroMini new m
+  pub erased : (m : ℕ) → Contains (mini_sectors_owned old i) m → (Contains ys (sector_of_mini old m) → ⊥) → AreZeros (bytes_of new) (mini_place old m)
   pub snug : 0 < length (mini_sectors_owned old i) → IsSnugMini new
   pub mini : KeepsMini mid new
   pub longer : Lengthens count [] ys (tables_in mid) (tables_in new)
@@ -195,14 +198,17 @@ pub record TrimsChain (old new : MiniState) (i size start : ℕ) : Type 0 where
 
 -- ---- the content, once the entry says what became of it
 
--- it is what it was, cut or padded with zeros to `size`; each mini sector that it gave back reads as zeros; and where the stream got no shorter and
--- left no mini sectors, no sector came free
+-- it is what it was, cut or padded with zeros to `size`; each mini sector that it gave back reads as zeros, and is zeros where it stood; and where
+-- the stream got no shorter and left no mini sectors, no sector came free, nor a mini sector
 pub record ResizesContent (old new : MiniState) (i size : ℕ) : Type 0 where
   pub content : (v : Validation) → IsChangeable v old
       → content_of new (entry_at (entries_of new) i) ≡ resized (content_of old (entry_at (entries_of old) i)) size
   pub wiped : (v : Validation) → IsChangeable v old → WipesMinis old new i
+  pub erased : (v : Validation) → IsChangeable v old → ErasesMinis old new i
   pub stays_full : (v : Validation) → IsChangeable v old → len_of old i ≤ size → LeavesNoMinis old i size
       → NoneFree (tables_in old).fat → NoneFree (tables_in new).fat
+  pub minis_full : (v : Validation) → IsChangeable v old → len_of old i ≤ size → LeavesNoMinis old i size
+      → free_count old.minifat ≡ 0 → free_count new.minifat ≡ 0
 
 -- at these places stand the bytes of the stream as it was, and these behind them
 pub record StandBehind (old : MiniState) (i : ℕ) (from bytes : List ℕ) (place : ℕ → ℕ) : Type 0 where
@@ -230,6 +236,7 @@ pub record MovesWith (old new : MiniState) (i size : ℕ) (from : List ℕ) (sta
   pub none : mini_sectors_owned old i ≡ [] → mid ≡ old
   pub freed : MiniGivesBack [] (mini_sectors_owned old i) old.minifat mid.minifat
   pub wiped : (m : ℕ) → Contains (mini_sectors_owned old i) m → IsInMiniStream new m → IsZeroMini new m
+  pub erased : (m : ℕ) → Contains (mini_sectors_owned old i) m → (Contains ys (sector_of_mini old m) → ⊥) → AreZeros (bytes_of new) (mini_place old m)
   pub snug : 0 < length (mini_sectors_owned old i) → IsSnugMini new
   pub mini : KeepsMini mid new
   pub longer : Lengthens count [] ys (tables_in mid) (tables_in new)

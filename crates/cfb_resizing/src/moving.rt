@@ -12,15 +12,16 @@ ghost use Rattle.cfb_tables.specs.Listed.{EndsChain};
 ghost use Rattle.cfb_tables.specs.Refused.{ChangeRefused};
 ghost use Rattle.cfb_tables.specs.Room.{IsTooFewAfter};
 ghost use Rattle.cfb_tables.specs.Tables.{AreSizes, IsTooFew, first_or_end, sizes_of};
-ghost use Rattle.cfb_resizing.specs.cfb_alloc.Alloc.{HoldsTables, IsOtherHeaderByte, IsUsable};
+ghost use Rattle.cfb_resizing.specs.cfb_alloc.Alloc.{ChangesSectors, HoldsTables, IsOtherHeaderByte, IsUsable};
 ghost use Rattle.cfb_resizing.specs.cfb_alloc.Frame.{Spares};
 ghost use Rattle.cfb_resizing.specs.cfb_alloc.ListedChain.{Lengthens};
 ghost use Rattle.cfb_resizing.specs.cfb_chains.ChainPlaces.{place_along};
-ghost use Rattle.cfb_resizing.specs.cfb_mini_sectors.State.{HoldsMini, bytes_of, mini_stream_of, table_of, tables_in, version_of};
+ghost use Rattle.cfb_resizing.specs.cfb_mini_sectors.Pieces.{AreZeros};
+ghost use Rattle.cfb_resizing.specs.cfb_mini_sectors.State.{HoldsMini, bytes_of, mini_place, mini_stream_of, table_of, tables_in, version_of};
 ghost use Rattle.cfb_resizing.specs.cfb_mini_sectors.Steps.{IsInMiniStream, IsNotHeld, IsSnugMini, IsTooFewAfterFor, IsZeroMini, KeepsHeader, SparesMini, system_sectors};
 ghost use Rattle.cfb_resizing.specs.cfb_mini.MiniSectors.{IsStill, IsOfWholeSectors};
 ghost use Rattle.cfb_content.specs.Changed.{SparesOthers};
-ghost use Rattle.cfb_content.specs.Contents.{IsNotChangeable, IsStreamOf, len_of, mini_place_along};
+ghost use Rattle.cfb_content.specs.Contents.{IsNotChangeable, IsStreamOf, len_of, mini_place_along, sector_of_mini};
 ghost use Rattle.cfb_content.specs.Laws.{LacksNumbersFor};
 ghost use Rattle.cfb_content.specs.Room.{ComesFree};
 ghost use Rattle.cfb_content.specs.Parts.{IsThereInMinis, IsThereInSectors, StandAlong};
@@ -267,6 +268,9 @@ fn begin_in_sectors<F: Medium, A: Heap>(
     ensures sizes { OnOk result
         (AreSizes allocator.new.tables.version (sizes_of allocator.new.tables)) }
     ensures spares { IsTrue F.tells → Spares [] allocator.old allocator.new }
+    ensures changes { IsTrue F.tells → OnOk result (ChangesSectors (allocator.new.tables.fat_sectors
+        ++ allocator.new.tables.difat_sectors ++ ids.new.items) allocator.new.tables.version
+        allocator.old.file.bytes allocator.new.file.bytes) }
     ensures header { IsTrue F.tells → (i : ℕ) → i < length allocator.old.file.bytes
         → IsOtherHeaderByte allocator.old.tables.version i
         → slice_index allocator.new.file.bytes i ≡ slice_index allocator.old.file.bytes i }
@@ -317,6 +321,10 @@ fn carry_to_sectors<F: Medium, A: Heap>(
     ensures wiped { IsTrue F.tells → (validation : Validation) → HoldsMini validation mini.old
         → GoesUnnamed mini.old list.old.items → OnOk result ((m : ℕ) → Contains list.old.items m
         → IsInMiniStream mini.new m → IsZeroMini mini.new m) }
+    ensures erased { IsTrue F.tells → (validation : Validation) → HoldsMini validation mini.old
+        → OnOk result ((m : ℕ) → Contains list.old.items m
+        → (Contains ids.new.items (sector_of_mini mini.old m) → ⊥)
+        → AreZeros (bytes_of mini.new) (mini_place mini.old m)) }
     ensures whole { IsTrue F.tells → (validation : Validation) → HoldsMini validation mini.old
         → GoesUnnamed mini.old list.old.items → IsOfWholeSectors (table_of mini.old)
         → OnOk result (IsOfWholeSectors (table_of mini.new)) }

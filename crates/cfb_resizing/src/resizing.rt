@@ -9,7 +9,7 @@ ghost use Rattle.cfb_sectors.specs.Sectors.{IsMediumError, IsRaised};
 ghost use Rattle.cfb_tables.specs.Refused.{ChangeRefused};
 ghost use Rattle.cfb_resizing.specs.cfb_alloc.Frame.{Spares};
 ghost use Rattle.cfb_resizing.specs.cfb_directory.Growing.{ArePlaced};
-ghost use Rattle.cfb_resizing.specs.cfb_directory.Steps.{KeepsWholeHeader};
+ghost use Rattle.cfb_resizing.specs.cfb_directory.Steps.{KeepsOtherSectors, KeepsWholeHeader};
 ghost use Rattle.cfb_resizing.specs.cfb_mini_sectors.State.{HoldsMini, entries_of, table_of, tables_in, version_of};
 ghost use Rattle.cfb_resizing.specs.cfb_mini_sectors.Steps.{KeepsLimits, KeepsMini, KeepsSystem};
 ghost use Rattle.cfb_resizing.specs.cfb_mini.MiniSectors.{IsStill};
@@ -37,7 +37,7 @@ pub fn unplaced(entry: u32) -> Error
 }
 
 /// Gives the stream of that entry this length: it is cut, or padded with zeros. From 4096 bytes on it lies in sectors, below in mini
-/// sectors; what it leaves is free before anything is taken, and mini sectors that it leaves are wiped. Its chain is as long as it needs to
+/// sectors; what it leaves is free before anything is taken, and mini sectors that it leaves are wiped where they stood. Its chain is as long as it needs to
 /// be, but one that goes on has no less than it had. What the MiniFAT and the mini stream do not need any more once mini sectors are free is
 /// given back; no growth frees a sector but one that leaves mini sectors. An empty stream has no chain, and starts at END: to empty it
 /// takes no sector, however that ends. The length that it has changes nothing. All memory is asked for before anything changes, and the
@@ -246,6 +246,7 @@ pub fn name_content<F: Medium, A: Heap>(
     ensures spares { IsTrue F.tells
         → Spares mini.old.directory.sectors (table_of mini.old) (table_of mini.new) }
     ensures header { IsTrue F.tells → KeepsWholeHeader mini.old.directory mini.new.directory }
+    ensures others { IsTrue F.tells → KeepsOtherSectors mini.old.directory mini.new.directory }
     ensures begun { (table_of mini.new).file.begun ≡ true }
     ensures err { IfErr result IsMediumError }
     ensures counts { IsTrue F.tells → CountsFailure F.write_faults result

@@ -1,5 +1,5 @@
 -- What a stream stands on: a list of bytes in a file.
-use Rattle.std.specs.Prelude.{ℕ, ◌+◌, ◌≡◌, ◌≢◌, ◌≤◌, ◌⊎◌, max, List, ◌++◌, Bool, true, false, length, take, drop, Result, OnOk}
+use Rattle.std.specs.Prelude.{ℕ, ◌+◌, ◌≡◌, ◌≢◌, ◌≤◌, ◌⊎◌, max, List, ◌++◌, Bool, true, false, length, take, drop, Result, OnErr, OnOk}
 use Rattle.cfb_format.specs.Refused.{IsInvalidData, IsMediumAnd}
 use Rattle.cfb_format.specs.declared.error.Error.{Error}
 use Rattle.cfb_rules.specs.StreamCalls.{StreamSetting, resized}
@@ -80,16 +80,24 @@ stored_after_resize s size = record s { size = size; content = resized s.content
 
 -- ---- whatever is known of what is stored
 
--- what no call changes stays, and the file has failed exactly if it had before
-pub record SameFlags {S : Type 0} (first now : S) (old new : Stored) : Type 0 where
+-- what no call changes stays, and what is remembered, and the file has failed exactly if it had before
+pub record SameFlags {S M : Type 0} (first now : S) (before after : M) (old new : Stored) : Type 0 where
   pub setting : now ≡ first
+  pub remembered : after ≡ before
   pub failed : new.failed ≡ old.failed
 
--- a call that writes may fail the file, and only where it is refused; one that has failed stays so
-pub record KeepsFlags {S T : Type 0} (first now : S) (old new : Stored) (result : Result T Error) : Type 0 where
+-- calls that write may fail the file, and only where one is refused; a file that has failed stays so
+pub record MayFail {S T : Type 0} (first now : S) (old new : Stored) (result : Result T Error) : Type 0 where
   pub setting : now ≡ first
   pub stays : old.failed ≡ true → new.failed ≡ true
   pub done : OnOk result (new.failed ≡ old.failed)
+
+-- one call that writes; and where it is refused what is remembered is as it was, or the file has failed
+pub record KeepsFlags {S M T : Type 0} (first now : S) (before after : M) (old new : Stored) (result : Result T Error) : Type 0 where
+  pub setting : now ≡ first
+  pub stays : old.failed ≡ true → new.failed ≡ true
+  pub done : OnOk result (new.failed ≡ old.failed)
+  pub kept_or_failed : OnErr result ((after ≡ before) ⊎ (new.failed ≡ true))
 
 -- ---- what fits
 

@@ -3,7 +3,7 @@ use Rattle.std.specs.Prelude.{ℕ, ◌≡◌, ◌<◌, ◌||◌, Bool, false, Re
 use Rattle.cfb_format.specs.Refused.{CountsFailure}
 use Rattle.cfb_format.specs.declared.error.Error.{Error}
 use Rattle.cfb_format.specs.declared.medium.MediumFault.{MediumFault}
-use Rattle.cfb_stream_buffer.specs.Contents.{KeepsFlags, SameFlags}
+use Rattle.cfb_stream_buffer.specs.Contents.{KeepsFlags, MayFail, SameFlags}
 use Rattle.cfb_stream_buffer.specs.declared.content.ReadContents as reading
 use Rattle.cfb_stream_buffer.specs.declared.content.Contents as writing
 
@@ -17,11 +17,15 @@ module _ {C : Type 0} (r : reading.Ghosts C) where
 
   -- whatever is known of them, it was at most read from
   abbrev pub HasSameFlags : (old new : C) → (id : ℕ) → Type 0
-  HasSameFlags old new id = SameFlags (r.setting old) (r.setting new) (r.stored old id) (r.stored new id)
+  HasSameFlags old new id = SameFlags (r.setting old) (r.setting new) (r.remembered old) (r.remembered new) (r.stored old id) (r.stored new id)
 
-  -- or written to
+  -- or written to, by one call
   abbrev pub HasKeptFlags : {T : Type 0} → (old new : C) → (id : ℕ) → Result T Error → Type 0
-  HasKeptFlags old new id result = KeepsFlags (r.setting old) (r.setting new) (r.stored old id) (r.stored new id) result
+  HasKeptFlags old new id result = KeepsFlags (r.setting old) (r.setting new) (r.remembered old) (r.remembered new) (r.stored old id) (r.stored new id) result
+
+  -- or by several, of which the last was refused, if one was
+  abbrev pub HasMayFail : {T : Type 0} → (old new : C) → (id : ℕ) → Result T Error → Type 0
+  HasMayFail old new id result = MayFail (r.setting old) (r.setting new) (r.stored old id) (r.stored new id) result
 
 module _ {C : Type 0} (r : reading.Ghosts C) (g : writing.Ghosts C) where
   -- the faults of both

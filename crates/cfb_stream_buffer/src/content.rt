@@ -29,6 +29,12 @@ pub trait ReadContents {
 
     ghost setting: { Self → Setting };
 
+    /// What memory has of the file, but for its bytes and the count of failures, in a form that the
+    /// implementor picks. It is known over any medium.
+    ghost Remembered: { Type 0 };
+
+    ghost remembered: { Self → Remembered };
+
     /// How many calls of the medium have failed, and the faults that it can give by reading.
     ghost failures: { Self → ℕ };
 
@@ -69,6 +75,7 @@ pub trait ReadContents {
         ensures bound { IfOk result (λ n. n ≤ length into.new) }
         ensures rest { IfOk result (λ n. drop n into.new ≡ drop n into.old) }
         ensures any { SameFlags (setting self.old) (setting self.new)
+            (remembered self.old) (remembered self.new)
             (stored self.old id) (stored self.new id) }
         ensures told { tells self.old → tells self.new }
         ensures kept { tells self.old → kept self.new ≡ kept self.old }
@@ -125,6 +132,7 @@ pub trait Contents: ReadContents {
         requires there { Self.has self.old id }
         ensures there { Self.has self.new id }
         ensures any { KeepsFlags (Self.setting self.old) (Self.setting self.new)
+            (Self.remembered self.old) (Self.remembered self.new)
             (Self.stored self.old id) (Self.stored self.new id) result }
         ensures bound { IfOk result (λ n. n ≤ length bytes.now) }
         ensures told { Self.tells self.old → Self.tells self.new }
@@ -161,6 +169,7 @@ pub trait Contents: ReadContents {
         requires there { Self.has self.old id }
         ensures there { Self.has self.new id }
         ensures any { KeepsFlags (Self.setting self.old) (Self.setting self.new)
+            (Self.remembered self.old) (Self.remembered self.new)
             (Self.stored self.old id) (Self.stored self.new id) result }
         ensures told { Self.tells self.old → Self.tells self.new }
         ensures others { Self.tells self.old
@@ -204,6 +213,7 @@ pub trait Contents: ReadContents {
         requires there { Self.has self.old id }
         ensures there { Self.has self.new id }
         ensures any { KeepsFlags (Self.setting self.old) (Self.setting self.new)
+            (Self.remembered self.old) (Self.remembered self.new)
             (Self.stored self.old id) (Self.stored self.new id) result }
         ensures told { Self.tells self.old → Self.tells self.new }
         ensures others { Self.tells self.old
@@ -229,6 +239,7 @@ pub trait Contents: ReadContents {
         requires there { Self.has self.old id }
         ensures there { Self.has self.new id }
         ensures any { KeepsFlags (Self.setting self.old) (Self.setting self.new)
+            (Self.remembered self.old) (Self.remembered self.new)
             (Self.stored self.old id) (Self.stored self.new id) result }
         ensures told { Self.tells self.old → Self.tells self.new }
         ensures others { Self.tells self.old

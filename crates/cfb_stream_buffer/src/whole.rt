@@ -2,7 +2,7 @@
 ghost use Rattle.std.specs.Prelude.{◌≡◌, ◌+◌, ◌-◌, ◌^◌, ◌<◌, ◌≤◌, ◌++◌, ◌||◌, ℕ, true, false, OnOk, OnErr, IfErr, length, take, drop};
 ghost use Rattle.cfb_format.specs.Refused.{CountsFailure, IsBreak};
 ghost use Rattle.cfb_stream_buffer.specs.Contents.{Fails, SameLimits, TakesBytes, stored_after_write};
-ghost use Rattle.cfb_stream_buffer.specs.Touched.{HasKeptFlags, HasSameFlags, IsRead, LacksRoomUpTo};
+ghost use Rattle.cfb_stream_buffer.specs.Touched.{HasMayFail, HasSameFlags, IsRead, LacksRoomUpTo};
 
 use crate::content::{Contents, ReadContents};
 use cfb_format::error::{Detail, Error};
@@ -136,7 +136,7 @@ pub fn write_all<C: Contents>(content: &mut C, id: u32, at: u64, bytes: &[u8]) -
     requires there { C.has content.old id }
     requires bound { at + length bytes.now < 2 ^ 64 }
     ensures there { C.has content.new id }
-    ensures any { HasKeptFlags C.ReadContents content.old content.new id result }
+    ensures any { HasMayFail C.ReadContents content.old content.new id result }
     ensures told { C.tells content.old → C.tells content.new }
     ensures others { C.tells content.old → (first : C) → C.keeps id first content.old
         → C.keeps id first content.new }
@@ -176,7 +176,7 @@ fn write_inside<C: Contents>(content: &mut C, id: u32, at: u64, bytes: &[u8]) ->
     requires inside { 0 < length bytes.now
         → at + length bytes.now ≤ (C.stored content.old id).size }
     ensures there { C.has content.new id }
-    ensures any { HasKeptFlags C.ReadContents content.old content.new id result }
+    ensures any { HasMayFail C.ReadContents content.old content.new id result }
     ensures told { C.tells content.old → C.tells content.new }
     ensures others { C.tells content.old → (first : C) → C.keeps id first content.old
         → C.keeps id first content.new }

@@ -36,21 +36,23 @@ module _ {C : Type 0} (r : reading.Ghosts C) where
     pub sound : (r.stored new id).sound ≡ (r.stored old id).sound
 
   -- Whatever is known of what is stored: what no call changes stays. A file that has failed stays as it is, and so does the window, and the
-  -- call answers so; and a file in which it was done has not failed.
+  -- call answers so; a file in which it was done has not failed; and where it was refused what is remembered is as it was, or the file has failed.
   pub record HeedsFlags {T : Type 0} (old : C) (id : ℕ) (w : Window) (result : Result T Error) (new : C) (w' : Window) : Type 0 where
     pub setting : r.setting new ≡ r.setting old
     pub failed : (r.stored old id).failed ≡ true → IsErrAnd result (λ e. e ≡ Failed) × (new ≡ old) × (w' ≡ w)
     pub unfailed : OnOk result ((r.stored new id).failed ≡ false)
+    pub kept_or_failed : OnErr result ((r.remembered new ≡ r.remembered old) ⊎ ((r.stored new id).failed ≡ true))
 
   -- of a flush and of closing: where it is refused the file has failed
   pub record HeedsWritingOut {T : Type 0} (old : C) (id : ℕ) (w : Window) (result : Result T Error) (new : C) (w' : Window) : Type 0 where
     pub heeds : HeedsFlags old id w result new w'
     pub lost : OnErr result ((r.stored new id).failed ≡ true)
 
-  -- of a stream that is only read, no call fails the file
+  -- of a stream that is only read, no call fails the file, and what is remembered is as it was
   pub record HeedsReading {T : Type 0} (old : C) (id : ℕ) (w : Window) (result : Result T Error) (new : C) (w' : Window) : Type 0 where
     pub heeds : HeedsFlags old id w result new w'
     pub same : (r.stored new id).failed ≡ (r.stored old id).failed
+    pub remembered : r.remembered new ≡ r.remembered old
 
   -- it was refused as the rules say, and what is stored is as it was or the file has failed; what the rules themselves refuse
   -- changes nothing

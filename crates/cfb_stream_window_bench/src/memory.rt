@@ -143,6 +143,10 @@ impl ReadContents for MemoryContents {
 
     ghost kept = { λ m. record m { failures = 0 } };
 
+    ghost Remembered = { ListState };
+
+    ghost remembered = { λ m. record m { failures = 0 } };
+
     ghost use Rattle.std.specs.Prelude.{ℕ};
 
     ghost Setting = { ℕ × ℕ };

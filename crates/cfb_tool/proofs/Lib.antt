@@ -11,3 +11,7 @@ pub mod Explained
 pub mod Pieces
 pub mod Stored
 pub mod FoundCuts
+pub mod Digits
+pub mod Reached
+pub mod Dumped
+pub mod Rebuilt

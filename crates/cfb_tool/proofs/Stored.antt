@@ -5,7 +5,7 @@ use Rattle.std.proofs.lemmas.Bool.{eqb-true}
 use Rattle.std.specs.Prelude.{MatchBool, Option, Some, None, pos}
 use Rattle.cfb_rules.specs.Lists.{Command, CommandReply, CommandRuns, Deed, FileView, IsLegalRun, causes_between, creates, names_at, on_stream, replied, streamed}
 use Rattle.cfb_rules.specs.Refusal.{Refusal, medium_failed, out_of_memory}
-use Rattle.cfb_rules.specs.Runs.{Setting, StreamRun, opened_by_path}
+use Rattle.cfb_rules.specs.Runs.{Setting, opened_by_path}
 use Rattle.cfb_rules.specs.StreamCalls.{StreamState, from_end, seek, write}
 use Rattle.cfb_whole_streams.specs.Content.{HasStream}
 use Rattle.cfb_whole_streams.specs.Laws.{Keeps}
@@ -15,13 +15,13 @@ use Rattle.cfb_tool.specs.Laws.{AddedIsStored, PutIsStored}
 use Rattle.cfb_tool.specs.Playing.{AddsInTurn, PlaysOne, Unless, addition, bytes_written, path_written, taken_in}
 
 -- that is what was told
-abbrev IsTold : Option Refusal → Option Refusal → Type 0
+abbrev pub IsTold : Option Refusal → Option Refusal → Type 0
 IsTold told what = told ≡ what
 
 module _ {S : Type 0} (seen : S → FileView) (promised : S → Deed → S → Type 0) (setting : Setting) where
   module _ (old new : S) (path : List ℕ) where
     -- one that writes once
-    put_some : (bytes : List ℕ) (reply : CommandReply) → refusal_in reply ≡ None → CommandRuns seen promised setting old (on_stream creates path (write bytes ∷ [])) reply new
+    pub put_some : (bytes : List ℕ) (reply : CommandReply) → refusal_in reply ≡ None → CommandRuns seen promised setting old (on_stream creates path (write bytes ∷ [])) reply new
         → Keeps seen promised setting new path (take (taken_in reply) bytes)
     put_some bytes (replied reply) quiet runs = absurd (some_not_none runs.0.0 (sym (ap refusal_of_call runs.0.1) ∙ quiet))
     put_some bytes (streamed [] closing) quiet runs = absurd runs.works
@@ -34,7 +34,7 @@ module _ {S : Type 0} (seen : S → FileView) (promised : S → Deed → S → T
     put_some bytes (streamed (reply ∷ next ∷ replies) closing) quiet runs = absurd runs.works.3
 
     -- one that adds once
-    add_some : (before bytes : List ℕ) (reply : CommandReply) → HasStream setting.cases (seen old).state.tree path before → refusal_in reply ≡ None
+    pub add_some : (before bytes : List ℕ) (reply : CommandReply) → HasStream setting.cases (seen old).state.tree path before → refusal_in reply ≡ None
         → CommandRuns seen promised setting old (addition path bytes) reply new → Keeps seen promised setting new path (before ++ take (taken_in reply) bytes)
     add_some before bytes (replied reply) there quiet runs = absurd (some_not_none runs.0.0 (sym (ap refusal_of_call runs.0.1) ∙ quiet))
     add_some before bytes (streamed [] closing) there quiet runs = absurd runs.works

@@ -2,7 +2,7 @@
 use Rattle.std.specs.Prelude.{ℕ, ◌≢◌, List, [], ◌∷◌, codes}
 use Rattle.cfb_format.specs.declared.version.Version.TheVariants.{V3, V4}
 use Rattle.cfb_tool.specs.declared.asking.Asked.{Asked}
-use Rattle.cfb_tool.specs.declared.asking.Asked.TheVariants.{Create, ListAll, ListAt, DetailsAll, DetailsAt, TreeAll, TreeAt, Cat, Put, PutFrom, Check, CheckStrict, Compact, Salvage, Run, RunExplained, OneChange, OneChangeBy, Help, LongHelp, ShortHelp, HelpOn, HelpBehind, Version, Info, Map, ExtractAll, ExtractAt}
+use Rattle.cfb_tool.specs.declared.asking.Asked.TheVariants.{Create, ListAll, ListAt, DetailsAll, DetailsAt, TreeAll, TreeAt, Cat, Dump, Put, PutFrom, Check, CheckStrict, Compact, Salvage, Run, RunExplained, OneChange, OneChangeBy, Help, LongHelp, ShortHelp, HelpOn, HelpBehind, Version, Info, Map, ExtractAll, ExtractAt}
 use Rattle.cfb_tool.specs.Word.{change_text, word_text}
 
 -- the words that ask for this
@@ -18,6 +18,7 @@ words_for (TreeAt file path) = codes "tree" ∷ file.now ∷ path.now ∷ []
 words_for (Info file) = codes "info" ∷ file.now ∷ []
 words_for (Map file) = codes "map" ∷ file.now ∷ []
 words_for (Cat file path) = codes "cat" ∷ file.now ∷ path.now ∷ []
+words_for (Dump file) = codes "dump" ∷ file.now ∷ []
 words_for (Put file path) = codes "put" ∷ file.now ∷ path.now ∷ []
 words_for (PutFrom file path from) = codes "put" ∷ file.now ∷ path.now ∷ from.now ∷ []
 words_for (Check file) = codes "check" ∷ file.now ∷ []
@@ -45,5 +46,6 @@ TakesOptions (TreeAll file) = file.now ≢ codes "--help"
 TakesOptions (Info file) = file.now ≢ codes "--help"
 TakesOptions (Map file) = file.now ≢ codes "--help"
 TakesOptions (Check file) = file.now ≢ codes "--help"
+TakesOptions (Dump file) = file.now ≢ codes "--help"
 TakesOptions (Run file) = file.now ≢ codes "--help"
 TakesOptions _ = Unit {0}

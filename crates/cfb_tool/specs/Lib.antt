@@ -12,4 +12,7 @@ pub mod Listing
 pub mod Details
 pub mod Cuts
 pub mod Playing
+pub mod Sending
+pub mod Dumping
 pub mod Laws
+pub mod Reports

@@ -3,7 +3,7 @@ use Rattle.std.specs.Prelude.{ℕ, List, codes}
 use Rattle.cfb_tool.specs.declared.word.Change.{Change}
 use Rattle.cfb_tool.specs.declared.word.Change.TheVariants.{Mkdir, Mkdirs, Rmdir, Rmtree, Rm, Touch, Bits, Len, Clsid, Add}
 use Rattle.cfb_tool.specs.declared.word.Word.{Word}
-use Rattle.cfb_tool.specs.declared.word.Word.TheVariants.{Ls, Tree, Check, Cat, Create, Put, Changing, Run, Compact, Salvage, Info, Map, Extract}
+use Rattle.cfb_tool.specs.declared.word.Word.TheVariants.{Ls, Tree, Check, Cat, Create, Put, Changing, Run, Compact, Salvage, Info, Map, Extract, Dump}
 
 abbrev pub change_text : Change → List ℕ
 change_text Mkdir = codes "mkdir"
@@ -25,6 +25,7 @@ word_text Map = codes "map"
 word_text Check = codes "check"
 word_text Cat = codes "cat"
 word_text Extract = codes "extract"
+word_text Dump = codes "dump"
 word_text Create = codes "create"
 word_text Put = codes "put"
 word_text (Changing change) = change_text change

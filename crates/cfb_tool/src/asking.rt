@@ -31,6 +31,8 @@ pub enum Asked<'a> {
     Map(&'a str),
     /// `cat FILE PATH`: the bytes of the stream at this path.
     Cat(&'a str, &'a str),
+    /// `dump FILE`: lines of `run` that make the file's tree.
+    Dump(&'a str),
     /// `put FILE PATH`: a stream at this path, with the bytes of standard input.
     Put(&'a str, &'a str),
     /// `put FILE PATH FROM`: the same with the bytes of a file of the system.
@@ -159,6 +161,7 @@ fn asked_of_file<'a>(call: &str, file: &'a str) -> Option<Asked<'a>>
         "info" => Some(Asked::Info(file)),
         "map" => Some(Asked::Map(file)),
         "check" => Some(Asked::Check(file)),
+        "dump" => Some(Asked::Dump(file)),
         "run" => Some(Asked::Run(file)),
         _ => None,
     }

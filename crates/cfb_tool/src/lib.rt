@@ -4,6 +4,8 @@
 pub mod asking;
 pub mod cuts;
 pub mod details;
+pub mod dump_error;
+pub mod dumping;
 pub mod explaining;
 pub mod laws;
 pub mod listing;

@@ -78,6 +78,7 @@ pub(crate) fn walked<F: ReadMedium, A: Heap + Clone>(
     ensures told { IsTrue F.tells
         → IfOk result (λ list. Answers file.now walk (entries list.items)) }
     ensures refused { IsTrue F.tells → IfErr result (AnswersNot file.now walk) }
+    ensures kind { IfErr result IsMemory }
 {
     let list = file.walk()?;
     Ok(list.collect(alloc.clone()?)?)

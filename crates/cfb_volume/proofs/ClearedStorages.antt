@@ -1,5 +1,5 @@
 -- A file from one of whose storages all was taken, where the streams in it were empty.
-use Rattle.std.proofs.Common.{◌≡◌, ℕ, List, true, false, sym, subst}
+use Rattle.std.proofs.Common.{◌≡◌, ℕ, List, true, false, subst}
 use Rattle.std.specs.Prelude.{Contains, Some}
 use Rattle.cfb_format.specs.declared.error.Error.{Error}
 use Rattle.cfb_format.specs.declared.error.Error.TheVariants.{AlreadyExists, Failed, Full, InvalidData, InvalidInput, Medium, Memory, NotFound, Unsound}
@@ -11,7 +11,6 @@ use Rattle.cfb_outline.specs.Outlines.{HasInside, IsReachedStorage}
 use Rattle.cfb_outline.proofs.Insides.{storage-is-inside}
 use Rattle.cfb_volume.specs.cfb_siblings.Paths.{number_from}
 use Rattle.cfb_volume.specs.cfb_tables.Refused.{ChangeRefused}
-use Rattle.cfb_volume.specs.cfb_tables.Tables.{AreExactTables}
 use Rattle.cfb_volume.specs.cfb_alloc.Frame.{Spares}
 use Rattle.cfb_volume.specs.cfb_entries.Clearing.{HasCleared}
 use Rattle.cfb_volume.specs.cfb_directory.Steps.{IsDirectoryNotHeld, KeepsWholeHeader}
@@ -20,15 +19,16 @@ use Rattle.cfb_volume.proofs.cfb_objects.Balance.{all-stay-balanced}
 use Rattle.cfb_volume.specs.cfb_mini_sectors.State.{HoldsMini, IsChangeable, MiniState, bytes_of, cases_of, entries_of, table_of, tables_in}
 use Rattle.cfb_volume.specs.cfb_mini_sectors.Steps.{KeepsLimits, KeepsMini}
 use Rattle.cfb_volume.specs.cfb_content.Contents.{len_of}
-use Rattle.cfb_agreement.specs.Files.{FileState, Holds, IsAsMade}
-use Rattle.cfb_agreement.proofs.Flags.{flags-not-read, made-flagged}
+use Rattle.cfb_agreement.specs.Changes.{KeepsParts}
+use Rattle.cfb_agreement.specs.Files.{FileState, Holds}
+use Rattle.cfb_agreement.proofs.Flags.{flags-not-read}
 use Rattle.cfb_agreement.proofs.HeldBytes.{changeable-is-held}
 use Rattle.cfb_entry_changes.specs.Clearing.{ClearsStorage, WritesClearing}
-use Rattle.cfb_entry_changes.proofs.Emptied.{cleared-empties-tree, cleared-has-outline, cleared-is-all-used, cleared-is-balanced, cleared-is-changeable, cleared-is-snug, cleared-is-snug-mini}
+use Rattle.cfb_entry_changes.proofs.Emptied.{cleared-empties-tree, cleared-has-outline, cleared-is-balanced, cleared-is-changeable, cleared-is-snug, cleared-is-snug-mini, cleared-loses-none}
 use Rattle.cfb_volume.specs.Clearing.{emptied_at}
 use Rattle.cfb_volume.proofs.EmptyStreams.{cleared-at-end}
-use Rattle.cfb_volume.proofs.InsertedObjects.{ended, file_with}
-use Rattle.cfb_volume.proofs.Tidy.{slots-tidy}
+use Rattle.cfb_volume.proofs.InsertedObjects.{ended, file_with, parts-ended}
+use Rattle.cfb_volume.proofs.Tidy.{slots-keep-parts}
 
 -- what the layers below say of it
 pub clears-storage : (old mid : MiniState) (top : ℕ) (list : List ℕ) → IsReachedStorage (cases_of old) (entries_of old) top
@@ -74,19 +74,18 @@ module _ (old : FileState) (mid : MiniState) (top : ℕ) (t : ClearsStorage old.
       let left = cleared-has-outline old.base mid top t t.storage.outline t.storage.is in
       flags-not-read (file_with old mid) (table_of mid).file.failures false (changeable-is-held (file_with old mid) left.0 sound change left.1)
 
-  pub clear-made : IsAsMade old.base → HoldsMini Strict mid → KeepsWholeHeader old.base.directory mid.directory → IsAsMade (ended mid)
-  clear-made made held header =
-      let all = writes Strict made.changeable held in
-      made-flagged mid (table_of mid).file.failures false (record {
-        changeable = cleared-is-changeable Strict old.base mid top all;
-        tidy = slots-tidy Strict old.base mid made.changeable.held held t.kept header spares (cleared-at-end old.base mid top t made.tidy.ended) made.tidy;
-        used = cleared-is-all-used Strict old.base mid top all made.used;
-        exact = subst (λ u. AreExactTables u) (sym t.kept.tables) made.exact;
-        snug = cleared-is-snug Strict old.base mid top all made.snug;
-        snug_mini = cleared-is-snug-mini old.base mid top t made.snug_mini;
-        balanced = all-stay-balanced (cases_of old.base) (cases_of mid) (entries_of old.base) (entries_of mid) t.storage.outline t.storage.is
-            (cleared-is-balanced old.base mid top t) made.balanced;
-      })
+  pub clear-parts : old.is_sound ≡ true → Holds old → ((v : Validation) → IsChangeable v old.base → HoldsMini v mid)
+      → KeepsWholeHeader old.base.directory mid.directory → KeepsParts old.base (ended mid)
+  clear-parts sound holds held header =
+      let change = holds.sound sound in
+      let all = writes Permissive change (held Permissive change) in
+      parts-ended old.base mid (slots-keep-parts Permissive old.base mid change.held (held Permissive change) t.kept header spares
+      (λ strict. cleared-is-changeable Strict old.base mid top (writes Strict strict (held Strict strict)))
+      (cleared-at-end old.base mid top t)
+      (cleared-loses-none Permissive old.base mid top all)
+      (cleared-is-snug Permissive old.base mid top all)
+      (cleared-is-snug-mini old.base mid top t)
+      (all-stay-balanced (cases_of old.base) (cases_of mid) (entries_of old.base) (entries_of mid) t.storage.outline t.storage.is (cleared-is-balanced old.base mid top t)))
 
   pub clear-tree : old.is_sound ≡ true → Holds old → HoldsMini Permissive mid → (names : List (List ℕ)) (o : Outline) → IsOutline (cases_of old.base) (entries_of old.base) o
       → number_from (cases_of old.base) (entries_of old.base) 0 o names ≡ Some top

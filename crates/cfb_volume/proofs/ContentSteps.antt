@@ -1,25 +1,24 @@
 -- What the layers below made of one stream's content is one change of the file: once it has ended, and where it broke off.
 use Rattle.std.proofs.Common.{◌≡◌, ◌⊎◌, inl, inr, ℕ, Bool, true, false, sym, ◌∙◌, ap, subst}
 use Rattle.cfb_format.specs.declared.validate.Validation.TheVariants.{Permissive, Strict}
-use Rattle.cfb_format.specs.Bytes.{end_of_chain}
 use Rattle.cfb_format.specs.Reading.{IsOutline}
-use Rattle.cfb_format.specs.Siblings.{entry_at}
 use Rattle.cfb_volume.specs.cfb_mini_sectors.Held.{with_table}
 use Rattle.cfb_volume.specs.cfb_mini_sectors.State.{MiniState, cases_of, entries_of, table_of}
 use Rattle.cfb_volume.specs.cfb_mini_sectors.Steps.{KeepsLimits}
 use Rattle.cfb_volume.specs.cfb_mini.MiniSectors.{IsStill}
 use Rattle.cfb_volume.specs.cfb_content.Changed.{MovesAlone, SparesOthers, WasChanged}
-use Rattle.cfb_volume.specs.cfb_content.Contents.{IsStreamOf, MovesContent, len_of}
+use Rattle.cfb_volume.specs.cfb_content.Contents.{IsStreamOf, MovesContent}
 use Rattle.cfb_volume.proofs.cfb_content.Outlines.{moved-is-outline, stream-stays}
-use Rattle.cfb_volume.proofs.cfb_content.Snug.{sized-is-snug}
+use Rattle.cfb_volume.proofs.cfb_content.Snug.{sized-is-snug, sized-stays-snug}
 use Rattle.cfb_volume.specs.cfb_resizing.Turning.{KeepsTablesTight}
-use Rattle.cfb_agreement.specs.Changes.{ChangesOneContent, StaysOrFails}
-use Rattle.cfb_agreement.specs.Files.{Agrees, EmptyStartAtEnd, FileState, Holds, IsAsMade, SameSetting, failures_of, is_failed}
-use Rattle.cfb_agreement.proofs.ContentChanges.{content-keeps-made}
-use Rattle.cfb_agreement.proofs.Flags.{as-before-same, flags-not-made, flags-not-read}
+use Rattle.cfb_agreement.specs.Changes.{ChangesOneContent, KeepsParts, StaysOrFails}
+use Rattle.cfb_agreement.specs.Files.{Agrees, FileState, Holds, SameSetting, StartsAtEndIfEmpty, failures_of, is_failed}
+use Rattle.cfb_agreement.proofs.ContentChanges.{content-keeps-parts}
+use Rattle.cfb_agreement.proofs.Flags.{as-before-same, flags-not-read}
 use Rattle.cfb_agreement.proofs.HeldBytes.{changeable-is-held}
 use Rattle.cfb_agreement.proofs.InTurn.{as-before-is-none}
-use Rattle.cfb_volume.proofs.InsertedObjects.{ended}
+use Rattle.cfb_agreement.proofs.Settled.{settled-flagged, settled-then}
+use Rattle.cfb_volume.proofs.InsertedObjects.{ended, parts-ended}
 
 -- the file that stands on this
 abbrev pub file_on : Bool → ℕ → MiniState → FileState
@@ -32,7 +31,7 @@ pub record WentWell (old new : MiniState) (i : ℕ) : Type 0 where
   pub spares : SparesOthers old new i
   pub changed : WasChanged old new i
   pub tight : KeepsTablesTight old new
-  pub at_end : EmptyStartAtEnd old → len_of new i ≡ 0 → (entry_at (entries_of new) i).start_sector ≡ end_of_chain
+  pub at_end : StartsAtEndIfEmpty old i → StartsAtEndIfEmpty new i
 
 -- and of one that was refused
 pub record WasRefused (old new : MiniState) (i : ℕ) : Type 0 where
@@ -69,17 +68,18 @@ module _ (old : FileState) (mid : MiniState) (i : ℕ) (sound : Bool) (limit : �
     out : IsOutline (cases_of mid) (entries_of mid) was.stream.outline
     out = moved-is-outline old.base mid i was.stream.outline was.moves.limits.cases was.moves.entries was.stream.is
 
-    made-then : IsAsMade old.base → IsAsMade mid
-    made-then made =
-        content-keeps-made i old.base mid was.moves was.stream made (was.changed.holds Strict made.changeable) (was.changed.tidy Strict made.changeable)
-        (was.changed.owned Strict made.changeable made.used) (was.tight.exact made.exact)
-        (sized-is-snug old.base mid i was.moves.limits was.moves.entries (was.spares.others Strict made.changeable) was.stream (was.changed.sized Strict made.changeable) made.snug)
-        (was.changed.snug_mini Strict made.changeable made.snug_mini) (was.at_end made.tidy.ended)
-
     module _ (held : Holds old) (certain : old.is_sound ≡ true) where
       pub ended-holds : Holds (file_on sound limit (ended mid))
       ended-holds = flags-not-read (file_on sound limit mid) (table_of mid).file.failures false
           (changeable-is-held (file_on sound limit mid) was.stream.outline (sound-is ∙ certain) (was.changed.holds Permissive (held.sound certain)) out)
+
+      content-parts : KeepsParts old.base mid
+      content-parts =
+          let change = held.sound certain in
+          content-keeps-parts i old.base mid was.moves was.stream (was.changed.holds Strict) (was.changed.tidy Permissive change)
+          (was.changed.owned Permissive change) was.tight.exact
+          (sized-is-snug old.base mid i was.moves.limits was.moves.entries (was.spares.others Permissive change) was.stream (was.changed.sized Permissive change))
+          (was.changed.snug_mini Permissive change) (was.changed.gives_back Permissive change) was.at_end
 
       pub ended-changes : ChangesOneContent i old (file_on sound limit (ended mid))
       ended-changes = record {
@@ -89,7 +89,15 @@ module _ (old : FileState) (mid : MiniState) (i : ℕ) (sound : Bool) (limit : �
             let kept = was.spares.others Permissive (held.sound certain) o is k m ne in
             record { chain = kept.chain; sectors = kept.sectors; places = kept.places; mini_sectors = kept.mini_sectors };
         header = record { no_shorter = was.spares.header.no_shorter; bytes = was.spares.header.bytes };
-        made = λ calm made. flags-not-made (file_on sound limit mid) (table_of mid).file.failures false (made-then made);
+        sized = λ calm.
+            let sized = was.changed.sized Permissive (held.sound certain) in
+            settled-then i old.base mid (ended mid) (record {
+              cut = sized.shorter;
+              moved = sized.moved;
+              kept = sized-stays-snug old.base mid i was.moves.limits.version sized;
+              ended = was.at_end;
+            }) (settled-flagged i mid (table_of mid).file.failures false);
+        parts = λ calm. parts-ended old.base mid content-parts;
         grows = λ calm. was.tight.none_free;
       }
 
@@ -128,7 +136,8 @@ module _ (old : FileState) (mid : MiniState) (i : ℕ) (sound : Bool) (limit : �
           entries = was.moves.entries;
           others = was.spares.others Permissive (held.sound certain);
           header = was.spares.header;
-          made = λ down made. up-is-not-down (table_of mid).file.begun up down;
+          sized = λ down. up-is-not-down (table_of mid).file.begun up down;
+          parts = λ down. up-is-not-down (table_of mid).file.begun up down;
           grows = λ down longer. up-is-not-down (table_of mid).file.begun up down;
         }
       ]

@@ -20,8 +20,8 @@ use Rattle.cfb_volume.specs.cfb_content.Contents.{KeepsContent, KeepsFixedHeader
 use Rattle.cfb_volume.proofs.cfb_content.FixedHeader.{header-then}
 use Rattle.cfb_volume.proofs.cfb_content.Kept.{keeps-then}
 use Rattle.cfb_volume.proofs.cfb_content.Outlines.{no-root-stream}
-use Rattle.cfb_agreement.specs.Changes.{KeepsStreams}
-use Rattle.cfb_agreement.specs.Files.{Agrees, FileState, Holds, IsAsMade, SameSetting, failures_of, is_failed}
+use Rattle.cfb_agreement.specs.Changes.{KeepsParts, KeepsStreams}
+use Rattle.cfb_agreement.specs.Files.{Agrees, FileState, Holds, SameSetting, failures_of, is_failed}
 use Rattle.cfb_entry_changes.specs.Clearing.{ClearsStorage}
 use Rattle.cfb_entry_changes.proofs.Emptied.{cleared-has-outline, cleared-is-balanced, cleared-is-found}
 use Rattle.cfb_volume.specs.Clearing.{EmptiesStorage, EmptiesStreams, KeepsStreamsBeside, KeepsStreamsBut, emptied_at}
@@ -29,6 +29,7 @@ use Rattle.cfb_volume.proofs.cfb_objects.Balance.{content-keeps-balance}
 use Rattle.cfb_volume.proofs.InsideNames.{inside-stands}
 use Rattle.cfb_volume.proofs.Insides.{inside-stays, inside-stream, inside-unique, storage-stays}
 use Rattle.cfb_agreement.proofs.InTurn.{setting-then}
+use Rattle.cfb_agreement.proofs.Parts.{parts-then}
 
 -- an entry with another start and length
 made-but : (a b : Entry) (start len : ℕ) → b ≡ record a { start_sector = start; stream_len = len } → ButContent a b
@@ -92,13 +93,13 @@ module _ (tells : Bool) (top : ℕ) (start mid : FileState) (inside : Outline) (
         ∙ ap (λ (e : Entry). record e { child = no_stream }) (i.entries top)
 
     pub empties-storage : is_failed new ≡ false → tables_in new.base ≡ tables_in mid.base → (IsTrue tells → Holds mid → Agrees new)
-        → (IsTrue tells → Holds mid → IsAsMade mid.base → IsAsMade new.base) → (IsTrue tells → Holds mid → KeepsStreams mid.base new.base)
+        → (IsTrue tells → Holds mid → KeepsParts mid.base new.base) → (IsTrue tells → Holds mid → KeepsStreams mid.base new.base)
         → (IsTrue tells → KeepsFixedHeader mid.base new.base)
         → (IsTrue tells → Holds mid → (names : List (List ℕ)) (o : Outline) → IsOutline (cases_of mid.base) (entries_of mid.base) o
         → number_from (cases_of mid.base) (entries_of mid.base) 0 o names ≡ Some top
         → BecomesTree (cases_of mid.base) (bytes_of mid.base) (bytes_of new.base) (emptied_at mid names))
         → (IsTrue tells → failures_of new ≡ failures_of mid) → EmptiesStorage tells top start new
-    empties-storage calm tables agrees made others header tree counted = record {
+    empties-storage calm tables agrees parts others header tree counted = record {
       setting = setting-then start mid new i.setting setting;
       unfailed = calm;
       inside = inside;
@@ -128,7 +129,7 @@ module _ (tells : Bool) (top : ℕ) (start mid : FileState) (inside : Outline) (
           (λ reached kind. content-keeps-balance (entries_of start.base) (entries_of mid.base) k i.longer i.entries (was reached (λ s. kind (ap (λ (x : Entry). x.obj_type) (i.entries k) ∙ s))));
       same_length = ap (λ (u : TableState). length u.fat) tables ∙ i.same_length;
       holds = λ told holds. agrees told (i.holds told holds) calm;
-      made = λ told holds made'. made told (i.holds told holds) (i.made told holds made');
+      parts = λ told holds. parts-then start.base mid.base new.base (i.parts told holds) (parts told (i.holds told holds));
       others = λ told holds. beside-but start.base new.base top inside has storage.kind (others-then new.base told holds (others told (i.holds told holds)));
       header = λ told holds. header-then start.base mid.base new.base i.setting.limits.version (i.header told holds) (header told);
       tree = λ told holds goal o is at t0 means.

@@ -28,6 +28,7 @@ use Rattle.cfb_volume.proofs.Settings.{setting-same}
 use Rattle.cfb_volume.proofs.Forgotten.{forgets-content}
 use Rattle.cfb_format.proofs.Members.{Contains-here, Contains-one}
 use Rattle.cfb_agreement.proofs.InTurn.{setting-then}
+use Rattle.cfb_agreement.proofs.Parts.{parts-same, parts-then}
 
 -- ---- entries but for start and length
 
@@ -50,7 +51,7 @@ emptied-none tells list done start calm empty = record {
   empty = empty;
   same_length = refl;
   holds = λ told holds. holds;
-  made = λ told holds made. made;
+  parts = λ told holds. parts-same start.base;
   others = λ told holds o is k m out. kept-stream start.base o is k m;
   header = λ told holds. record { no_shorter = omega arith; bytes = λ j lt fixed. refl };
   tree = λ told holds goal at t means. (t, means, refl);
@@ -76,7 +77,7 @@ module _ (tells : Bool) (k : ℕ) (old new : FileState) (setting : SameSetting o
     empty = λ j m e. ap (len_of new.base) (sym (Contains-one k j m)) ∙ len;
     same_length = fat;
     holds = λ told holds. agrees told holds calm;
-    made = λ told holds. (changes told holds).made calm;
+    parts = λ told holds. (changes told holds).parts calm;
     others = λ told holds o is j m out. (changes told holds).others o is j m (out-of j out);
     header = λ told holds. (changes told holds).header;
     tree = λ told holds goal at t means.
@@ -134,7 +135,7 @@ module _ (tells : Bool) (list done : List ℕ) (k : ℕ) (start mid new : FileSt
         ];
     same_length = j.same_length ∙ i.same_length;
     holds = λ told holds. j.holds told (i.holds told holds);
-    made = λ told holds made. j.made told (i.holds told holds) (i.made told holds made);
+    parts = λ told holds. parts-then start.base mid.base new.base (i.parts told holds) (j.parts told (i.holds told holds));
     others = λ told holds o is m c out.
         keeps-then start.base mid.base new.base (entry_at (entries_of start.base) m) i.setting.limits.version (i.others told holds o is m c out)
         (subst (λ (e : Entry). KeepsContent mid.base new.base e) (i.kept m (no-root-stream start.base o m is c) out)

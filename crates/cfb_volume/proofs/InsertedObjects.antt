@@ -28,12 +28,13 @@ use Rattle.cfb_entry_changes.specs.Putting.{PutsObject, WritesObject}
 use Rattle.cfb_entry_changes.proofs.Entries.{put-has-outline, put-is-balanced, put-is-exact, put-is-snug-mini}
 use Rattle.cfb_entry_changes.proofs.Fullness.{full-for-entry-is-full}
 use Rattle.cfb_entry_changes.proofs.Joined.{put-storage-joins-tree, put-stream-joins-tree}
-use Rattle.cfb_entry_changes.proofs.Sound.{put-is-all-used, put-is-changeable, put-is-snug}
+use Rattle.cfb_entry_changes.proofs.Sound.{put-is-changeable, put-is-snug, put-loses-none}
 use Rattle.cfb_entry_changes.proofs.Spared.{put-keeps-streams}
-use Rattle.cfb_agreement.specs.Changes.{KeepsStreams, StaysOrFails, object_added_at}
-use Rattle.cfb_agreement.specs.Files.{Agrees, FileState, Holds, IsAsBefore, IsAsMade, IsCounted, IsFullFile, is_failed}
-use Rattle.cfb_agreement.proofs.Flags.{flags-not-read, made-flagged}
+use Rattle.cfb_agreement.specs.Changes.{KeepsParts, KeepsStreams, StaysOrFails, object_added_at}
+use Rattle.cfb_agreement.specs.Files.{Agrees, FileState, Holds, IsAsBefore, IsCounted, IsFullFile, is_failed}
+use Rattle.cfb_agreement.proofs.Flags.{flags-not-read, parts-flagged}
 use Rattle.cfb_agreement.proofs.HeldBytes.{changeable-is-held}
+use Rattle.cfb_agreement.proofs.Parts.{none-freed, parts-then}
 use Rattle.cfb_volume.proofs.EmptyStreams.{put-at-end}
 use Rattle.cfb_volume.proofs.Tidy.{put-whole}
 use Rattle.cfb_volume.proofs.cfb_tables.Refusals.{refused-as}
@@ -75,6 +76,9 @@ streams-ended s mid keeps o is k m =
 pub header-ended : (s mid : MiniState) → KeepsFixedHeader s mid → KeepsFixedHeader s (ended mid)
 header-ended s mid keeps = record { no_shorter = keeps.no_shorter; bytes = keeps.bytes }
 
+pub parts-ended : (old mid : MiniState) → KeepsParts old mid → KeepsParts old (ended mid)
+parts-ended old mid parts = parts-then old mid (ended mid) parts (parts-flagged mid (table_of mid).file.failures false)
+
 -- ---- the streams that were there
 
 pub insert-keeps-streams : (old : FileState) (mid : MiniState) → old.is_sound ≡ true → Holds old
@@ -94,22 +98,23 @@ module _ (old : FileState) (mid : MiniState) (parent n : ℕ) (name : List ℕ) 
       let o = put-has-outline old.base mid parent n name kind moment put in
       flags-not-read (file_with old mid) (table_of mid).file.failures false (changeable-is-held (file_with old mid) o.0 sound change o.1)
 
-  pub insert-made : IsAsMade old.base → HoldsMini Strict mid → IsCounted mid → IsAsMade (ended mid)
-  insert-made made held counted =
-      let all = writes Strict made.changeable held in
-      made-flagged mid (table_of mid).file.failures false (record {
-        changeable = put-is-changeable Strict old.base mid parent n name kind moment all;
-        tidy = record {
-          whole = put-whole Strict old.base mid held put.kept put.inserts.lengthened spares.no_shorter made.tidy.whole;
-          counted = counted;
-          ended = put-at-end old.base mid parent n name kind moment put made.tidy.ended;
-        };
-        used = put-is-all-used Strict old.base mid parent n name kind moment all made.used;
-        exact = put-is-exact old.base mid parent n name kind moment put made.exact;
-        snug = put-is-snug Strict old.base mid parent n name kind moment all made.snug;
-        snug_mini = put-is-snug-mini old.base mid parent n name kind moment put made.snug_mini;
+  pub insert-parts : old.is_sound ≡ true → Holds old → ((v : Validation) → IsChangeable v old.base → HoldsMini v mid) → (IsCounted old.base → IsCounted mid)
+      → KeepsParts old.base (ended mid)
+  insert-parts sound holds held counted =
+      let change = holds.sound sound in
+      let all = writes Permissive change (held Permissive change) in
+      parts-ended old.base mid (record {
+        strict = λ strict. put-is-changeable Strict old.base mid parent n name kind moment (writes Strict strict (held Strict strict));
+        whole = put-whole Permissive old.base mid (held Permissive change) put.kept put.inserts.lengthened spares.no_shorter;
+        counted = counted;
+        ended = put-at-end old.base mid parent n name kind moment put;
+        used = put-loses-none Permissive old.base mid parent n name kind moment all;
+        exact = put-is-exact old.base mid parent n name kind moment put;
+        snug = put-is-snug Permissive old.base mid parent n name kind moment all;
+        snug_mini = put-is-snug-mini old.base mid parent n name kind moment put;
+        gives_back = none-freed old.base mid put.mini.minifat;
         balanced = all-stay-balanced (cases_of old.base) (cases_of mid) (entries_of old.base) (entries_of mid) put.storage.outline put.storage.is
-            (put-is-balanced old.base mid parent n name kind moment put) made.balanced;
+            (put-is-balanced old.base mid parent n name kind moment put);
       })
 
   pub insert-tree : old.is_sound ≡ true → Holds old → HoldsMini Permissive mid → (names : List (List ℕ)) (o : Outline)

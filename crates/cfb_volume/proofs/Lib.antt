@@ -19,6 +19,7 @@ pub mod Tidy
 pub mod InsertedObjects
 pub mod ContentSteps
 pub mod Fullness
+pub mod InMemory
 pub mod Refusals
 pub mod Emptying
 pub mod Insides

@@ -1,5 +1,5 @@
 -- A file in which an object has other fields.
-use Rattle.std.proofs.Common.{◌≡◌, ℕ, List, Bool, false, true, sym, subst}
+use Rattle.std.proofs.Common.{◌≡◌, ℕ, List, Bool, false, true}
 use Rattle.std.specs.Prelude.{IsTrue, Some}
 use Rattle.cfb_format.specs.declared.error.Error.{Error}
 use Rattle.cfb_format.specs.declared.error.Error.TheVariants.{AlreadyExists, Failed, Full, InvalidData, InvalidInput, Medium, Memory, NotFound, Unsound}
@@ -14,7 +14,6 @@ use Rattle.cfb_volume.specs.cfb_entries.declared.fields.Fields.{Fields}
 use Rattle.cfb_volume.specs.cfb_rules.CallChanges.{fields_changed_at}
 use Rattle.cfb_volume.specs.cfb_siblings.Paths.{number_from}
 use Rattle.cfb_volume.specs.cfb_tables.Refused.{ChangeRefused}
-use Rattle.cfb_volume.specs.cfb_tables.Tables.{AreExactTables}
 use Rattle.cfb_volume.specs.cfb_alloc.Frame.{Spares}
 use Rattle.cfb_volume.specs.cfb_directory.State.{HoldsDirectory}
 use Rattle.cfb_volume.specs.cfb_directory.Steps.{KeepsWholeHeader}
@@ -24,16 +23,17 @@ use Rattle.cfb_volume.specs.cfb_objects.Laws.{BecomesTree}
 use Rattle.cfb_volume.proofs.cfb_objects.Balance.{all-stay-balanced}
 use Rattle.cfb_volume.specs.cfb_mini_sectors.State.{HoldsMini, IsChangeable, MiniState, bytes_of, cases_of, entries_of, table_of, version_of}
 use Rattle.cfb_volume.specs.cfb_mini_sectors.Steps.{StopsShort}
-use Rattle.cfb_agreement.specs.Files.{FileState, Holds, IsAsMade}
-use Rattle.cfb_agreement.proofs.Flags.{flags-not-read, made-flagged}
+use Rattle.cfb_agreement.specs.Changes.{KeepsParts}
+use Rattle.cfb_agreement.specs.Files.{FileState, Holds}
+use Rattle.cfb_agreement.proofs.Flags.{flags-not-read}
 use Rattle.cfb_agreement.proofs.HeldBytes.{changeable-is-held}
 use Rattle.cfb_volume.specs.cfb_content.Contents.{len_of}
 use Rattle.cfb_entry_changes.specs.Kept.{AllStayBalanced, FindsTheSame}
 use Rattle.cfb_entry_changes.specs.Marking.{GivesFields, MarksEntry, WritesFields}
-use Rattle.cfb_entry_changes.proofs.Marked.{marked-changes-tree, marked-has-outline, marked-is-all-used, marked-is-balanced, marked-is-changeable, marked-is-found, marked-is-snug, marked-is-snug-mini, marked-keeps-root}
+use Rattle.cfb_entry_changes.proofs.Marked.{marked-changes-tree, marked-has-outline, marked-is-balanced, marked-is-changeable, marked-is-found, marked-is-snug, marked-is-snug-mini, marked-keeps-root, marked-loses-none}
 use Rattle.cfb_volume.proofs.EmptyStreams.{marked-at-end}
-use Rattle.cfb_volume.proofs.InsertedObjects.{ended, file_with}
-use Rattle.cfb_volume.proofs.Tidy.{slots-tidy}
+use Rattle.cfb_volume.proofs.InsertedObjects.{ended, file_with, parts-ended}
+use Rattle.cfb_volume.proofs.Tidy.{slots-keep-parts}
 
 -- the entry of a reached object can be read back
 pub reached-valid : (v : Validation) (s : MiniState) (o : Outline) (i : ℕ) → HoldsDirectory v s.directory → IsOutline (cases_of s) (entries_of s) o → IsReached o i
@@ -71,21 +71,17 @@ module _ {tells : Bool} {old : FileState} {mid : MiniState} {i : ℕ} {Are : Fie
         flags-not-read (file_with old mid) (table_of mid).file.failures false
         (changeable-is-held (file_with old mid) m.outline sound change (marked-has-outline old.base mid i m.fields m.marks m.outline m.is))
 
-    pub mark-made : IsAsMade old.base → IsAsMade (ended mid)
-    mark-made made =
-        let all = writes Strict made.changeable in
-        made-flagged mid (table_of mid).file.failures false (record {
-          changeable = marked-is-changeable Strict old.base mid i m.fields m.outline m.is all;
-          tidy =
-              slots-tidy Strict old.base mid made.changeable.held (m.held told Strict made.changeable.held) m.marks.kept (m.header told) (m.spares told)
-              (marked-at-end old.base mid i m.fields m.marks m.outline m.is made.tidy.ended) made.tidy;
-          used = marked-is-all-used Strict old.base mid i m.fields m.outline m.is all made.used;
-          exact = subst (λ u. AreExactTables u) (sym m.marks.kept.tables) made.exact;
-          snug = marked-is-snug Strict old.base mid i m.fields m.outline m.is all made.snug;
-          snug_mini = marked-is-snug-mini old.base mid i m.fields m.marks made.snug_mini;
-          balanced = all-stay-balanced (cases_of old.base) (cases_of mid) (entries_of old.base) (entries_of mid) m.outline m.is
-              (marked-is-balanced old.base mid i m.fields m.marks) made.balanced;
-        })
+    pub mark-parts : old.is_sound ≡ true → Holds old → KeepsParts old.base (ended mid)
+    mark-parts sound holds =
+        let change = holds.sound sound in
+        let all = writes Permissive change in
+        parts-ended old.base mid (slots-keep-parts Permissive old.base mid change.held (m.held told Permissive change.held) m.marks.kept (m.header told) (m.spares told)
+        (λ strict. marked-is-changeable Strict old.base mid i m.fields m.outline m.is (writes Strict strict))
+        (marked-at-end old.base mid i m.fields m.marks m.outline m.is)
+        (marked-loses-none Permissive old.base mid i m.fields m.outline m.is all)
+        (marked-is-snug Permissive old.base mid i m.fields m.outline m.is all)
+        (marked-is-snug-mini old.base mid i m.fields m.marks)
+        (all-stay-balanced (cases_of old.base) (cases_of mid) (entries_of old.base) (entries_of mid) m.outline m.is (marked-is-balanced old.base mid i m.fields m.marks)))
 
     pub mark-tree : old.is_sound ≡ true → Holds old → (f : StorageInfo → StorageInfo) (g : StreamInfo → StreamInfo) (names : List (List ℕ)) (p : Outline)
         → IsOutline (cases_of old.base) (entries_of old.base) p → number_from (cases_of old.base) (entries_of old.base) 0 p names ≡ Some i

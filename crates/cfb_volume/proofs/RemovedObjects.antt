@@ -28,7 +28,6 @@ use Rattle.cfb_volume.proofs.cfb_siblings.NameFacts.{later-not-same}
 use Rattle.cfb_volume.proofs.cfb_siblings.Tallies.{all-at, counted, hit-cases, hit-same, tally-append}
 use Rattle.cfb_volume.specs.cfb_alloc.Frame.{Spares}
 use Rattle.cfb_volume.specs.cfb_tables.Refused.{ChangeRefused}
-use Rattle.cfb_volume.specs.cfb_tables.Tables.{AreExactTables}
 use Rattle.cfb_volume.specs.cfb_trees.Paths.{number_after}
 use Rattle.cfb_volume.proofs.cfb_trees.Members.{streams-are-by-kind}
 use Rattle.cfb_volume.specs.cfb_entries.EntryList.{RemovesEntry}
@@ -40,24 +39,25 @@ use Rattle.cfb_volume.specs.cfb_mini.MiniSectors.{IsStill}
 use Rattle.cfb_volume.specs.cfb_content.Contents.{IsStreamOf, KeepsOthers, MovesContent, len_of}
 use Rattle.cfb_volume.proofs.cfb_content.Kept.{nothing-is-moved, others-kept-then}
 use Rattle.cfb_volume.proofs.cfb_content.Outlines.{moved-is-outline, same-entries-moved}
-use Rattle.cfb_agreement.specs.Changes.{StaysOrFails}
-use Rattle.cfb_agreement.specs.Files.{Agrees, FileState, Holds, IsAsBefore, IsAsMade, failures_of, is_failed}
+use Rattle.cfb_agreement.specs.Changes.{KeepsParts, StaysOrFails}
+use Rattle.cfb_agreement.specs.Files.{Agrees, FileState, Holds, IsAsBefore, failures_of, is_failed}
 use Rattle.cfb_agreement.proofs.ContentChanges.{content-becomes-tree}
-use Rattle.cfb_agreement.proofs.Flags.{as-before-same, flags-not-read, made-flagged}
+use Rattle.cfb_agreement.proofs.Flags.{as-before-same, flags-not-read}
 use Rattle.cfb_agreement.proofs.HeldBytes.{changeable-is-held}
+use Rattle.cfb_agreement.proofs.Parts.{parts-same, parts-then}
 use Rattle.cfb_volume.proofs.cfb_objects.Balance.{fields-keep-balance}
 use Rattle.cfb_entry_changes.proofs.Spared.{put-keeps-streams}
 use Rattle.cfb_entry_changes.specs.Kept.{AllStayBalancedBut, FindsAllBut}
 use Rattle.cfb_entry_changes.specs.Taking.{TakesObject, WritesRemoval}
 use Rattle.cfb_entry_changes.proofs.Moved.{moved-fields, moved-is-found}
-use Rattle.cfb_entry_changes.proofs.Taken.{taken-has-outline, taken-is-all-used, taken-is-changeable, taken-is-not-found, taken-is-snug, taken-is-snug-mini, taken-keeps-root, taken-leaves-tree}
+use Rattle.cfb_entry_changes.proofs.Taken.{taken-has-outline, taken-is-changeable, taken-is-not-found, taken-is-snug, taken-is-snug-mini, taken-keeps-root, taken-leaves-tree, taken-loses-none}
 use Rattle.cfb_entry_changes.proofs.TakenBalance.{taken-is-balanced}
 use Rattle.cfb_format.specs.Refused.{IsBreak}
 use Rattle.cfb_volume.specs.Removing.{WasEmptied}
 use Rattle.cfb_volume.proofs.Balances.{all-but-balanced}
 use Rattle.cfb_volume.proofs.EmptyStreams.{taken-at-end}
-use Rattle.cfb_volume.proofs.InsertedObjects.{ended, file_with, refused-stays}
-use Rattle.cfb_volume.proofs.Tidy.{slots-tidy}
+use Rattle.cfb_volume.proofs.InsertedObjects.{ended, file_with, parts-ended, refused-stays}
+use Rattle.cfb_volume.proofs.Tidy.{slots-keep-parts}
 use Rattle.cfb_volume.proofs.cfb_siblings.PathWalk.{is-stream-or}
 
 -- ---- emptied
@@ -69,12 +69,9 @@ none-emptied s i ne = record {
   entries = same-entries-moved s s i refl;
   others = λ v change. nothing-is-moved i s;
   holds = λ v change. change;
-  owned = λ v change used. used;
-  exact = λ exact. exact;
-  tidy = λ v change tidy. tidy;
-  snug = λ v change snug. snug;
-  snug_mini = λ v change snug. snug;
+  parts = λ v change. parts-same s;
   empty = λ e. absurd (ne e);
+  erased = λ v change e. absurd (ne e);
 }
 
 -- what is below the root and of that kind is a stream of the tree
@@ -163,7 +160,7 @@ pub record WasRemoved (old : FileState) (mid new : MiniState) (parent child : �
   pub number : taken.entry.number ≡ child
   pub spares : Spares mid.directory.sectors (table_of mid) (table_of new)
   pub header : KeepsWholeHeader mid.directory new.directory
-  pub held : (v : Validation) → IsChangeable v old.base → HoldsMini v new
+  pub held : (v : Validation) → IsChangeable v mid → HoldsMini v new
 
 -- the child of that name was taken
 taken-number : (old mid new : MiniState) (parent child : ℕ) (name : List ℕ) → KeepsLimits old mid → MovesContent old mid child
@@ -200,7 +197,7 @@ was-removed old mid new parent child name emptied none storage there removed bal
       number = same;
       spares = spares;
       header = header;
-      held = λ v change. holds v (emptied.holds v change).held;
+      held = λ v change. holds v change.held;
     }
 
 -- the contents of the other streams stay, whatever became of the removal
@@ -216,8 +213,11 @@ others-ended i s mid keeps o is k m ne =
     record { chain = w.chain; sectors = w.sectors; places = w.places; mini_sectors = w.mini_sectors }
 
 module _ {old : FileState} {mid new : MiniState} {parent child : ℕ} {name : List ℕ} (r : WasRemoved old mid new parent child name) where
+  takes : (v : Validation) → IsChangeable v mid → WritesRemoval v mid new parent name
+  takes v change = record { changeable = change; taken = r.taken; held = r.held v change; spares = r.spares }
+
   writes : (v : Validation) → IsChangeable v old.base → WritesRemoval v mid new parent name
-  writes v change = record { changeable = r.emptied.holds v change; taken = r.taken; held = r.held v change; spares = r.spares }
+  writes v change = takes v (r.emptied.holds v change)
 
   abbrev o : Outline
   o = r.taken.storage.outline
@@ -251,21 +251,22 @@ module _ {old : FileState} {mid new : MiniState} {parent child : ℕ} {name : Li
             (keep j reached (λ s. kind ((fields j).obj_type ∙ s)) stands)),
       )
 
-  pub remove-made : (p : Outline) → IsOutline (cases_of old.base) (entries_of old.base) p → IsAsMade old.base → IsAsMade (ended new)
-  remove-made p p_is made =
-      let all = writes Strict made.changeable in
-      made-flagged new (table_of new).file.failures false (record {
-        changeable = taken-is-changeable Strict mid new parent name all;
-        tidy =
-            let was = r.emptied.tidy Strict made.changeable made.tidy in
-            slots-tidy Strict mid new (r.emptied.holds Strict made.changeable).held (r.held Strict made.changeable) r.taken.kept r.header r.spares
-            (taken-at-end mid new parent name r.taken was.ended) was;
-        used = taken-is-all-used Strict mid new parent name all (r.emptied.owned Strict made.changeable made.used);
-        exact = subst (λ u. AreExactTables u) (sym r.taken.kept.tables) (r.emptied.exact made.exact);
-        snug = taken-is-snug Strict mid new parent name all (r.emptied.snug Strict made.changeable made.snug);
-        snug_mini = taken-is-snug-mini mid new parent name r.taken (r.emptied.snug_mini Strict made.changeable made.snug_mini);
-        balanced = all-but-balanced old.base (ended new) child p p_is remove-balanced made.balanced;
-      })
+  -- the object is taken once it was emptied
+  taken-parts : IsChangeable Permissive mid → KeepsParts mid new
+  taken-parts change =
+      let all = takes Permissive change in
+      slots-keep-parts Permissive mid new change.held (r.held Permissive change) r.taken.kept r.header r.spares
+      (λ strict. taken-is-changeable Strict mid new parent name (takes Strict strict))
+      (taken-at-end mid new parent name r.taken)
+      (taken-loses-none Permissive mid new parent name all)
+      (taken-is-snug Permissive mid new parent name all)
+      (taken-is-snug-mini mid new parent name r.taken)
+      (all-but-balanced mid new r.taken.entry.number o is (taken-is-balanced mid new parent name r.taken))
+
+  pub remove-parts : old.is_sound ≡ true → Holds old → KeepsParts old.base (ended new)
+  remove-parts sound holds =
+      let change = holds.sound sound in
+      parts-ended old.base new (parts-then old.base mid new (r.emptied.parts Permissive change) (taken-parts (r.emptied.holds Permissive change)))
 
   pub remove-finds : FindsAllBut old.base (ended new) child
   remove-finds =

@@ -13,6 +13,7 @@ use Rattle.cfb_volume.proofs.cfb_content.FixedHeader.{header-then}
 use Rattle.cfb_agreement.specs.Files.{FileState, Holds, SameSetting, failures_of, is_failed}
 use Rattle.cfb_agreement.specs.Laws.{with_flags}
 use Rattle.cfb_volume.specs.Clearing.{ClearingBreaksOff}
+use Rattle.cfb_volume.proofs.InMemory.{same-in-memory}
 use Rattle.cfb_volume.proofs.Settings.{setting-same}
 use Rattle.cfb_agreement.proofs.InTurn.{setting-then}
 
@@ -51,6 +52,7 @@ broke-off tells can_give start mid new e true same setting header holds counted 
       record { no_shorter = keeps.no_shorter; bytes = keeps.bytes };
   agrees = λ told held calm. absurd (let clash : true ≡ false = calm in cc);
   refused = λ told held. inr refl;
+  in_memory = inr refl;
   err = λ told held. b.err told (holds told held);
   counts = λ told. subst (λ (k : ℕ). CountsError can_give k (failures_of new) e) (counted told) (b.counts told);
 }
@@ -97,6 +99,7 @@ memory-breaks-off tells can_give file e calm is = subst (λ (why : Error). Clear
   header = λ told holds. record { no_shorter = omega arith; bytes = λ i within fixed. refl };
   agrees = λ told holds down. holds;
   refused = λ told holds. inl (record { base = refl; bytes = refl; is_sound = refl; buffer_limit = refl });
+  in_memory = same-in-memory file;
   err = λ told holds. tt;
   counts = λ told. refl;
 })

@@ -3,22 +3,27 @@ use Rattle.std.proofs.Common.{◌≡◌, ◌≤◌, ℕ, List, false, sym, ◌�
 use Rattle.std.specs.Prelude.{Contains}
 use Rattle.std.proofs.lemmas.List.Elements.{Contains-append_right}
 use Rattle.cfb_format.specs.declared.validate.Validation.{Validation}
+use Rattle.cfb_format.specs.declared.validate.Validation.TheVariants.{Strict}
 use Rattle.cfb_volume.specs.cfb_tables.Listed.{ends_of, gained}
-use Rattle.cfb_volume.specs.cfb_tables.Tables.{TableState}
+use Rattle.cfb_volume.specs.cfb_tables.Tables.{AreExactTables, TableState}
+use Rattle.cfb_volume.specs.cfb_trees.Balance.{AreAllBalanced}
 use Rattle.cfb_volume.specs.cfb_alloc.Frame.{Spares}
 use Rattle.cfb_volume.specs.cfb_alloc.ListedChain.{Lengthens}
 use Rattle.cfb_volume.specs.cfb_entries.EntryList.{has_free}
 use Rattle.cfb_volume.specs.cfb_directory.Inserting.{KeepsSectorsIfFree, SparesRest, WritesDirectory}
 use Rattle.cfb_volume.specs.cfb_directory.Steps.{KeepsWholeHeader}
-use Rattle.cfb_volume.specs.cfb_mini_sectors.State.{HoldsMini, MiniState, bytes_of, entries_of, table_of, tables_in}
-use Rattle.cfb_volume.specs.cfb_mini_sectors.Steps.{KeepsLimits}
+use Rattle.cfb_volume.specs.cfb_mini_sectors.State.{HoldsMini, IsChangeable, MiniState, bytes_of, cases_of, entries_of, table_of, tables_in}
+use Rattle.cfb_volume.specs.cfb_mini_sectors.Steps.{IsSnugMini, KeepsLimits}
 use Rattle.cfb_volume.specs.cfb_mini.MiniSectors.{IsOfWholeSectors}
 use Rattle.cfb_volume.proofs.cfb_mini.WholeFiles.{same-whole, taken-whole}
+use Rattle.cfb_volume.specs.cfb_content.Contents.{AreSnug, LosesNone}
 use Rattle.cfb_volume.proofs.cfb_content.DirCount.{count-stays}
 use Rattle.cfb_entry_changes.specs.Standing.{KeepsAllButEntries}
 use Rattle.cfb_entry_changes.proofs.Entries.{either}
-use Rattle.cfb_agreement.specs.Files.{EmptyStartAtEnd, IsCounted, IsTidy}
-use Rattle.cfb_agreement.proofs.ContentChanges.{same-counted, stays-tidy}
+use Rattle.cfb_agreement.specs.Changes.{KeepsParts}
+use Rattle.cfb_agreement.specs.Files.{EmptyStartAtEnd, IsCounted}
+use Rattle.cfb_agreement.proofs.ContentChanges.{same-counted}
+use Rattle.cfb_agreement.proofs.Parts.{none-freed}
 use Rattle.cfb_volume.proofs.cfb_mini_sectors.MinifatGrown.{below_words}
 use Rattle.cfb_volume.proofs.cfb_mini_changes.MiniExtended.{header-whole}
 
@@ -28,13 +33,24 @@ tables-whole : (v : Validation) (old new : MiniState) → HoldsMini v new → ta
 tables-whole v old new held tables longer whole =
     same-whole v (table_of old) (table_of new) held.directory.tables (ap (λ (t : TableState). t.version) tables) (ap (λ (t : TableState). length t.fat) tables) longer whole
 
--- where slots alone were written
-pub slots-tidy : (v : Validation) (old new : MiniState) → HoldsMini v old → HoldsMini v new → KeepsAllButEntries old new → KeepsWholeHeader old.directory new.directory
-    → Spares old.directory.sectors (table_of old) (table_of new) → EmptyStartAtEnd new → IsTidy old → IsTidy new
-slots-tidy v old new before after kept header spares = stays-tidy old new kept.limits kept.sectors (record {
-  counted = count-stays v old new before (header-whole old new header);
+-- where slots alone were written each part of a file that was made here is kept, if those are that hang on the entries
+pub slots-keep-parts : (v : Validation) (old new : MiniState) → HoldsMini v old → HoldsMini v new → KeepsAllButEntries old new
+    → KeepsWholeHeader old.directory new.directory → Spares old.directory.sectors (table_of old) (table_of new)
+    → (IsChangeable Strict old → IsChangeable Strict new) → (EmptyStartAtEnd old → EmptyStartAtEnd new) → LosesNone old new
+    → (AreSnug old → AreSnug new) → (IsSnugMini old → IsSnugMini new)
+    → (AreAllBalanced (cases_of old) (entries_of old) → AreAllBalanced (cases_of new) (entries_of new)) → KeepsParts old new
+slots-keep-parts v old new before after kept header spares strict ended used snug snug_mini balanced = record {
+  strict = strict;
   whole = tables-whole v old new after kept.tables spares.no_shorter;
-})
+  counted = same-counted old new kept.limits kept.sectors (count-stays v old new before (header-whole old new header));
+  ended = ended;
+  used = used;
+  exact = λ exact. subst (λ (u : TableState). AreExactTables u) (sym kept.tables) exact;
+  snug = snug;
+  snug_mini = snug_mini;
+  gives_back = none-freed old new kept.mini.minifat;
+  balanced = balanced;
+}
 
 -- where a new object came in: with a sector more the header says how many there are
 pub put-counted : (v : Validation) (old new : MiniState) (parent : ℕ) → HoldsMini v old → KeepsLimits old new → KeepsSectorsIfFree old.directory new.directory

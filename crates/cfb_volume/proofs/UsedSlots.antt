@@ -78,6 +78,11 @@ count-behind p xs n d none =
     let rest = count-none p n d none in
     omega (arith, sum, rest)
 
+-- entries of the same kinds use as many slots
+pub same-used : (old new : List Entry) → length new ≡ length old → ((k : ℕ) → (entry_at new k).obj_type ≡ (entry_at old k).obj_type) → used_count new ≡ used_count old
+same-used old new len kinds =
+    count-same (λ (e : Entry). not (is_unallocated e.obj_type)) unallocated_entry old new len (λ k. ap (λ (t : ObjType). not (is_unallocated t)) (kinds k))
+
 -- where none is free all are in use
 pub all-used : (entries : List Entry) → has_free entries ≡ false → used_count entries ≡ length entries
 all-used [] none = refl

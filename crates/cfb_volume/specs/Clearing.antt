@@ -18,8 +18,9 @@ use Rattle.cfb_volume.specs.cfb_objects.Laws.{BecomesTree}
 use Rattle.cfb_volume.specs.cfb_mini_sectors.State.{MiniState, bytes_of, cases_of, entries_of, tables_in}
 use Rattle.cfb_volume.specs.cfb_content.Contents.{KeepsContent, KeepsFixedHeader, len_of}
 use Rattle.cfb_entry_changes.specs.Kept.{AllStayBalanced, AllStayBalancedBut}
-use Rattle.cfb_agreement.specs.Changes.{StaysOrFails}
-use Rattle.cfb_agreement.specs.Files.{Agrees, FileState, Holds, IsAsMade, SameSetting, failures_of, is_failed}
+use Rattle.cfb_agreement.specs.Changes.{KeepsParts, StaysOrFails}
+use Rattle.cfb_agreement.specs.Files.{Agrees, FileState, Holds, SameSetting, failures_of, is_failed, IsAsMade}
+use Rattle.cfb_volume.specs.Answers.{StaysInMemoryOrFails}
 
 -- ---- what stays
 
@@ -64,7 +65,7 @@ pub record EmptiesStreams (tells : Bool) (list done : List ℕ) (start now : Fil
   pub empty : (k : ℕ) → Contains done k → (entry_at (entries_of start.base) k).obj_type ≡ Stream → len_of now.base k ≡ 0
   pub same_length : length (tables_in now.base).fat ≡ length (tables_in start.base).fat
   pub holds : IsTrue tells → Holds start → Holds now
-  pub made : IsTrue tells → Holds start → IsAsMade start.base → IsAsMade now.base
+  pub parts : IsTrue tells → Holds start → KeepsParts start.base now.base
   pub others : IsTrue tells → Holds start → KeepsStreamsBut list start.base now.base
   pub header : IsTrue tells → Holds start → KeepsFixedHeader start.base now.base
   pub tree : IsTrue tells → Holds start → (goal : List (List ℕ)) → StandBelow start.base list goal → MeansTheSameBut start now goal
@@ -100,7 +101,7 @@ pub record EmptiesStorage (tells : Bool) (top : ℕ) (start now : FileState) : T
   pub balanced : AllStayBalanced start.base now.base
   pub same_length : length (tables_in now.base).fat ≡ length (tables_in start.base).fat
   pub holds : IsTrue tells → Holds start → Holds now
-  pub made : IsTrue tells → Holds start → IsAsMade start.base → IsAsMade now.base
+  pub parts : IsTrue tells → Holds start → KeepsParts start.base now.base
   pub others : IsTrue tells → Holds start → KeepsStreamsBeside top start.base now.base
   pub header : IsTrue tells → Holds start → KeepsFixedHeader start.base now.base
   pub tree : IsTrue tells → Holds start → (goal : List (List ℕ)) (o : Outline) → IsOutline (cases_of start.base) (entries_of start.base) o
@@ -120,7 +121,7 @@ pub record RemovesWithAll (tells : Bool) (parent top : ℕ) (name : List ℕ) (s
   pub unfailed : is_failed now ≡ false
   pub balanced : IsTrue tells → AllStayBalancedBut start.base now.base top
   pub holds : IsTrue tells → Holds start → Holds now
-  pub made : IsTrue tells → Holds start → IsAsMade start.base → IsAsMade now.base
+  pub parts : IsTrue tells → Holds start → KeepsParts start.base now.base
   pub longer : length (entries_of now.base) ≡ length (entries_of start.base)
   pub same_length : length (tables_in now.base).fat ≡ length (tables_in start.base).fat
   pub header : IsTrue tells → Holds start → KeepsFixedHeader start.base now.base
@@ -137,5 +138,6 @@ pub record ClearingBreaksOff (tells : Bool) (can_give : MediumFault → Bool) (s
   pub header : IsTrue tells → Holds start → KeepsFixedHeader start.base now.base
   pub agrees : IsTrue tells → Holds start → Agrees now
   pub refused : IsTrue tells → Holds start → StaysOrFails start now
+  pub in_memory : StaysInMemoryOrFails start now
   pub err : IsTrue tells → Holds start → IsBreak ⊥ e
   pub counts : IsTrue tells → CountsError can_give (failures_of start) (failures_of now) e

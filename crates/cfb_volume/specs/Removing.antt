@@ -3,10 +3,11 @@ use Rattle.std.specs.Prelude.{ℕ, ◌≡◌, ◌<◌, ◌⊎◌}
 use Rattle.cfb_format.specs.declared.objtype.ObjType.TheVariants.{Stream}
 use Rattle.cfb_format.specs.declared.validate.Validation.{Validation}
 use Rattle.cfb_format.specs.Siblings.{entry_at}
-use Rattle.cfb_volume.specs.cfb_tables.Tables.{AreExactTables}
 use Rattle.cfb_volume.specs.cfb_mini_sectors.State.{IsChangeable, MiniState, entries_of, tables_in}
-use Rattle.cfb_volume.specs.cfb_mini_sectors.Steps.{IsSnugMini, KeepsLimits}
-use Rattle.cfb_volume.specs.cfb_content.Contents.{AreAllUsed, AreSnug, KeepsOthers, MovesContent, len_of}
+use Rattle.cfb_volume.specs.cfb_mini_sectors.Steps.{KeepsLimits, IsSnugMini}
+use Rattle.cfb_volume.specs.cfb_content.Contents.{KeepsOthers, MovesContent, len_of, AreAllUsed, AreSnug, LeavesZeros}
+use Rattle.cfb_agreement.specs.Changes.{KeepsParts}
+use Rattle.cfb_volume.specs.cfb_tables.Tables.{AreExactTables}
 use Rattle.cfb_agreement.specs.Files.{IsTidy}
 
 -- the object of entry i has no content: a stream's was given back, and all else is as before
@@ -15,12 +16,9 @@ pub record WasEmptied (old new : MiniState) (i : ℕ) : Type 0 where
   pub entries : MovesContent old new i
   pub others : (v : Validation) → IsChangeable v old → KeepsOthers i old new
   pub holds : (v : Validation) → IsChangeable v old → IsChangeable v new
-  pub owned : (v : Validation) → IsChangeable v old → AreAllUsed old → AreAllUsed new
-  pub snug : (v : Validation) → IsChangeable v old → AreSnug old → AreSnug new
-  pub snug_mini : (v : Validation) → IsChangeable v old → IsSnugMini old → IsSnugMini new
-  pub exact : AreExactTables (tables_in old) → AreExactTables (tables_in new)
-  pub tidy : (v : Validation) → IsChangeable v old → IsTidy old → IsTidy new
+  pub parts : (v : Validation) → IsChangeable v old → KeepsParts old new
   pub empty : (entry_at (entries_of old) i).obj_type ≡ Stream → len_of new i ≡ 0
+  pub erased : (v : Validation) → IsChangeable v old → (entry_at (entries_of old) i).obj_type ≡ Stream → LeavesZeros old new i
 
 -- nothing has changed; or the stream of entry i had bytes, and they were given back
 abbrev pub StaysOrGaveBack : ℕ → MiniState → MiniState → Type 0

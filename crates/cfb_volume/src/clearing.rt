@@ -13,11 +13,12 @@ ghost use Rattle.cfb_volume.specs.cfb_trees.Reached.{IsReached};
 ghost use Rattle.cfb_volume.specs.cfb_objects.Laws.{BecomesTree};
 ghost use Rattle.cfb_volume.specs.cfb_mini_sectors.State.{bytes_of, cases_of, entries_of, tables_in};
 ghost use Rattle.cfb_volume.specs.cfb_content.Contents.{IsStreamOf, KeepsFixedHeader, len_of};
-ghost use Rattle.cfb_agreement.specs.Changes.{KeepsStreams, StaysOrFails};
-ghost use Rattle.cfb_agreement.specs.Files.{Agrees, Holds, IsAsMade, GrowsTightly, SameSetting, failures_of, is_failed};
+ghost use Rattle.cfb_agreement.specs.Changes.{KeepsParts, KeepsStreams, StaysOrFails};
+ghost use Rattle.cfb_agreement.specs.Files.{Agrees, Holds, GrowsTightly, SameSetting, failures_of, is_failed};
 ghost use Rattle.cfb_agreement.specs.Laws.{with_flags};
 ghost use Rattle.cfb_entry_changes.specs.Clearing.{ClearsStorage};
 ghost use Rattle.cfb_entry_changes.specs.Kept.{AllStayBalancedBut};
+ghost use Rattle.cfb_volume.specs.Answers.{StaysInMemoryOrFails};
 ghost use Rattle.cfb_volume.specs.Clearing.{ClearingBreaksOff, EmptiesStorage, EmptiesStreams, KeepsStreamsBut, KeepsStreamsBeside, RemovesWithAll, StandsAs, emptied_at};
 ghost use Rattle.cfb_volume.specs.Slots.{TakesNoSlot};
 
@@ -87,8 +88,8 @@ impl<F: Medium, A: Heap + Clone> Volume<F, A> {
         ensures others { IsTrue F.tells → Holds self.old
             → KeepsStreams self.old.base self.new.base }
         ensures header { IsTrue F.tells → KeepsFixedHeader self.old.base self.new.base }
-        ensures made { IsTrue F.tells
-            → Holds self.old → IsAsMade self.old.base → OnOk result (IsAsMade self.new.base) }
+        ensures parts { IsTrue F.tells → Holds self.old
+            → OnOk result (KeepsParts self.old.base self.new.base) }
         ensures same_tables { tables_in self.new.base ≡ tables_in self.old.base }
         ensures agrees { IsTrue F.tells → Holds self.old → Agrees self.new }
         ensures ended { OnOk result (is_failed self.new ≡ false) }
@@ -266,8 +267,8 @@ impl<F: Medium, A: Heap + Clone> Volume<F, A> {
             (bytes_of self.new.base) (removed_at (cases_of self.old.base) []))) }
         ensures balanced { IsTrue F.tells
             → OnOk result (AllStayBalancedBut self.old.base self.new.base top) }
-        ensures made { IsTrue F.tells
-            → Holds self.old → IsAsMade self.old.base → OnOk result (IsAsMade self.new.base) }
+        ensures parts { IsTrue F.tells → Holds self.old
+            → OnOk result (KeepsParts self.old.base self.new.base) }
         ensures takes_none { OnOk result (length (tables_in self.new.base).fat
             ≡ length (tables_in self.old.base).fat) }
         ensures slots { OnOk result (TakesNoSlot self.old.base self.new.base) }
@@ -281,6 +282,7 @@ impl<F: Medium, A: Heap + Clone> Volume<F, A> {
         ensures agrees { IsTrue F.tells → Holds self.old → Agrees self.new }
         ensures refused { IsTrue F.tells
             → Holds self.old → OnErr result (StaysOrFails self.old self.new) }
+        ensures in_memory { OnErr result (StaysInMemoryOrFails self.old self.new) }
         ensures err { IsTrue F.tells → Holds self.old → IfErr result (IsBreak ⊥) }
         ensures counts { IsTrue F.tells → CountsFailure (λ f. F.read_faults f
             || F.write_faults f) result (failures_of self.old) (failures_of self.new) }

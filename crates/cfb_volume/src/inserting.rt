@@ -19,8 +19,8 @@ ghost use Rattle.cfb_volume.specs.cfb_mini_sectors.State.{bytes_of, cases_of, en
 ghost use Rattle.cfb_volume.specs.cfb_content.Contents.{KeepsFixedHeader, len_of};
 ghost use Rattle.cfb_entry_changes.specs.Kept.{AllStayBalanced, KeepsFound};
 ghost use Rattle.cfb_entry_changes.specs.Standing.{StandStill};
-ghost use Rattle.cfb_agreement.specs.Changes.{KeepsStreams, StaysOrFails, object_added_at};
-ghost use Rattle.cfb_agreement.specs.Files.{Agrees, Holds, IsAsMade, IsFullFile, GrowsTightly, SameSetting, failures_of, is_failed};
+ghost use Rattle.cfb_agreement.specs.Changes.{KeepsParts, KeepsStreams, StaysOrFails, object_added_at};
+ghost use Rattle.cfb_agreement.specs.Files.{Agrees, Holds, IsFullFile, GrowsTightly, SameSetting, failures_of, is_failed};
 ghost use Rattle.cfb_volume.specs.Slots.{TakesSlot};
 
 use crate::volume::Volume;
@@ -80,14 +80,15 @@ impl<F: Medium, A: Heap + Clone> Volume<F, A> {
             → Holds self.old → KeepsStreams self.old.base self.new.base }
         ensures still { OnOk result (StandStill self.old.base self.new.base) }
         ensures header { IsTrue F.tells → KeepsFixedHeader self.old.base self.new.base }
-        ensures made { IsTrue F.tells
-            → Holds self.old → IsAsMade self.old.base → OnOk result (IsAsMade self.new.base) }
+        ensures parts { IsTrue F.tells → Holds self.old
+            → OnOk result (KeepsParts self.old.base self.new.base) }
         ensures grows { OnOk result (GrowsTightly self.old.base self.new.base) }
         ensures no_shorter { OnOk result (length (tables_in self.old.base).fat
             ≤ length (tables_in self.new.base).fat) }
         ensures stays_full { NoneFree (tables_in self.old.base).fat
             → OnOk result (NoneFree (tables_in self.new.base).fat) }
         ensures slots { OnOk result (TakesSlot self.old.base self.new.base) }
+        ensures minifat { self.new.base.minifat ≡ self.old.base.minifat }
         ensures balanced { OnOk result (AllStayBalanced self.old.base self.new.base) }
         ensures root_len { OnOk result (len_of self.new.base 0 ≡ len_of self.old.base 0) }
         ensures agrees { IsTrue F.tells → Holds self.old → Agrees self.new }

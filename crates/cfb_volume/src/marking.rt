@@ -12,10 +12,11 @@ ghost use Rattle.cfb_volume.specs.cfb_trees.Reached.{IsReached};
 ghost use Rattle.cfb_volume.specs.cfb_objects.Laws.{BecomesTree};
 ghost use Rattle.cfb_volume.specs.cfb_mini_sectors.State.{bytes_of, cases_of, entries_of, tables_in, version_of};
 ghost use Rattle.cfb_volume.specs.cfb_content.Contents.{KeepsFixedHeader, len_of};
-ghost use Rattle.cfb_agreement.specs.Changes.{KeepsStreams, StaysOrFails};
-ghost use Rattle.cfb_agreement.specs.Files.{Agrees, Holds, IsAsMade, SameSetting, failures_of, is_failed};
+ghost use Rattle.cfb_agreement.specs.Changes.{KeepsParts, KeepsStreams, StaysOrFails};
+ghost use Rattle.cfb_agreement.specs.Files.{Agrees, Holds, SameSetting, failures_of, is_failed};
 ghost use Rattle.cfb_entry_changes.specs.Kept.{AllStayBalanced, FindsTheSame};
 ghost use Rattle.cfb_entry_changes.specs.Marking.{GivesFields};
+ghost use Rattle.cfb_volume.specs.Answers.{StaysInMemoryOrFails};
 
 use crate::volume::Volume;
 use cfb_format::error::Error;
@@ -55,6 +56,7 @@ impl<F: Medium, A: Heap> Volume<F, A> {
             × (entries_of self.new.base ≡ entries_with_fields
             (entries_of self.old.base) number f)) }
         ensures tables { tables_in self.new.base ≡ tables_in self.old.base }
+        ensures minifat { self.new.base.minifat ≡ self.old.base.minifat }
         ensures tree { IsTrue F.tells → Holds self.old
             → OnOk result ((f : StorageInfo → StorageInfo) (g : StreamInfo
             → StreamInfo) (names : List (List ℕ)) (o : Outline)
@@ -70,14 +72,15 @@ impl<F: Medium, A: Heap> Volume<F, A> {
         ensures others { IsTrue F.tells → Holds self.old
             → KeepsStreams self.old.base self.new.base }
         ensures header { IsTrue F.tells → KeepsFixedHeader self.old.base self.new.base }
-        ensures made { IsTrue F.tells → Holds self.old → IsAsMade self.old.base
-            → OnOk result (IsAsMade self.new.base) }
+        ensures parts { IsTrue F.tells → Holds self.old
+            → OnOk result (KeepsParts self.old.base self.new.base) }
         ensures balanced { OnOk result (AllStayBalanced self.old.base self.new.base) }
         ensures root_len { OnOk result (len_of self.new.base 0 ≡ len_of self.old.base 0) }
         ensures agrees { IsTrue F.tells → Holds self.old → Agrees self.new }
         ensures ended { OnOk result (is_failed self.new ≡ false) }
         ensures refused { IsTrue F.tells → Holds self.old
             → OnErr result (StaysOrFails self.old self.new) }
+        ensures in_memory { OnErr result (StaysInMemoryOrFails self.old self.new) }
         ensures err { IsTrue F.tells → Holds self.old
             → IfErr result (IsMediumAnd (λ fault. is_failed self.new ≡ true)) }
         ensures counts { IsTrue F.tells

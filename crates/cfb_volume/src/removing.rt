@@ -15,12 +15,13 @@ ghost use Rattle.cfb_volume.specs.cfb_objects.Laws.{BecomesTree};
 ghost use Rattle.cfb_volume.specs.cfb_mini_sectors.State.{IsChangeable, bytes_of, cases_of, entries_of, table_of, tables_in};
 ghost use Rattle.cfb_volume.specs.cfb_mini.MiniSectors.{IsStill};
 ghost use Rattle.cfb_volume.specs.cfb_content.Changed.{MovesAlone, SparesOthers};
-ghost use Rattle.cfb_volume.specs.cfb_content.Contents.{KeepsFixedHeader, KeepsOthers, len_of};
+ghost use Rattle.cfb_volume.specs.cfb_content.Contents.{KeepsFixedHeader, KeepsOthers, LeavesZeros, len_of};
 ghost use Rattle.cfb_entry_changes.specs.Kept.{AllStayBalancedBut, FindsAllBut};
-ghost use Rattle.cfb_agreement.specs.Changes.{StaysOrFails};
-ghost use Rattle.cfb_agreement.specs.Files.{Agrees, Holds, IsAsMade, GrowsTightly, SameSetting, failures_of, is_failed};
+ghost use Rattle.cfb_agreement.specs.Changes.{KeepsParts, StaysOrFails};
+ghost use Rattle.cfb_agreement.specs.Files.{Agrees, Holds, GrowsTightly, SameSetting, failures_of, is_failed};
 ghost use Rattle.cfb_volume.specs.Removing.{StaysOrGaveBack, WasEmptied};
 ghost use Rattle.cfb_volume.specs.Slots.{TakesNoSlot};
+ghost use Rattle.cfb_volume.specs.Answers.{StaysInMemoryOrFails};
 
 use crate::volume::Volume;
 use cfb_format::error::Error;
@@ -67,7 +68,7 @@ fn empty_object<F: Medium, A: Heap + Clone>(
 
 impl<F: Medium, A: Heap + Clone> Volume<F, A> {
     /// Takes the object `child` of that name, in which nothing is, out of the storage `parent`; a
-    /// stream's bytes are given back before.
+    /// stream's bytes are given back before. Where its mini sectors stood the file has zeros.
     ///
     /// `Memory`, and `Medium` where the medium fails: all is as before, or the file has failed. After `Memory` nothing has changed,
     /// or the stream's bytes were given back.
@@ -101,8 +102,11 @@ impl<F: Medium, A: Heap + Clone> Volume<F, A> {
         ensures others { IsTrue F.tells → Holds self.old
             → KeepsOthers child self.old.base self.new.base }
         ensures header { IsTrue F.tells → KeepsFixedHeader self.old.base self.new.base }
-        ensures made { IsTrue F.tells → Holds self.old → IsAsMade self.old.base
-            → OnOk result (IsAsMade self.new.base) }
+        ensures parts { IsTrue F.tells → Holds self.old
+            → OnOk result (KeepsParts self.old.base self.new.base) }
+        ensures erased { IsTrue F.tells → Holds self.old
+            → (entry_at (entries_of self.old.base) child).obj_type ≡ Stream
+            → OnOk result (LeavesZeros self.old.base self.new.base child) }
         ensures grows { OnOk result (GrowsTightly self.old.base self.new.base) }
         ensures takes_none { length (tables_in self.new.base).fat ≡ length
             (tables_in self.old.base).fat }
@@ -114,6 +118,7 @@ impl<F: Medium, A: Heap + Clone> Volume<F, A> {
         ensures ended { OnOk result (is_failed self.new ≡ false) }
         ensures refused { IsTrue F.tells → Holds self.old
             → OnErr result (StaysOrFails self.old self.new) }
+        ensures in_memory { OnErr result (StaysInMemoryOrFails self.old self.new) }
         ensures first { (entry_at (entries_of self.old.base) child).obj_type ≢ Stream
             → IfErr result (AfterMedium Unit (self.new ≡ self.old)) }
         ensures gave_back { IsTrue F.tells → IfErr result

@@ -1,6 +1,7 @@
 //! A file whose memory is what its bytes say.
 ghost use Rattle.std.specs.Prelude.{◌≡◌, ◌≢◌, ◌+◌, ◌-◌, ◌<◌, ◌≤◌, ◌⊎◌, ◌↔◌, ◌||◌, ◌∷◌, ℕ, List, max, min, length, take, drop, false, true, IsTrue, IfOk, IfErr, IfSome, IsErrAnd, OnOk, OnErr, Some, Option, chars, map};
 ghost use Rattle.cfb_format.specs.Bytes.{max_regular_sector, max_stream_len};
+ghost use Rattle.cfb_format.specs.Full.{free_count};
 ghost use Rattle.cfb_format.specs.Medium.{part, written};
 ghost use Rattle.cfb_format.specs.Names.{is_valid_name};
 ghost use Rattle.cfb_format.specs.Reading.{IsOutline, Outline};
@@ -22,13 +23,13 @@ ghost use Rattle.cfb_volume.specs.cfb_objects.Laws.{BecomesTree};
 ghost use Rattle.cfb_volume.specs.cfb_directory.State.{IsFullForEntry};
 ghost use Rattle.cfb_volume.specs.cfb_mini_sectors.Held.{with_table};
 ghost use Rattle.cfb_volume.specs.cfb_mini_sectors.State.{bytes_of, cases_of, entries_of, table_of, tables_in, version_of};
-ghost use Rattle.cfb_volume.specs.cfb_content.Contents.{IsStreamOf, IsTooLongFor, MovesContent, len_of};
+ghost use Rattle.cfb_volume.specs.cfb_content.Contents.{ErasesMinis, IsStreamOf, IsTooLongFor, MovesContent, len_of};
 ghost use Rattle.cfb_volume.specs.cfb_resizing.Turning.{LeavesNoMinis};
 ghost use Rattle.cfb_growing.specs.Putting.{ChangesFileAlone};
 ghost use Rattle.cfb_agreement.specs.Changes.{ChangesOneContent, KeepsStreams, StaysOrFails, object_added_at};
 ghost use Rattle.cfb_agreement.specs.Files.{Agrees, Holds, IsAsBefore, IsAsMade, IsFullFile, GrowsTightly, SameSetting, failures_of, is_failed};
 ghost use Rattle.cfb_agreement.specs.Laws.{with_flags};
-ghost use Rattle.cfb_volume.specs.Answers.{content_at};
+ghost use Rattle.cfb_volume.specs.Answers.{IsAsBeforeInMemory, StaysInMemoryOrFails, content_at};
 
 use cfb_codecs::direntry::DirEntry;
 use cfb_codecs::path::CaseMapper;
@@ -214,6 +215,7 @@ impl<F: ReadMedium, A: Heap + Clone> Volume<F, A> {
     pub fn read(&mut self, entry: u32, at: u64, into: &mut [u8]) -> Result<usize, Error>
         requires inside { entry < length (entries_of self.old.base) }
         ensures same { IsTrue F.tells → IsAsBefore self.old self.new }
+        ensures in_memory { IsAsBeforeInMemory self.old self.new }
         ensures flag { is_failed self.new ≡ is_failed self.old }
         ensures entries { entries_of self.new.base ≡ entries_of self.old.base }
         ensures setting { SameSetting self.old self.new }
@@ -304,6 +306,7 @@ impl<F: Medium, A: Heap + Clone> Volume<F, A> {
         ensures ended { OnOk result (is_failed self.new ≡ false) }
         ensures refused { IsTrue F.tells
             → Holds self.old → OnErr result (StaysOrFails self.old self.new) }
+        ensures in_memory { OnErr result (StaysInMemoryOrFails self.old self.new) }
         ensures err { IsTrue F.tells → Holds self.old
             → IfErr result (IsBreak ((len_of self.old.base entry ≤ at) × IsFullFile self.new)) }
         ensures foreseen { IsTrue F.tells → Holds self.old → IfErr result (λ e. e ≡ Full
@@ -345,10 +348,16 @@ impl<F: Medium, A: Heap + Clone> Volume<F, A> {
             (len_of self.old.base entry + length bytes.now)
             → NoneFree (tables_in self.old.base).fat
             → OnOk result (NoneFree (tables_in self.new.base).fat) }
+        ensures minis_full { IsTrue F.tells → Holds self.old
+            → LeavesNoMinis self.old.base entry
+            (len_of self.old.base entry + length bytes.now)
+            → free_count self.old.base.minifat ≡ 0
+            → OnOk result (free_count self.new.base.minifat ≡ 0) }
         ensures agrees { IsTrue F.tells → Holds self.old → Agrees self.new }
         ensures ended { OnOk result (is_failed self.new ≡ false) }
         ensures refused { IsTrue F.tells
             → Holds self.old → OnErr result (StaysOrFails self.old self.new) }
+        ensures in_memory { OnErr result (StaysInMemoryOrFails self.old self.new) }
         ensures err { IsTrue F.tells → Holds self.old
             → IfErr result (IsBreak (IsFullFile self.new)) }
         ensures foreseen { IsTrue F.tells → Holds self.old → IfErr result (λ e. e ≡ Full
@@ -362,7 +371,8 @@ impl<F: Medium, A: Heap + Clone> Volume<F, A> {
         Ok(())
     }
 
-    /// Gives the stream of that entry this length: it is cut, or padded with zeros. The length that it has changes nothing.
+    /// Gives the stream of that entry this length: it is cut, or padded with zeros. The length that it has changes nothing. Mini sectors that
+    /// it leaves are zeros where they stood, but where it moves into sectors and takes theirs.
     ///
     /// `Full` exactly where the length needs more numbers than are free or left once what it moves away from is free, so never
     /// where the stream is emptied: nothing has changed then. `Memory`, and `Medium` where the medium fails: all is as before, or the file
@@ -378,6 +388,8 @@ impl<F: Medium, A: Heap + Clone> Volume<F, A> {
         ensures none { len ≡ len_of self.old.base entry → OnErr result ⊥ × (self.new ≡ self.old) }
         ensures content { IsTrue F.tells → Holds self.old
             → OnOk result (content_at self.new entry ≡ resized (content_at self.old entry) len) }
+        ensures erased { IsTrue F.tells → Holds self.old
+            → OnOk result (ErasesMinis self.old.base self.new.base entry) }
         ensures entries { MovesContent self.old.base self.new.base entry }
         ensures changes { IsTrue F.tells
             → Holds self.old → ChangesOneContent entry self.old self.new }
@@ -385,6 +397,7 @@ impl<F: Medium, A: Heap + Clone> Volume<F, A> {
         ensures ended { OnOk result (is_failed self.new ≡ false) }
         ensures refused { IsTrue F.tells
             → Holds self.old → OnErr result (StaysOrFails self.old self.new) }
+        ensures in_memory { OnErr result (StaysInMemoryOrFails self.old self.new) }
         ensures enough { IsTrue F.tells → Holds self.old → len ≢ len_of self.old.base entry
             → OnOk result (IsTooLongFor self.old.base entry len → ⊥) }
         ensures emptied { Holds self.old → len ≡ 0 → IsTooLongFor self.old.base entry len → ⊥ }

@@ -22,6 +22,7 @@ use Rattle.cfb_whole_bench.specs.cfb_rules.Steps.{kind_of, outcome}
 use Rattle.cfb_whole_bench.specs.cfb_directory.State.{IsFullForEntry}
 use Rattle.cfb_whole_bench.specs.cfb_siblings.Paths.{number_from}
 use Rattle.cfb_whole_bench.specs.cfb_mini_sectors.State.{bytes_of, cases_of, entries_of, version_of}
+use Rattle.cfb_whole_bench.proofs.cfb_agreement.Parts.{parts-keep-made}
 use Rattle.cfb_whole_bench.specs.cfb_agreement.Files.{Agrees, FileState, IsFullFile, failures_of, is_failed}
 use Rattle.cfb_whole_bench.specs.cfb_stream_buffer.Contents.{laid}
 use Rattle.cfb_whole_bench.proofs.cfb_stream_buffer.Lists.{laid-nothing}
@@ -131,7 +132,7 @@ module _ (version : Version) (old : FileState) (is : IsMadeWith version empty_tr
           in_version = setting.limits.version ∙ is.in_version;
           sound = setting.is_sound ∙ is.sound;
           unfailed = calm;
-          made = does.order.made calm is.made;
+          made = parts-keep-made old.base s.file.base (does.order.parts calm) is.made;
           letters = letters;
           limit = setting.limits.max_sectors ∙ is.limit;
           means = subst (λ (tree : Tree). Means default_cases (bytes_of s.file.base) tree) tree_is
@@ -292,7 +293,7 @@ module _ (version : Version) (first : FileState) (entry : ℕ) (is : IsMadeWith 
             in_version = rest.setting.limits.version ∙ is.in_version;
             sound = rest.setting.is_sound ∙ is.sound;
             unfailed = calm;
-            made = changes.content.made calm changed.made;
+            made = parts-keep-made now.file.base new.base (changes.content.parts calm) changed.made;
             letters = letters;
             limit = rest.setting.limits.max_sectors ∙ is.limit;
             means = subst (λ (t : Tree). Means default_cases (bytes_of new.base) t) closed

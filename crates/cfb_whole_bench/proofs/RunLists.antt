@@ -12,6 +12,7 @@ use Rattle.cfb_whole_bench.specs.cfb_rules.Lists.{Command, CommandReply, IsLegal
 use Rattle.cfb_whole_bench.specs.cfb_rules.Runs.{Setting}
 use Rattle.cfb_whole_bench.proofs.cfb_rules.LegalRuns.{trees_legal}
 use Rattle.cfb_whole_bench.specs.cfb_mini_sectors.State.{bytes_of, cases_of, root_len_of}
+use Rattle.cfb_whole_bench.proofs.cfb_agreement.Parts.{parts-keep-made}
 use Rattle.cfb_whole_bench.specs.cfb_agreement.Files.{FileState, failures_of, is_failed}
 use Rattle.cfb_whole_bench.specs.cfb_path_changes.Answers.{MeansTree, setting_of, state_with}
 use Rattle.cfb_commands.specs.Made.{StaysMade}
@@ -34,7 +35,7 @@ module _ (version : Version) (old new : FileState) (is : IsMadeWith version empt
     in_version = stays.setting.limits.version ∙ is.in_version;
     sound = stays.setting.is_sound ∙ is.sound;
     unfailed = calm;
-    made = stays.made calm is.made;
+    made = parts-keep-made old.base new.base (stays.parts calm) is.made;
     letters = stays.setting.limits.cases ∙ is.letters;
     limit = stays.setting.limits.max_sectors ∙ is.limit;
     means = subst (λ (cs : Cases). Means cs (bytes_of new.base) after) (stays.setting.limits.cases ∙ is.letters) (means calm);

@@ -14,6 +14,7 @@ pub(crate) const HELP: &str =
   check FILE [strict]     sound (status 0) or not (1)
   cat FILE PATH           the bytes of a stream
   extract FILE [PATH] DIR all streams into a new folder
+  dump FILE               as lines that 'run' takes
   create 3|4 FILE         an empty file; EMPTIES one that is there
   put FILE PATH [FROM]    a stream, from FROM or standard input
   mkdir mkdirs rmdir rmtree rm touch bits len clsid add FILE PATH ...
@@ -54,6 +55,7 @@ pub(crate) fn help_on(word: Word) -> &'static str {
         Word::Check => texts::CHECK,
         Word::Cat => texts::CAT,
         Word::Extract => texts::EXTRACT,
+        Word::Dump => texts::DUMP,
         Word::Create => texts::CREATE,
         Word::Put => texts::PUT,
         Word::Changing(change) => help_on_change(change),

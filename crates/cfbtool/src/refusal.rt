@@ -27,6 +27,10 @@ pub(crate) enum Refusal {
     Of(Error),
     /// The system refused a call there.
     System(Place, io::Error),
+    /// The system refused a call at FILE, and all that was changed is as it was.
+    TakenBack(io::Error),
+    /// The journal of FILE is none that an interrupted change leaves.
+    Damaged,
     /// Another program is changing FILE.
     Busy,
     /// What was to be shown on a terminal is no text.
@@ -159,6 +163,7 @@ impl<'a> About<'a> {
             | Asked::Info(file)
             | Asked::Map(file)
             | Asked::Check(file)
+            | Asked::Dump(file)
             | Asked::CheckStrict(file)
             | Asked::Run(file)
             | Asked::RunExplained(file) => About::new(file),
@@ -210,6 +215,18 @@ pub(crate) fn tell<E: Output>(refusal: Refusal, about: About<'_>, faults: &mut E
             writeln!(faults, "cfbtool: medium failed")
         }
         Refusal::System(place, e) => tell_system(place.name(about), &e, faults),
+        Refusal::TakenBack(e) => {
+            writeln!(
+                faults,
+                "cfbtool: medium failed: {file}: {e}; {file} is as it was"
+            )
+        }
+        Refusal::Damaged => {
+            writeln!(
+                faults,
+                "cfbtool: {file}: {file}-journal is damaged; move it away to go on"
+            )
+        }
         Refusal::Busy => writeln!(faults, "cfbtool: {file}: another program is changing it"),
         Refusal::NotWhole(extent) => {
             tell_cut(about.file, about.path.unwrap_or(""), extent, faults)
@@ -249,12 +266,20 @@ pub(crate) fn tell_cut<E: Output>(
     )
 }
 
+/// Writes the line on an object of FILE at which the file refused so.
+pub(crate) fn tell_object<E: Output>(file: &str, path: &str, e: Error, faults: &mut E) {
+    let _ = tell_error(e, About::new(file).at(path), faults);
+}
+
 /// Writes the line on a call that was refused so.
 fn tell_error<E: Output>(e: Error, about: About<'_>, faults: &mut E) -> io::Result<()> {
     let file = Shown(about.file);
     match (e, about.path) {
         (Error::Memory, _) => writeln!(faults, "cfbtool: {e}"),
-        (Error::Medium(_) | Error::Full | Error::Unsound | Error::Failed, _) => {
+        (Error::Unsound, _) => {
+            writeln!(faults, "cfbtool: {e}: {file} (see 'cfbtool info {file}')")
+        }
+        (Error::Medium(_) | Error::Full | Error::Failed, _) => {
             writeln!(faults, "cfbtool: {e}: {file}")
         }
         (_, Some(path)) => {

@@ -6,7 +6,7 @@ use acts::{
 use helps::are_helped;
 use library::{Outcome, comes_of};
 use runs::{
-    CONTENT, Run, SOUND_3, SOUND_4, are_shown, are_told, is_each_broken, is_each_told, say,
+    CONTENT, Run, SOUND_3, SOUND_4, are_shown, are_told, is_each_broken, is_each_told, prints, say,
 };
 use std::alloc::{AllocError, Global};
 use std::os::unix::fs::symlink;
@@ -16,9 +16,11 @@ use std::{env, fs};
 mod acts;
 mod changes;
 mod compacts;
+mod dumps;
 mod extracts;
 mod files;
 mod helps;
+mod journals;
 mod library;
 mod lines;
 mod lists;
@@ -44,6 +46,8 @@ enum Step<'a> {
     Each(&'a [&'a [&'a str]], &'a [&'a [u8]], u8, &'a [u8]),
     /// Runs of each of these words whose input and output fail, and what is told then.
     Broken(&'a [&'a [&'a str]], &'a [u8]),
+    /// A run of these words is done, and what it prints becomes the content.
+    Prints(&'a [&'a str]),
     /// So many bytes become the content.
     Content(usize),
     /// The content has one byte more.
@@ -75,6 +79,8 @@ enum Step<'a> {
     Old,
     /// It has the content as its bytes.
     Filled,
+    /// It has these bytes.
+    Bytes(&'a [u8]),
     /// Some of its bytes are set, and it is cut to a length.
     Damage(&'a [(usize, u8)], usize),
     /// Some bytes of what was noted are set, and it is cut to a length: it is refused so by these
@@ -213,6 +219,7 @@ fn is_file_so(rt: &HostRuntime, world: &mut World, step: &Step<'_>) -> bool {
         Step::Unwritten(runs) => is_writable(rt, path) || are_told(rt, world, runs),
         Step::Old => make_old(rt, path).is_ok(),
         Step::Filled => fs::write(rt, path, world.content.as_slice()).is_ok(),
+        Step::Bytes(bytes) => fs::write(rt, path, *bytes).is_ok(),
         Step::Damage(changes, len) => damage(rt, path, changes, *len).is_ok(),
         Step::Mode(mode) => set_mode(rt, path, *mode).is_ok(),
         Step::Link(to) => symlink(rt, *to, path).is_ok(),
@@ -232,6 +239,7 @@ fn is_done(rt: &HostRuntime, world: &mut World, step: &Step<'_>) -> bool {
             is_each_told(rt, world, all, inputs, (*status, told))
         }
         Step::Broken(all, told) => is_each_broken(rt, world, all, told),
+        Step::Prints(words) => prints(rt, world, words),
         Step::Content(len) => fill(&mut world.content, *len),
         Step::Longer(byte) => world.content.push(*byte).is_ok(),
         Step::Flawed(words, flaws) => are_refused(rt, world, words, flaws),

@@ -7,6 +7,7 @@ use cfb_tool::asking::{Asked, asked_by};
 use cfb_tool::word::{Word, word_by};
 use changes::{change_one, put_from, put_input, run_explained, run_input};
 use compact::compact;
+use dump::dump;
 use extract::extract_to;
 use files::{create, is_there};
 use info::info;
@@ -18,6 +19,7 @@ use std::process::ExitCode;
 mod changes;
 mod compact;
 mod details;
+mod dump;
 mod extract;
 mod files;
 mod info;
@@ -41,6 +43,7 @@ mod tree;
 ///   status 1 and nothing on `faults`.
 /// - `cat FILE PATH`: the bytes of this stream on `out`, none where it is refused.
 /// - `extract FILE [PATH] DIR`: all streams as files of a new folder.
+/// - `dump FILE`: lines of `run` that make the file's tree.
 /// - `create 3 FILE`, `create 4 FILE`: a new empty file of this version; an old one is overwritten.
 /// - `put FILE PATH [FROM]`: a stream at this path, with the bytes of `input`, or those of FROM.
 /// - `mkdir`, `mkdirs`, `rmdir`, `rmtree`, `rm`, `touch`, `bits`, `len`, `clsid`, `add`, then
@@ -106,6 +109,7 @@ fn answer<H: System, R: Read, W: Output, E: Output>(
         Asked::Compact(..) => compact(rt, About::of(asked), faults),
         Asked::Salvage(path, target) => salvage(rt, path, target, out),
         Asked::Info(path) => info(rt, path, out),
+        Asked::Dump(path) => dump(rt, path, out, faults),
         Asked::ExtractAll(_, folder) | Asked::ExtractAt(_, _, folder) if is_there(rt, folder) => {
             Err(Refusal::TargetExists)
         }

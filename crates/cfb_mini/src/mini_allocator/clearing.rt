@@ -9,7 +9,7 @@ ghost use Rattle.cfb_mini.specs.cfb_alloc.Frame.{Spares};
 ghost use Rattle.cfb_mini.specs.cfb_entries.Clearing.{HasCleared};
 ghost use Rattle.cfb_mini.specs.cfb_directory.Clearing.{KeepsSlotsOutside};
 ghost use Rattle.cfb_mini.specs.cfb_directory.State.{HoldsDirectory};
-ghost use Rattle.cfb_mini.specs.cfb_directory.Steps.{IsDirectoryNotHeld, KeepsWholeHeader};
+ghost use Rattle.cfb_mini.specs.cfb_directory.Steps.{IsDirectoryNotHeld, KeepsOtherSectors, KeepsWholeHeader};
 ghost use Rattle.cfb_mini.specs.cfb_mini_sectors.State.{HoldsMini, cases_of, entries_of, table_of, tables_in};
 ghost use Rattle.cfb_mini.specs.cfb_mini_sectors.Steps.{KeepsLimits, KeepsMini, StopsShort};
 
@@ -39,6 +39,8 @@ impl<F: Medium, A: Heap + Clone> MiniAllocator<F, A> {
         ensures spares { IsTrue F.tells
             → Spares self.old.directory.sectors (table_of self.old) (table_of self.new) }
         ensures header { IsTrue F.tells → KeepsWholeHeader self.old.directory self.new.directory }
+        ensures others { IsTrue F.tells
+            → KeepsOtherSectors self.old.directory self.new.directory }
         ensures slots { IsTrue F.tells
             → (validation : Validation) → HoldsDirectory validation self.old.directory
             → KeepsSlotsOutside (top ∷ inside.now) self.old.directory self.new.directory }

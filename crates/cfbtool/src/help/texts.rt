@@ -100,6 +100,21 @@ Fails if DIR is there. Of a stream that cannot be read whole it writes the first
 bytes, says so and goes on; the status is 1.
 ";
 
+pub(super) const DUMP: &str = "cfbtool dump FILE
+
+Lines of 'run' that make the same tree in an empty file: paths, class ids,
+state bits, timestamps, and all bytes in hexadecimal. 'run' skips the first
+line. A control character is shown as \\u0005.
+
+Example: cfbtool dump a.cfb
+# cfbtool dump, version 3
+mkdir\t/docs\t0
+put\t/docs/note\t68656c6c6f0a
+
+Fails if FILE is no compound file, no PATH leads to a storage or stream, or a
+stream cannot be read whole (some lines may be printed then).
+";
+
 pub(super) const CREATE: &str = "cfbtool create 3|4 FILE
 
 An empty file of version 3 (sectors of 512 bytes, streams below 4 GiB) or 4

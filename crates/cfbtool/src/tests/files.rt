@@ -70,7 +70,7 @@ const NOT_WRITTEN: &[Run<'static>] = &[
 
 const PUT_BY_LINK: &[Run<'static>] = &[(&["put", "@link", "/b"], CONTENT, 0, b"", b"")];
 
-const UNSOUND: &[u8] = b"cfbtool: file is not sound: @f\n";
+const UNSOUND: &[u8] = b"cfbtool: file is not sound: @f (see 'cfbtool info @f')\n";
 
 const UNREADABLE: &[u8] = b"cfbtool: @f: /a: 4964 of 5000 bytes can be read\n";
 
@@ -86,6 +86,7 @@ const NO_BYTES: &[Run<'static>] = &[
 const CUT_SHORT: &[Run<'static>] = &[
     (&["check", "@f"], b"", 1, b"version 3 not sound\n", b""),
     (&["cat", "@f", "/a"], b"", 1, b"", UNREADABLE),
+    (&["dump", "@f"], b"", 1, b"", b"cfbtool: @f: /a: "),
     (&["put", "@f", "/a"], b"abc", 1, b"", UNSOUND),
     (&["put", "@f", "/b"], b"", 1, b"", UNSOUND),
     (&["rm", "@f", "/a"], b"", 1, b"", UNSOUND),

@@ -16,6 +16,7 @@ const SCREEN: &[u8] =
   check FILE [strict]     sound (status 0) or not (1)
   cat FILE PATH           the bytes of a stream
   extract FILE [PATH] DIR all streams into a new folder
+  dump FILE               as lines that 'run' takes
   create 3|4 FILE         an empty file; EMPTIES one that is there
   put FILE PATH [FROM]    a stream, from FROM or standard input
   mkdir mkdirs rmdir rmtree rm touch bits len clsid add FILE PATH ...
@@ -38,7 +39,7 @@ const SCREENS: &[Run<'static>] = &[
 /// The words of the screen.
 #[rattlefmt::skip]
 const ALL: &[&str] = &[
-    "ls", "tree", "info", "map", "check", "cat", "extract", "create", "put", "mkdir", "mkdirs", "rmdir", "rmtree", "rm",
+    "ls", "tree", "info", "map", "check", "cat", "extract", "dump", "create", "put", "mkdir", "mkdirs", "rmdir", "rmtree", "rm",
     "touch", "bits", "len", "clsid", "add", "run", "compact",
     "salvage",
 ];

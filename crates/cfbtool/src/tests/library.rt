@@ -28,6 +28,10 @@ pub(super) enum Outcome<'a> {
     MadeFull(&'a str),
     /// Opened to be changed, by options: it gets this storage.
     Changed(&'a str),
+    /// Opened with a journal, by path: it gets this storage, which is there once it is flushed.
+    Kept(&'a str),
+    /// The same without a flush: the storage is taken back.
+    LetGo(&'a str),
     /// Opened strictly, over its medium: it has this stream.
     Strict(&'a str),
 }
@@ -158,6 +162,17 @@ fn comes_of_changing(rt: &HostRuntime, path: &str, outcome: &Outcome<'_>) -> boo
     }
 }
 
+/// Whether a file that is opened with a journal gets a storage, and is flushed then if it is to be.
+fn comes_of_journal(rt: &HostRuntime, path: &str, storage: &str, is_kept: bool) -> bool {
+    match cfb::open_journaled(rt, rt.alloc(), path) {
+        Ok(mut file) => {
+            let made = file.create_storage(storage, Timestamp::zero());
+            made.is_ok() && (!is_kept || file.flush().is_ok())
+        }
+        Err(_) => false,
+    }
+}
+
 /// Whether this comes of the file at this path.
 pub(super) fn comes_of(rt: &HostRuntime, path: &str, outcome: &Outcome<'_>) -> bool {
     match outcome {
@@ -167,6 +182,8 @@ pub(super) fn comes_of(rt: &HostRuntime, path: &str, outcome: &Outcome<'_>) -> b
         Outcome::Unopened | Outcome::UnopenedByOptions => {
             comes_of_changing(rt, path, outcome) && comes_of_reading(rt, path, outcome)
         }
+        Outcome::Kept(storage) => comes_of_journal(rt, path, storage, true),
+        Outcome::LetGo(storage) => comes_of_journal(rt, path, storage, false),
         _ => comes_of_reading(rt, path, outcome),
     }
 }

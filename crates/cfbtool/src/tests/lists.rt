@@ -17,7 +17,7 @@ const WRONG: &[&[&str]] = &[
     &["run", "@f", "@g"], &["run", "@f", "-e"], &["run", "-e", "@f", "@g"], &["mkdir"],
     &["mkdir", "@f"], &["mkdir", "@f", "/s", "0", "0"], &["ls", "-L", "@f", "/"],
     &["ls", "-l", "@f", "/", "/"], &["tree"], &["tree", "@f", "/", "/"],
-    &["help", "nope"], &["help", ""],
+    &["dump"], &["dump", "@f", "/"], &["help", "nope"], &["help", ""],
     &["help", "help"], &["help", "ls", "tree"], &["nope", "--help"], &["--help", "ls"],
     &["--help", "--help"], &["-h", "ls"], &["--version", "ls"], &["version"],
 ];

@@ -1,7 +1,7 @@
 //! Compound files in files of the system that are opened and made by their paths.
-use super::Step::{self, Absent, Comes, Content, Damage, Filled, Len, Note, Old, Runs, Stays};
+use super::Step::{self, Absent, At, Comes, Content, Damage, Filled, Len, Note, Old, Runs, Stays};
 use super::library::Outcome::{
-    Bytes, Changed, Made, MadeFull, NoData, Sound, Strict, Unopened, UnopenedByOptions,
+    Bytes, Changed, Kept, LetGo, Made, MadeFull, NoData, Sound, Strict, Unopened, UnopenedByOptions,
 };
 use super::play;
 use super::runs::{Run, SOUND_4};
@@ -41,4 +41,22 @@ static BY_OPTIONS: &[Step<'static>] = &[
 #[test]
 fn options_hold_by_path(rt: HostRuntime) -> Result<(), Fail> {
     play(&rt, BY_OPTIONS)
+}
+
+#[rattlefmt::skip]
+const STORAGES: &[Run<'static>] = &[
+    (&["ls", "@f"], b"", 0, b"d 0 /\nd 0 /kept\n", b""),
+    (&["check", "@f", "strict"], b"", 0, SOUND_4, b""),
+];
+
+#[rattlefmt::skip]
+static BY_JOURNAL: &[Step<'static>] = &[
+    Runs(&[(&["create", "4", "@f"], b"", 0, b"", b"")]), Comes(Kept("/kept")), Runs(STORAGES),
+    Comes(LetGo("/gone")), Runs(STORAGES), At("@f-journal"), Absent,
+];
+
+/// With a journal, what was flushed is in the file, and what was not is taken back.
+#[test]
+fn journaled_files_keep_what_was_flushed(rt: HostRuntime) -> Result<(), Fail> {
+    play(&rt, BY_JOURNAL)
 }

@@ -138,6 +138,21 @@ pub(super) fn is_told(rt: &HostRuntime, world: &mut World, run: &Run<'_>) -> boo
         && is_line(&world.faults, faults, &world.folder)
 }
 
+/// Whether a run of these words is done. What it prints becomes the content.
+pub(super) fn prints(rt: &HostRuntime, world: &mut World, words: &[&str]) -> bool {
+    world.content.clear();
+    world.faults.clear();
+    let answered = status_of(
+        rt,
+        world.folder.as_str(),
+        words,
+        &mut [].as_slice(),
+        &mut world.content,
+        &mut world.faults,
+    );
+    answered == Ok(ExitCode::SUCCESS) && world.faults.is_empty()
+}
+
 /// A terminal that keeps what is written to it.
 #[derive(Drop)]
 struct Screen<'a>(&'a mut Vec<u8>);

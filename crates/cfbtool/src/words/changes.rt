@@ -1,7 +1,9 @@
-//! The words that change FILE. It is opened once all that they read is there.
-ghost use Rattle.std.specs.Prelude.{◌≡◌, ◌+◌, ◌*◌, ◌≤◌, [], IfOk, length, vec_capacity};
+//! The words that change FILE. It is opened once all that they read is there, and each word changes
+//! all of it or nothing, by the journal beside it.
+ghost use Rattle.std.specs.Prelude.{◌≡◌, ◌+◌, ◌*◌, ◌≤◌, [], IfOk, IsTrue, length, vec_capacity};
+ghost use Rattle.cfb_journal.specs.Disk.{IsOpened};
 
-use super::files::{opened, to_change};
+use super::files::{begun, committed, ended, opened, to_change};
 use super::lines::{One, command_of, commands_of, explain, explained_commands_of};
 use super::print;
 use crate::lent::Lent;
@@ -9,6 +11,8 @@ use crate::output::Output;
 use crate::refusal::Refusal;
 use crate::system::System;
 use cfb::{Command, Error, Medium};
+use cfb_journal::disk::Disk;
+use cfb_journal_file::lent::LentDisk;
 use cfb_text::meant::meant;
 use cfb_tool::explaining::play_explained;
 use std::alloc::Global;
@@ -50,9 +54,17 @@ pub(super) fn put_from<H: System>(
 
 fn put_bytes<H: System>(rt: &H, path: &str, stream: &str, bytes: &[u8]) -> Result<(), Refusal> {
     let object = meant(rt.alloc(), stream)?;
-    let mut medium = to_change(rt, path)?;
-    let done = put_into(rt, Lent(&mut medium), object.as_str(), bytes);
-    done.map_err(|refusal| refusal.because(medium.last_error()))
+    let mut disk = to_change(rt, path)?;
+    let done = put_whole(rt, LentDisk(&mut disk), object.as_str(), bytes);
+    ended(rt.alloc(), disk, done)
+}
+
+fn put_whole<H: System, D: Disk>(rt: &H, disk: D, stream: &str, bytes: &[u8]) -> Result<(), Refusal>
+    requires opened { IsTrue D.tells → IsOpened D.opened (D.view disk) }
+{
+    let mut medium = begun(rt.alloc(), disk)?;
+    put_into(rt, Lent(&mut medium), stream, bytes)?;
+    committed(medium)
 }
 
 fn put_into<H: System, F: Medium>(
@@ -122,14 +134,39 @@ struct Told {
 fn run_commands<H: System>(rt: &H, path: &str, commands: &[Command]) -> Result<Told, Refusal> {
     let mut lines = room_for_lines(rt.alloc(), commands.len())?;
     let mut refusals = Vec::with_capacity(rt.alloc(), commands.len())?;
-    let mut medium = to_change(rt, path)?;
-    let played = play_in(rt, Lent(&mut medium), commands, &mut lines, &mut refusals);
-    let is_done = played.map_err(|refusal| refusal.because(medium.last_error()))?;
+    let mut disk = to_change(rt, path)?;
+    let mut is_done = false;
+    let done = play_whole(
+        rt,
+        LentDisk(&mut disk),
+        commands,
+        (&mut lines, &mut refusals, &mut is_done),
+    );
+    ended(rt.alloc(), disk, done)?;
     Ok(Told {
         lines,
         refusals,
         is_done,
     })
+}
+
+/// Plays the commands, and makes their changes on the disk, unless one of them left the file failed:
+/// then there is no change at all.
+fn play_whole<H: System, D: Disk>(
+    rt: &H,
+    disk: D,
+    commands: &[Command],
+    told: (&mut Vec<u8>, &mut Vec<(usize, Error)>, &mut bool),
+) -> Result<(), Refusal>
+    requires opened { IsTrue D.tells → IsOpened D.opened (D.view disk) }
+    requires room { length told.old.0.items + 3 * length commands.now ≤ vec_capacity told.old.0 }
+    requires kept { length commands.now ≤ vec_capacity told.old.1 }
+    requires empty { told.old.1.items ≡ [] }
+{
+    let (lines, refusals, is_done) = told;
+    let mut medium = begun(rt.alloc(), disk)?;
+    *is_done = play_in(rt, Lent(&mut medium), commands, lines, refusals)?;
+    committed(medium)
 }
 
 fn play_in<H: System, F: Medium>(
@@ -144,7 +181,21 @@ fn play_in<H: System, F: Medium>(
     requires empty { refusals.old.items ≡ [] }
 {
     let mut file = opened(rt, medium)?;
-    Ok(play_explained(&rt.alloc(), &mut file, commands, lines, refusals)?)
+    let is_done = play_explained(&rt.alloc(), &mut file, commands, lines, refusals)?;
+    if file.is_failed() {
+        return Err(Refusal::Of(why_failed(refusals.as_slice())));
+    }
+    Ok(is_done)
+}
+
+/// What left the file failed: the first refusal that blames the medium, memory or numbers.
+fn why_failed(refusals: &[(usize, Error)]) -> Error {
+    for (_, e) in refusals {
+        if matches!(e, Error::Medium(_) | Error::Memory | Error::Full) {
+            return *e;
+        }
+    }
+    Error::Failed
 }
 
 /// Prints what is told of commands, once they are done.

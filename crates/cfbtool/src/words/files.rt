@@ -1,24 +1,60 @@
 //! Files of the system, opened for the words.
 ghost use Rattle.std.specs.Prelude.{◌≡◌, [], IsTrue};
+ghost use Rattle.cfb_journal.specs.Disk.{IsOpened};
 
 use crate::lent::Lent;
 use crate::refusal::Refusal;
 use crate::system::System;
-use cfb::{CompoundFile, FileMedium, FileReadMedium, Medium, ReadMedium, Version, seeded_options};
+use cfb::{
+    CompoundFile, Error, FileMedium, FileReadMedium, Medium, MediumFault, ReadMedium, Version,
+    seeded_options,
+};
 use cfb_files::locking;
+use cfb_journal::disk::Disk;
+use cfb_journal::recovery::RecoveryError;
+use cfb_journal::transaction::Transaction;
+use cfb_journal_file::disk::{Ending, FileDisk};
+use cfb_journal_file::lent::LentDisk;
+use cfb_journal_file::place::Place;
+use std::alloc::Global;
 use std::fs::File;
 use std::io::ErrorKind;
 use std::rt::Files;
 use std::{fs, io};
 
-/// FILE, to be read.
-pub(super) fn to_read<H: Files<File = File>>(
-    rt: &H,
-    path: &str,
-) -> Result<FileReadMedium, Refusal> {
+/// FILE, to be read. A change that was interrupted is ended first.
+pub(super) fn to_read<H: System>(rt: &H, path: &str) -> Result<FileReadMedium, Refusal> {
     match no_folder(rt, path) {
-        Ok(file) => Ok(FileReadMedium::from_file(file)),
+        Ok(file) => {
+            recover_at(rt, path)?;
+            Ok(FileReadMedium::from_file(file))
+        }
         Err(e) => Err(Refusal::of_system(e)),
+    }
+}
+
+/// Ends a change of FILE that was interrupted, or takes it back, if its journal says that there was
+/// one.
+fn recover_at<H: System>(rt: &H, path: &str) -> Result<(), Refusal> {
+    let Ok(place) = Place::of(rt, rt.alloc(), path) else {
+        return Ok(());
+    };
+    match fs::metadata(rt, place.journal()) {
+        Ok(metadata) if metadata.len() > 0 => {}
+        _ => return Ok(()),
+    }
+    let mut disk = to_change(rt, path)?;
+    let done = match begun(rt.alloc(), LentDisk(&mut disk)) {
+        Ok(_) => Ok(()),
+        Err(refusal) => Err(refusal),
+    };
+    ended(rt.alloc(), disk, done)
+}
+
+/// Removes what a change left behind that was interrupted, of a file that is made anew.
+fn forget_journal<H: System>(rt: &H, path: &str) {
+    if let Ok(place) = Place::of(rt, rt.alloc(), path) {
+        let _ = fs::remove_file(rt, place.journal());
     }
 }
 
@@ -34,14 +70,60 @@ fn no_folder<H: Files<File = File>>(rt: &H, path: &str) -> io::Result<File> {
     Ok(file)
 }
 
-/// FILE, to be read and changed. It is locked.
-pub(super) fn to_change<H: Files<File = File>>(rt: &H, path: &str) -> Result<FileMedium, Refusal> {
-    locked(locking::open(rt, path))
+/// FILE and its journal, to be changed. FILE is locked.
+pub(super) fn to_change<'a, H: System>(rt: &'a H, path: &str) -> Result<FileDisk<'a, H>, Refusal> {
+    let place = Place::of(rt, rt.alloc(), path).map_err(Refusal::of_system)?;
+    match FileDisk::open(rt, place) {
+        Ok(disk) => Ok(disk),
+        Err(e) if e.kind() == ErrorKind::WouldBlock => Err(Refusal::Busy),
+        Err(e) => Err(Refusal::of_system(e)),
+    }
+}
+
+/// FILE as it is, or as a change that was interrupted leaves it: all of what is written to it now is
+/// taken back, unless it is committed.
+pub(super) fn begun<D: Disk>(alloc: Global, disk: D) -> Result<Transaction<D>, Refusal>
+    requires opened { IsTrue D.tells → IsOpened D.opened (D.view disk) }
+{
+    match Transaction::begin(alloc, disk) {
+        Ok(medium) => Ok(medium),
+        Err(RecoveryError::Medium(fault)) => Err(Refusal::Of(Error::Medium(fault))),
+        Err(RecoveryError::Damaged) => Err(Refusal::Damaged),
+    }
+}
+
+/// What was written is in FILE, on the disk.
+pub(super) fn committed<D: Disk>(medium: Transaction<D>) -> Result<(), Refusal> {
+    let (done, _disk) = medium.commit();
+    match done {
+        Ok(()) => Ok(()),
+        Err(MediumFault::Memory) => Err(Refusal::Of(Error::Memory)),
+        Err(fault) => Err(Refusal::Of(Error::Medium(fault))),
+    }
+}
+
+/// Ends what was done with FILE: a change that was not committed is taken back.
+pub(super) fn ended<H: Files<File = File>>(
+    alloc: Global,
+    disk: FileDisk<'_, H>,
+    done: Result<(), Refusal>,
+) -> Result<(), Refusal> {
+    let Err(refusal) = done else {
+        return Ok(());
+    };
+    let reason = disk.last_error();
+    match (disk.settle(alloc), refusal.because(reason)) {
+        (Ending::Done, Refusal::System(..)) => Ok(()),
+        (Ending::TakenBack, Refusal::System(_, e)) => Err(Refusal::TakenBack(e)),
+        (_, refusal) => Err(refusal),
+    }
 }
 
 /// FILE, empty. It was locked before it was emptied.
-fn to_fill<H: Files<File = File>>(rt: &H, path: &str) -> Result<FileMedium, Refusal> {
-    locked(locking::create(rt, path))
+fn to_fill<H: System>(rt: &H, path: &str) -> Result<FileMedium, Refusal> {
+    let medium = locked(locking::create(rt, path))?;
+    forget_journal(rt, path);
+    Ok(medium)
 }
 
 fn locked(file: io::Result<File>) -> Result<FileMedium, Refusal> {
@@ -53,9 +135,12 @@ fn locked(file: io::Result<File>) -> Result<FileMedium, Refusal> {
 }
 
 /// A new file beside FILE.
-pub(super) fn to_make<H: Files<File = File>>(rt: &H, path: &str) -> Result<FileMedium, Refusal> {
+pub(super) fn to_make<H: System>(rt: &H, path: &str) -> Result<FileMedium, Refusal> {
     match locking::create_new(rt, path) {
-        Ok(file) => Ok(FileMedium::from_file(file)),
+        Ok(file) => {
+            forget_journal(rt, path);
+            Ok(FileMedium::from_file(file))
+        }
         Err(e) if e.kind() == ErrorKind::AlreadyExists => Err(Refusal::TargetExists),
         Err(e) => Err(Refusal::of_other_system(e)),
     }

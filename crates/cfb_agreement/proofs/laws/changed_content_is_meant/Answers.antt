@@ -1,4 +1,4 @@
-use Rattle.cfb_agreement.proofs.ContentChanges.{content-becomes-tree, content-keeps-made, content-keeps-stream}
+use Rattle.cfb_agreement.proofs.ContentChanges.{content-becomes-tree, content-keeps-parts, content-keeps-stream}
 use Rattle.cfb_agreement.proofs.laws.changed_content_is_meant.Goals as goal
 
 pub returns-clause-tree : goal.returns-clause-tree
@@ -7,5 +7,5 @@ returns-clause-tree c = content-becomes-tree
 pub returns-clause-stream : goal.returns-clause-stream
 returns-clause-stream c = content-keeps-stream
 
-pub returns-clause-made : goal.returns-clause-made
-returns-clause-made c = content-keeps-made
+pub returns-clause-parts : goal.returns-clause-parts
+returns-clause-parts c = content-keeps-parts

@@ -7,7 +7,8 @@ use Rattle.cfb_commands.specs.Working.{RunsLegally}
 use Rattle.cfb_commands.specs.Failing.{IsAsked}
 use Rattle.cfb_commands.specs.Faults.{IsGiven}
 use Rattle.cfb_commands.specs.Kinds.{AreOfKinds, kind_of_command}
-use Rattle.cfb_commands.proofs.Failing.{once_failed, untouched}
+use Rattle.cfb_commands.proofs.Failing.{once_failed}
+use Rattle.cfb_commands.proofs.Heeding.{heed_one_more, heed_untouched}
 use Rattle.cfb_commands.proofs.Faults.{one_more_behind}
 use Rattle.cfb_commands.proofs.Fitting.{replied_more}
 use Rattle.cfb_commands.proofs.Runs.{runs_more, stays_made}
@@ -27,6 +28,8 @@ loop-command-preserved g c =
           c.run_one-reply.result c.loop-command-test.true c.command-item.is c.push_reserved.ensures.items least i.of_kinds c.run_one-reply.ensures.of_kind;
       asked = one_more_behind IsAsked first c.loop-command.replies.items c.push_reserved.new.self.items c.run_one-reply.result c.push_reserved.ensures.items least i.asked
           c.run_one-reply.ensures.asked;
+      heeds = heed_one_more c.args.file.now c.loop-command.file c.run_one-reply.new.file first c.loop-command.replies.items c.push_reserved.new.self.items c.run_one-reply.result
+          c.push_reserved.ensures.items least i.heeds c.run_one-reply.ensures.any;
       given = λ told. one_more_behind (IsGiven (λ f. g.F.ReadMedium.read_faults f || g.F.Medium.write_faults f)) first c.loop-command.replies.items c.push_reserved.new.self.items
           c.run_one-reply.result c.push_reserved.ensures.items least (i.given told) (c.run_one-reply.ensures.given told);
       runs = λ told. runs_more _ c.args.file.now c.loop-command.file c.run_one-reply.new.file c.args.commands.now c.loop-command.command-index c.command-item.result first
@@ -47,9 +50,10 @@ pub returns-clause-failed : goal.returns-clause-failed
 returns-clause-failed g c = λ told.
     once_failed _ c.args.file.now c.loop-command.file _ _ (c.is_failed-is_failed.ensures.agrees told) (returns-clause-runs g c told)
 
-pub returns-clause-untouched : goal.returns-clause-untouched
-returns-clause-untouched g c = λ told.
-    untouched _ c.args.file.now c.loop-command.file _ _ (c.is_failed-is_failed.ensures.agrees told) (c.loop-command.invariant.runs told)
+pub returns-clause-any : goal.returns-clause-any
+returns-clause-any g c =
+    let each = c.loop-command.invariant.heeds in
+    record { untouched = heed_untouched c.args.file.now c.loop-command.file (drop (length c.args.replies.now.items) c.loop-command.replies.items) each; each = each }
 
 pub returns-clause-of_kinds : goal.returns-clause-of_kinds
 returns-clause-of_kinds g c =

@@ -14,6 +14,7 @@ use Rattle.cfb_commands.specs.Working.{AnswersCommand}
 use Rattle.cfb_commands.proofs.Asking.{asked}
 use Rattle.cfb_commands.proofs.Calls.{changed, changed_in_turn, flush_keeps, or_so}
 use Rattle.cfb_commands.proofs.Faults.{changes_given, flush_given, questions_given, turns_given}
+use Rattle.cfb_commands.proofs.Heeding.{change_heeds, flush_heeds}
 use Rattle.cfb_commands.proofs.Runs.{by_call}
 use Rattle.cfb_commands.proofs.run.run_one.Goals as goal
 
@@ -235,3 +236,57 @@ returns-in-ReadStorage-clause-asked g c = c.read_list.ensures.kinds
 
 pub returns-in-WalkStorage-clause-asked : goal.returns-in-WalkStorage-clause-asked
 returns-in-WalkStorage-clause-asked g c = c.walk_list.ensures.kinds
+
+pub returns-in-CreateStorage-clause-any : goal.returns-in-CreateStorage-clause-any
+returns-in-CreateStorage-clause-any g c = change_heeds c.args.file.now c.create_storage.new.self c.create_storage.result c.create_storage.ensures.any
+
+pub returns-in-CreateStorageAll-clause-any : goal.returns-in-CreateStorageAll-clause-any
+returns-in-CreateStorageAll-clause-any g c = change_heeds c.args.file.now c.create_storage_all.new.self c.create_storage_all.result c.create_storage_all.ensures.any
+
+pub returns-in-RemoveStorage-clause-any : goal.returns-in-RemoveStorage-clause-any
+returns-in-RemoveStorage-clause-any g c = change_heeds c.args.file.now c.remove_storage.new.self c.remove_storage.result c.remove_storage.ensures.any
+
+pub returns-in-RemoveStorageAll-clause-any : goal.returns-in-RemoveStorageAll-clause-any
+returns-in-RemoveStorageAll-clause-any g c = change_heeds c.args.file.now c.remove_storage_all.new.self c.remove_storage_all.result c.remove_storage_all.ensures.any
+
+pub returns-in-RemoveStream-clause-any : goal.returns-in-RemoveStream-clause-any
+returns-in-RemoveStream-clause-any g c = change_heeds c.args.file.now c.remove_stream.new.self c.remove_stream.result c.remove_stream.ensures.any
+
+pub returns-in-SetStorageClsid-clause-any : goal.returns-in-SetStorageClsid-clause-any
+returns-in-SetStorageClsid-clause-any g c = change_heeds c.args.file.now c.set_storage_clsid.new.self c.set_storage_clsid.result c.set_storage_clsid.ensures.any
+
+pub returns-in-SetStateBits-clause-any : goal.returns-in-SetStateBits-clause-any
+returns-in-SetStateBits-clause-any g c = change_heeds c.args.file.now c.set_state_bits.new.self c.set_state_bits.result c.set_state_bits.ensures.any
+
+pub returns-in-SetCreatedTime-clause-any : goal.returns-in-SetCreatedTime-clause-any
+returns-in-SetCreatedTime-clause-any g c = change_heeds c.args.file.now c.set_created_time.new.self c.set_created_time.result c.set_created_time.ensures.any
+
+pub returns-in-SetModifiedTime-clause-any : goal.returns-in-SetModifiedTime-clause-any
+returns-in-SetModifiedTime-clause-any g c = change_heeds c.args.file.now c.set_modified_time.new.self c.set_modified_time.result c.set_modified_time.ensures.any
+
+pub returns-in-Touch-clause-any : goal.returns-in-Touch-clause-any
+returns-in-Touch-clause-any g c = change_heeds c.args.file.now c.touch.new.self c.touch.result c.touch.ensures.any
+
+pub returns-in-Flush-clause-any : goal.returns-in-Flush-clause-any
+returns-in-Flush-clause-any g c = flush_heeds c.args.file.now c.flush.new.self c.flush.result c.flush.ensures.unfailed c.flush.ensures.err
+
+pub returns-in-Stream-clause-any : goal.returns-in-Stream-clause-any
+returns-in-Stream-clause-any g c = record { untouched = c.run_on_stream.ensures.untouched; stays = c.run_on_stream.ensures.any }
+
+pub returns-in-Exists-clause-any : goal.returns-in-Exists-clause-any
+returns-in-Exists-clause-any g c = record { untouched = λ failed. refl; stays = refl }
+
+pub returns-in-IsStream-clause-any : goal.returns-in-IsStream-clause-any
+returns-in-IsStream-clause-any g c = record { untouched = λ failed. refl; stays = refl }
+
+pub returns-in-IsStorage-clause-any : goal.returns-in-IsStorage-clause-any
+returns-in-IsStorage-clause-any g c = record { untouched = λ failed. refl; stays = refl }
+
+pub returns-in-Entry-clause-any : goal.returns-in-Entry-clause-any
+returns-in-Entry-clause-any g c = record { untouched = λ failed. refl; stays = refl }
+
+pub returns-in-ReadStorage-clause-any : goal.returns-in-ReadStorage-clause-any
+returns-in-ReadStorage-clause-any g c = record { untouched = λ failed. refl; stays = refl }
+
+pub returns-in-WalkStorage-clause-any : goal.returns-in-WalkStorage-clause-any
+returns-in-WalkStorage-clause-any g c = record { untouched = λ failed. refl; stays = refl }

@@ -2,6 +2,7 @@ use Rattle.std.proofs.Common.{Bool, refl, chars, true, false}
 use Rattle.std.specs.Prelude.{◌||◌}
 use Rattle.cfb_format.specs.declared.medium.MediumFault.{MediumFault}
 use Rattle.cfb_compound_file.specs.Streams.{open_of}
+use Rattle.cfb_commands.proofs.cfb_volume.InMemory.{same-as-in-memory}
 use Rattle.cfb_commands.proofs.Faults.{makings_given, openings_given}
 use Rattle.cfb_commands.proofs.Openings.{creates_not, creates_ok, on_error, opens_not, opens_ok}
 use Rattle.cfb_commands.proofs.streams.opened.Goals as goal
@@ -15,7 +16,7 @@ returns-in-Open g c =
       (
         refl,
         c.open_stream.follows.holds,
-        on_error c.open_stream.result _ _ c.open_stream.follows.holds-at-none (λ e h told. opens_not can_give old _ at e h.0 (h.1 told)),
+        on_error c.open_stream.result _ _ c.open_stream.follows.holds-at-none (λ e h. (same-as-in-memory old _ h.0, λ told. opens_not can_give old _ at e h.0 (h.1 told))),
       ),
       (
         c.open_stream.ensures.lent,
@@ -36,7 +37,7 @@ returns-in-Create g c =
       (
         refl,
         c.create_stream.follows.holds,
-        on_error c.create_stream.result _ _ c.create_stream.follows.holds-at-none (λ e h told. creates_not can_give old _ at e true (h.1 told)),
+        on_error c.create_stream.result _ _ c.create_stream.follows.holds-at-none (λ e h. (h.0.stays, λ told. creates_not can_give old _ at e true (h.1 told))),
       ),
       (
         c.create_stream.ensures.lent,
@@ -56,7 +57,7 @@ returns-in-CreateNew g c =
       (
         refl,
         c.create_new_stream.follows.holds,
-        on_error c.create_new_stream.result _ _ c.create_new_stream.follows.holds-at-none (λ e h told. creates_not can_give old _ at e false (h.1 told)),
+        on_error c.create_new_stream.result _ _ c.create_new_stream.follows.holds-at-none (λ e h. (h.0.stays, λ told. creates_not can_give old _ at e false (h.1 told))),
       ),
       (
         c.create_new_stream.ensures.lent,

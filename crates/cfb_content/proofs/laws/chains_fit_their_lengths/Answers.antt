@@ -1,4 +1,4 @@
-use Rattle.cfb_content.proofs.Snug.{empty-is-snug, kept-is-snug, same-is-sized, sized-is-snug}
+use Rattle.cfb_content.proofs.Snug.{empty-is-snug, kept-is-snug, same-is-sized, sized-is-snug, sized-stays-snug}
 use Rattle.cfb_content.proofs.SnugMini.{growth-is-snug-mini, kept-is-snug-mini}
 use Rattle.cfb_content.proofs.laws.chains_fit_their_lengths.Goals as goal
 
@@ -10,6 +10,9 @@ returns-clause-empty c = empty-is-snug
 
 pub returns-clause-sized : goal.returns-clause-sized
 returns-clause-sized c = sized-is-snug
+
+pub returns-clause-own : goal.returns-clause-own
+returns-clause-own c = sized-stays-snug
 
 pub returns-clause-same : goal.returns-clause-same
 returns-clause-same c = same-is-sized

@@ -3,17 +3,20 @@ use Rattle.std.specs.Prelude.{MatchOption, None}
 use Rattle.std.proofs.lemmas.Result.{err_from_is_err_and}
 use Rattle.cfb_format.specs.DirectoryEntry.{Entry}
 use Rattle.cfb_format.specs.Siblings.{entry_at}
+use Rattle.cfb_format.specs.Tree.{Tree}
+use Rattle.cfb_format.proofs.Unique.{Means-unique}
 use Rattle.cfb_built.specs.Copied.{parts_copied}
-use Rattle.cfb_copies.specs.cfb_mini_sectors.State.{cases_of}
+use Rattle.cfb_copies.specs.cfb_mini_sectors.State.{bytes_of, cases_of}
 use Rattle.cfb_places.specs.Places.{number_at, parent_at, placed_in}
 use Rattle.cfb_copies.specs.Copies.{parts_in_file}
-use Rattle.cfb_copies.specs.Steps.{IsNewIn, TakesName}
+use Rattle.cfb_copies.specs.Steps.{HasRoomOnTheWay, IsNewIn, TakesName}
+use Rattle.cfb_copies.proofs.Enough.{next_room, room_next}
 use Rattle.cfb_copies.proofs.Faults.{fault_later}
 use Rattle.cfb_copies.proofs.Growing.{grows_none, grows_then, lead_reached, ordered}
 use Rattle.cfb_copies.proofs.Next.{way_ends, way_starts}
 use Rattle.cfb_copies.proofs.Prepared.{listed_stands}
 use Rattle.cfb_copies.proofs.Reading.{read_holds, read_none, read_then}
-use Rattle.cfb_copies.proofs.Turns.{copyable_still, next_numbered, next_takes, next_way, parent_below, parent_is, part_here, part_still, kept_still}
+use Rattle.cfb_copies.proofs.Turns.{copyable_still, inside_parts, next_numbered, next_takes, next_way, parent_below, parent_is, part_here, part_still, kept_still}
 use Rattle.cfb_copies.proofs.copying.copy_listed.Goals as goal
 
 pub loop-place-init : goal.loop-place-init
@@ -27,6 +30,10 @@ loop-place-init g c =
       so_far = none;
       numbered = λ o is j below. absurd (omega (arith, below, none));
       way = λ told tells tree o is ready. way_starts c.args.target.now (parts_in_file c.args.source.now o) tree ready.means (ready.allowed o is);
+      has_room = λ told tells tree o is ready room now means.
+          let target = c.args.target.now in
+          subst (λ (t : Tree). HasRoomOnTheWay target t (parts_copied (cases_of target.base) (parts_in_file c.args.source.now o) tree))
+          (Means-unique (cases_of target.base) (bytes_of target.base) tree now ready.means means) room;
     }
 
 pub copy_object-requires-clause-room : goal.copy_object-requires-clause-room
@@ -83,6 +90,28 @@ returns-in_err-number-clause-err g c told tells tree ready =
     (kept_still c.args.keep g.F.ReadMedium.tells told start mid (number_at list at) i.reads (ready.kept at (placed_in None 0) inside))
     (subst (λ (es : List Entry). TakesName target c.number_above-parent.result (entry_at es (number_at list at)).name) (sym i.reads.entries) takes))
 
+-- numbers are not what lacked
+pub returns-in_err-number-clause-enough : goal.returns-in_err-number-clause-enough
+returns-in_err-number-clause-enough g c told tells tree o is ready room =
+    let p = err_from_is_err_and c.from_residual.result c.from_residual.ensures.1 in
+    let start = c.args.source.now in
+    let mid = c.loop-place.source in
+    let target = c.loop-place.target in
+    let law = c.parts_stand_at_places.ensures.parts in
+    let i = c.loop-place.invariant in
+    let at = c.loop-place.place-index in
+    let inside = c.loop-place-test.true in
+    let list = c.args.list.now in
+    let held = i.grows.holds tells ready.target_held in
+    let to = parent_is start list law c.requires.listed o is at inside target c.loop-place.numbers.items c.number_above-parent.result i.so_far (i.numbered o is) (subst (λ (l : List ℕ). MatchOption (parent_at c.args.list.now c.loop-place.place-index) (c.number_above-parent.result ≡ 0) (λ above. c.number_above-parent.result ≡ get_or l above 0)) c.as_slice-known.ensures.value c.number_above-parent.ensures) in
+    let part = part_still g.F.ReadMedium.tells told start mid (number_at list at) _ i.reads (part_here start list law c.requires.listed o is at inside) in
+    let way = i.way told tells tree o is ready in
+    let there = i.has_room told tells tree o is ready room way.tree way.means in
+    rw (p.1, p.2) (c.in_err-number.ensures.enough told tells (read_holds g.F.ReadMedium.tells start mid i.reads told ready.held) held
+    (kept_still c.args.keep g.F.ReadMedium.tells told start mid (number_at list at) i.reads (ready.kept at (placed_in None 0) inside)) _ part to
+    (next_room target (parts_in_file start o) at (parts_copied (cases_of c.args.target.now.base) (parts_in_file start o) tree)
+    (inside_parts start list law c.requires.listed o is at inside) way there))
+
 pub returns-in_err-number-clause-counts : goal.returns-in_err-number-clause-counts
 returns-in_err-number-clause-counts g c told =
     let p = err_from_is_err_and c.from_residual.result c.from_residual.ensures.1 in
@@ -129,6 +158,15 @@ loop-place-preserved g c =
           (i.way told tells tree o is ready)
           (w.tree told tells (read_holds g.F.ReadMedium.tells start mid i.reads told ready.held) held
           (kept_still c.args.keep g.F.ReadMedium.tells told start mid (number_at list at) i.reads (ready.kept at (placed_in None 0) inside)) _ part to);
+      has_room = λ told tells tree o is ready room now means.
+          let to = parent_is start list law c.requires.listed o is at inside target numbers c.number_above-parent.result i.so_far (i.numbered o is) (subst (λ (l : List ℕ). MatchOption (parent_at c.args.list.now c.loop-place.place-index) (c.number_above-parent.result ≡ 0) (λ above. c.number_above-parent.result ≡ get_or l above 0)) c.as_slice-known.ensures.value c.number_above-parent.ensures) in
+          let held = i.grows.holds tells ready.target_held in
+          let part = part_still g.F.ReadMedium.tells told start mid (number_at list at) _ i.reads (part_here start list law c.requires.listed o is at inside) in
+          let way = i.way told tells tree o is ready in
+          room_next target (parts_in_file start o) at (parts_copied (cases_of c.args.target.now.base) (parts_in_file start o) tree)
+          (inside_parts start list law c.requires.listed o is at inside) way (i.has_room told tells tree o is ready room way.tree way.means) g.W.ReadMedium.tells tells after held w.grows w.used
+          (w.tree told tells (read_holds g.F.ReadMedium.tells start mid i.reads told ready.held) held
+          (kept_still c.args.keep g.F.ReadMedium.tells told start mid (number_at list at) i.reads (ready.kept at (placed_in None 0) inside)) _ part to) now means;
     }
 
 pub returns-clause-tree : goal.returns-clause-tree

@@ -1,14 +1,9 @@
 use Rattle.std.proofs.Common.{List, sym, ◌∙◌, subst}
 use Rattle.std.proofs.lemmas.Result.{err_from_is_err_and}
-use Rattle.std.specs.Prelude.{◌||◌}
-use Rattle.cfb_format.specs.declared.error.Error.{Error}
-use Rattle.cfb_format.specs.declared.medium.MediumFault.{MediumFault}
 use Rattle.cfb_places.specs.declared.walk.Place.{Place}
-use Rattle.cfb_copies.specs.cfb_agreement.Files.{failures_of}
-use Rattle.cfb_copies.specs.Copies.{AreCopyable, AreReadable, CopyRefused, ListsObjects}
-use Rattle.cfb_copies.specs.Steps.{IsFaultOfEither}
-use Rattle.cfb_copies.proofs.Faults.{counted_counts, counted_refused, no_fault_counts, unprepared_refused}
-use Rattle.cfb_copies.proofs.Filled.{means_same}
+use Rattle.cfb_copies.specs.Copies.{AreCopyable, AreReadable, ListsObjects}
+use Rattle.cfb_copies.proofs.Faults.{break_refused, no_fault_counts, unprepared_refused}
+use Rattle.cfb_copies.proofs.Filled.{fits_cut, means_same}
 use Rattle.cfb_copies.proofs.Headers.{header_as_created}
 use Rattle.cfb_copies.proofs.Prepared.{refused_early}
 use Rattle.cfb_copies.proofs.copying.copy_volume.Goals as goal
@@ -39,50 +34,49 @@ fill-requires-clause-listed g c = subst (λ (l : List Place). ListsObjects c.arg
 pub fill-requires-clause-copyable : goal.fill-requires-clause-copyable
 fill-requires-clause-copyable g c = subst (λ (l : List Place). AreCopyable c.args.source.now l) (sym c.as_slice-listed.ensures.value) c.in_ok-list.ensures.copyable
 
-pub returns-clause-unless : goal.returns-clause-unless
-returns-clause-unless g c told agrees calm tree means =
+pub returns-in_err-fill-clause-unless : goal.returns-in_err-fill-clause-unless
+returns-in_err-fill-clause-unless g c told agrees calm tree means =
     let can = c.in_ok-list.ensures.allowed told (agrees calm) tree means in (λ broken. absurd (broken can.0), λ whole large. absurd (can.1 large))
 
-pub returns-clause-err : goal.returns-clause-err
-returns-clause-err g c told tells agrees =
+pub returns-in_err-fill-clause-err : goal.returns-in_err-fill-clause-err
+returns-in_err-fill-clause-err g c told tells agrees =
+    let p = err_from_is_err_and c.from_residual-in_err-fill.result c.from_residual-in_err-fill.ensures.1 in
     let calm = sym c.is_failed.ensures ∙ c.if-is_failed.false in
     let m = c.in_ok-target.ensures in
     let readable = subst (λ (l : List Place). AreReadable c.args.source.now l) (sym c.as_slice-listed.ensures.value) (c.in_ok-list.ensures.readable told (agrees calm)) in
-    subst (λ (e : Error). CopyRefused c.args.source.now e) (sym c.counted.ensures)
-    (counted_refused c.args.source.now c.in-Err.error calm (c.in-Err.ensures.err told tells (agrees calm) (m.made tells).holds readable (m.empty tells)))
+    rw (p.1, p.2) (break_refused c.args.source.now c.in_err-fill.field-0.0 calm (c.in_err-fill.ensures.err told tells (agrees calm) (m.made tells).holds readable (m.empty tells))
+    (c.in_err-fill.ensures.enough told tells (agrees calm) (m.made tells).holds readable (m.empty tells) (m.fresh tells)
+    (fits_cut c.args.source.now (c.in_ok-list.ensures.allowed told (agrees calm)))))
 
-pub returns-clause-counts : goal.returns-clause-counts
-returns-clause-counts g c told =
-    let gives = g.F.ReadMedium.read_faults in
-    let can = λ (f : MediumFault). g.W.ReadMedium.read_faults f || g.W.Medium.write_faults f in
-    let was = failures_of c.args.source.now in
-    let now = failures_of c.fill.new.source in
-    subst (λ (e : Error). IsFaultOfEither gives g.W.ReadMedium.tells can was now e) (sym c.counted.ensures)
-    (counted_counts gives g.W.ReadMedium.tells can was now c.in-Err.error (c.in-Err.ensures.counts told))
+pub returns-in_err-fill-clause-counts : goal.returns-in_err-fill-clause-counts
+returns-in_err-fill-clause-counts g c told =
+    let p = err_from_is_err_and c.from_residual-in_err-fill.result c.from_residual-in_err-fill.ensures.1 in
+    rw (p.1, p.2) (c.in_err-fill.ensures.counts told)
 
-pub returns-in-Ok-clause-made : goal.returns-in-Ok-clause-made
-returns-in-Ok-clause-made g c tells =
+pub returns-clause-made : goal.returns-clause-made
+returns-clause-made g c tells =
     let m = c.in_ok-target.ensures.made tells in
-    let w = c.in-Ok.ensures.grows in
+    let w = c.in_ok-fill.ensures.grows in
     record {
       holds = w.holds tells m.holds;
       made = w.made tells m.holds m.made;
       none_free = w.none_free tells m.holds m.none_free;
+      tight = w.tight tells m.holds m.tight;
       header = header_as_created c.in_ok-target.target c.fill.new.target m.holds w.setting.limits.version (w.header tells m.holds) m.header;
       calm = w.calm tells ∙ m.calm;
     }
 
-pub returns-in-Ok-clause-tree : goal.returns-in-Ok-clause-tree
-returns-in-Ok-clause-tree g c told tells agrees =
+pub returns-clause-tree : goal.returns-clause-tree
+returns-clause-tree g c told tells agrees =
     let calm = sym c.is_failed.ensures ∙ c.if-is_failed.false in
     let m = c.in_ok-target.ensures in
     let readable = subst (λ (l : List Place). AreReadable c.args.source.now l) (sym c.as_slice-listed.ensures.value) (c.in_ok-list.ensures.readable told (agrees calm)) in
-    means_same c.args.source.now c.fill.new.target (c.in-Ok.ensures.tree told tells (agrees calm) (m.made tells).holds readable (m.empty tells)) (c.in_ok-list.ensures.allowed told (agrees calm))
+    means_same c.args.source.now c.fill.new.target (c.in_ok-fill.ensures.tree told tells (agrees calm) (m.made tells).holds readable (m.empty tells)) (c.in_ok-list.ensures.allowed told (agrees calm))
 
-pub returns-in-Ok-clause-allowed : goal.returns-in-Ok-clause-allowed
-returns-in-Ok-clause-allowed g c told agrees =
+pub returns-clause-allowed : goal.returns-clause-allowed
+returns-clause-allowed g c told agrees =
     let calm = sym c.is_failed.ensures ∙ c.if-is_failed.false in c.in_ok-list.ensures.allowed told (agrees calm)
 
-pub returns-in-Ok-clause-unless : goal.returns-in-Ok-clause-unless
-returns-in-Ok-clause-unless g c told agrees calm tree means =
+pub returns-clause-unless : goal.returns-clause-unless
+returns-clause-unless g c told agrees calm tree means =
     let can = c.in_ok-list.ensures.allowed told (agrees calm) tree means in (λ broken. absurd (broken can.0), λ whole large. absurd (can.1 large))

@@ -3,8 +3,8 @@ use Rattle.std.specs.Prelude.{slice_index}
 use Rattle.cfb_format.specs.declared.version.Version.{Version}
 use Rattle.cfb_format.specs.Created.{created_bytes}
 use Rattle.cfb_copies.specs.cfb_agreement.Files.{FileState}
-use Rattle.cfb_copies.specs.Copies.{HasNoObjects, IsMadeCopy}
-use Rattle.cfb_copies.proofs.Emptied.{created_full, created_none}
+use Rattle.cfb_copies.specs.Copies.{HasNoObjects, IsFresh, IsMadeCopy}
+use Rattle.cfb_copies.proofs.Emptied.{created_full, created_none, created_tight, created_used}
 use Rattle.cfb_copies.proofs.copying.make_empty.Goals as goal
 
 pub returns-clause-made : goal.returns-clause-made
@@ -15,6 +15,7 @@ returns-clause-made g c told =
       holds = m.holds told c.args.buffer_limit;
       made = m.made told;
       none_free = created_full file _ (m.holds told c.args.buffer_limit) (m.bytes told);
+      tight = created_tight file _ (m.holds told c.args.buffer_limit) (m.bytes told);
       header = λ i fixed. ap (λ (bytes : List ℕ). slice_index bytes i) (m.bytes told) ∙ ap (λ (v : Version). slice_index (created_bytes v) i) (sym m.version);
       calm = m.calm told;
     })
@@ -23,3 +24,14 @@ pub returns-clause-empty : goal.returns-clause-empty
 returns-clause-empty g c told =
     let file : FileState = record { base = c.in_ok-mini.mini; is_sound = true; buffer_limit = c.args.buffer_limit } in
     subst (λ (f : FileState). HasNoObjects f) (sym c.new.ensures) (created_none file _ c.created_file_is_right.ensures.means (c.in_ok-mini.ensures.bytes told))
+
+pub returns-clause-fresh : goal.returns-clause-fresh
+returns-clause-fresh g c told =
+    let m = c.in_ok-mini.ensures in
+    let file : FileState = record { base = c.in_ok-mini.mini; is_sound = true; buffer_limit = c.args.buffer_limit } in
+    subst (λ (f : FileState). IsFresh f) (sym c.new.ensures) (record {
+      made = m.made told;
+      limit = m.limit;
+      tight = created_tight file _ (m.holds told c.args.buffer_limit) (m.bytes told);
+      used = created_used file _ (m.holds told c.args.buffer_limit) (m.bytes told);
+    })

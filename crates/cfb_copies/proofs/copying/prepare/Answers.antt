@@ -1,6 +1,7 @@
-use Rattle.std.proofs.Common.{◌≡◌, ◌≢◌, List, true, false, refl, sym, ◌∙◌, subst, arith}
+use Rattle.std.proofs.Common.{◌≡◌, ◌≢◌, List, refl, sym, ◌∙◌, subst, arith}
 use Rattle.std.proofs.lemmas.Result.{err_from_is_err_and}
 use Rattle.cfb_codecs.specs.EntryModel.{entries_of as entries_in}
+use Rattle.cfb_format.specs.declared.error.Error.{Error}
 use Rattle.cfb_format.specs.declared.objtype.ObjType.TheVariants.{Root, Stream}
 use Rattle.cfb_format.specs.DirectoryEntry.{Entry}
 use Rattle.cfb_format.specs.Reading.{IsOutline}
@@ -8,8 +9,8 @@ use Rattle.cfb_format.specs.Siblings.{entry_at}
 use Rattle.cfb_outline.specs.Outlines.{IsReachedStorage}
 use Rattle.cfb_copies.specs.cfb_mini_sectors.State.{cases_of, entries_of}
 use Rattle.cfb_places.specs.declared.walk.Place.{Place}
-use Rattle.cfb_copies.specs.Copies.{AreCopyable, AreReadable, ListsObjects}
-use Rattle.cfb_copies.proofs.Prepared.{can_be_copied, no_room, not_prepared, readable_whole, too_large_if}
+use Rattle.cfb_copies.specs.Copies.{AreCopyable, AreReadable, IsNotPrepared, ListsObjects}
+use Rattle.cfb_copies.proofs.Prepared.{can_be_copied, has_room_in, is_too_large_in, no_room, not_prepared, readable_whole}
 use Rattle.cfb_copies.proofs.copying.prepare.Goals as goal
 
 pub returns-in_err-check_objects-clause-err : goal.returns-in_err-check_objects-clause-err
@@ -31,15 +32,18 @@ contents-requires g c =
           (record { outline = order.outline; is = order.is; reached = (0, omega arith, refl); kind = root }),
     )
 
-pub returns-then-is_too_large-clause-err : goal.returns-then-is_too_large-clause-err
-returns-then-is_too_large-clause-err g c told holds =
+pub returns-in_err-check_room-clause-err : goal.returns-in_err-check_room-clause-err
+returns-in_err-check_room-clause-err g c told holds =
+    let p = err_from_is_err_and c.from_residual-in_err-check_room.result c.from_residual-in_err-check_room.ensures.1 in
     let file = c.args.source.now in
     let lists : ListsObjects file c.in_ok-list.list.items = λ o is.
     c.in_ok-list.ensures.ok (cases_of file.base) o (subst (λ (es : List Entry). IsOutline (cases_of file.base) es o) (sym c.entries-entries.ensures.entries) is) in
     let readable = subst (λ (l : List Place). AreReadable file l) c.as_slice-listed.ensures.value (c.in_ok-check_objects.ensures.whole told holds) in
-    let large = too_large_if file holds c.version.result _ (entries_in c.entries-entries.result.now) c.as_slice-numbers.result.now c.is_too_large.result c.is_too_large.ensures c.version.ensures refl
-    c.entries-entries.ensures.entries (λ o has. c.as_slice-numbers.ensures.value ∙ c.in_ok-order.ensures.ok (cases_of file.base) o has) in
-    no_room file holds (readable_whole file holds c.parts_stand_at_places.ensures.whole c.in_ok-list.list.items lists readable) (large.0 c.if-is_too_large.true)
+    let why = c.in_err-check_room.ensures.full in
+    let large = is_too_large_in file holds c.version.result (entries_in c.entries-entries.result.now) c.as_slice-numbers.result.now c.version.ensures
+    c.entries-entries.ensures.entries (λ o has. c.as_slice-numbers.ensures.value ∙ c.in_ok-order.ensures.ok (cases_of file.base) o has) why.1 in
+    rw (p.1, p.2) (subst (λ (e : Error). IsNotPrepared file e) (sym why.0)
+    (no_room file holds (readable_whole file holds c.parts_stand_at_places.ensures.whole c.in_ok-list.list.items lists readable) large))
 
 pub returns-clause-listed : goal.returns-clause-listed
 returns-clause-listed g c = λ o is.
@@ -57,7 +61,6 @@ returns-clause-allowed g c told holds =
     let lists : ListsObjects file c.in_ok-list.list.items = λ o is.
     c.in_ok-list.ensures.ok (cases_of file.base) o (subst (λ (es : List Entry). IsOutline (cases_of file.base) es o) (sym c.entries-entries.ensures.entries) is) in
     let readable = subst (λ (l : List Place). AreReadable file l) c.as_slice-listed.ensures.value (c.in_ok-check_objects.ensures.whole told holds) in
-    let large = too_large_if file holds c.version.result _ (entries_in c.entries-entries.result.now) c.as_slice-numbers.result.now c.is_too_large.result c.is_too_large.ensures c.version.ensures refl
-    c.entries-entries.ensures.entries (λ o has. c.as_slice-numbers.ensures.value ∙ c.in_ok-order.ensures.ok (cases_of file.base) o has) in
     can_be_copied file holds c.parts_stand_at_places.ensures.whole c.in_ok-list.list.items lists readable
-    (λ too. let yes = large.1 too in let w : false ≡ true = sym c.if-is_too_large.false ∙ yes in cc)
+    (has_room_in file holds c.version.result (entries_in c.entries-entries.result.now) c.as_slice-numbers.result.now c.version.ensures
+    c.entries-entries.ensures.entries (λ o has. c.as_slice-numbers.ensures.value ∙ c.in_ok-order.ensures.ok (cases_of file.base) o has) c.in_ok-check_room.ensures.room)

@@ -1,4 +1,4 @@
-use Rattle.std.proofs.Common.{◌≡◌, sym, ◌∙◌, subst, arith}
+use Rattle.std.proofs.Common.{sym, ◌∙◌, subst, arith}
 use Rattle.cfb_copies.specs.declared.keeping.Keep.{Keep}
 use Rattle.cfb_copies.specs.cfb_mini_sectors.State.{content_of, entries_of}
 use Rattle.cfb_copies.specs.Steps.{IsKeptAt}

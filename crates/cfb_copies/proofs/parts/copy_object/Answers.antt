@@ -11,10 +11,12 @@ use Rattle.cfb_copies.specs.cfb_mini_sectors.State.{bytes_of, cases_of, content_
 use Rattle.cfb_copies.specs.cfb_content.Contents.{len_of}
 use Rattle.cfb_copies.specs.Steps.{CanBeLike, IsNewIn, LeadToEntry, TakesName, like_added}
 use Rattle.cfb_copies.proofs.Adding.{new_stream_of}
+use Rattle.cfb_copies.proofs.Enough.{entry_for, filled_for}
 use Rattle.cfb_copies.proofs.Filling.{fills_grow}
 use Rattle.cfb_copies.proofs.Growing.{grows_then, leads_still, reached_still}
 use Rattle.cfb_copies.proofs.Joining.{above_as, joined_as, named_as, new_leads, other_is_storage, storage_tree, stream_tree}
 use Rattle.cfb_copies.proofs.Reading.{read_none}
+use Rattle.cfb_copies.proofs.Slots.{moved_used}
 use Rattle.cfb_copies.proofs.parts.copy_object.Goals as goal
 
 pub insert_like-requires-clause-like : goal.insert_like-requires-clause-like
@@ -25,6 +27,11 @@ returns-in_err-number-clause-err g c told tells holds target whole takes =
     let p = err_from_is_err_and c.from_residual.result c.from_residual.ensures.1 in
     rw (p.1, p.2) (c.in_err-number.ensures.err tells target
     (subst (λ (es : List Entry). TakesName c.args.target.now c.args.parent (entry_at es c.args.entry).name) (sym c.entries-entries.ensures.entries) takes))
+
+pub returns-in_err-number-clause-enough : goal.returns-in_err-number-clause-enough
+returns-in_err-number-clause-enough g c told tells holds target whole part is to room =
+    let p = err_from_is_err_and c.from_residual.result c.from_residual.ensures.1 in
+    rw (p.1, p.2) (c.in_err-number.ensures.enough tells target (entry_for c.args.target.now target part room))
 
 pub copy_bytes-requires-clause-fits : goal.copy_bytes-requires-clause-fits
 copy_bytes-requires-clause-fits g c =
@@ -42,6 +49,33 @@ returns-in_err-copy_bytes-in-Stream-clause-err g c told tells holds target whole
     let p = err_from_is_err_and c.from_residual-in_err-copy_bytes-in-Stream.result c.from_residual-in_err-copy_bytes-in-Stream.ensures.1 in
     let kind = sym (ap (λ (es : List Entry). (entry_at es c.args.entry).obj_type) c.entries-entries.ensures.entries) ∙ sym c.kind_of-kind.ensures ∙ c.in-Stream.is in
     rw (p.1, p.2) (c.in_err-copy_bytes-in-Stream.ensures.err told tells holds (c.in_ok-number.ensures.grows.holds tells target) (c.in_ok-len-in-Stream.ensures.kept told holds whole kind))
+
+pub returns-in_err-copy_bytes-in-Stream-clause-enough : goal.returns-in_err-copy_bytes-in-Stream-clause-enough
+returns-in_err-copy_bytes-in-Stream-clause-enough g c told tells holds target whole part is to room =
+    let p = err_from_is_err_and c.from_residual-in_err-copy_bytes-in-Stream.result c.from_residual-in_err-copy_bytes-in-Stream.ensures.1 in
+    let w = c.in_ok-number.ensures in
+    let n = c.in_ok-number.number in
+    let old = c.args.target.now in
+    let mid = c.insert_like.new.target in
+    let source = c.args.source.now in
+    let same = c.entries-entries.ensures.entries in
+    let e = entry_at (entries_of source.base) c.args.entry in
+    let content = content_of source.base in
+    let kind = sym (ap (λ (es : List Entry). (entry_at es c.args.entry).obj_type) same) ∙ sym c.kind_of-kind.ensures ∙ c.in-Stream.is in
+    let stream = new_stream_of mid n w.grows.outline w.is_new.reached (w.is_like.kind ∙ sym c.kind_of-kind.ensures ∙ c.in-Stream.is) in
+    let new_in = subst (λ (es : List Entry). IsNewIn old mid c.args.parent n (entry_at es c.args.entry).name) same w.is_new in
+    let tree = subst (λ (es : List Entry). (first : List ℕ) (names : List (List ℕ)) → LeadToEntry old (parent_names (first ∷ names)) c.args.parent → last_name (first ∷ names) ≡ (entry_at es c.args.entry).name
+    → BecomesTree (cases_of old.base) (bytes_of old.base) (bytes_of mid.base) (like_added (cases_of old.base) (entry_at es c.args.entry) (first ∷ names))) same (w.tree tells target) in
+    let joins = joined_as (cases_of old.base) (bytes_of old.base) (bytes_of mid.base) content e part is
+    (tree is.first is.rest (above_as old c.args.parent content e part is to) (named_as content e part is)) in
+    let kept = c.in_ok-len-in-Stream.ensures.kept told holds whole kind in
+    let can = filled_for g.W.ReadMedium.tells tells old mid n content e part is kind target w.grows w.used (w.grows.setting.is_sound ∙ c.requires.sound) stream
+    (new_leads old mid c.args.parent n content e part is new_in to) joins room c.in_ok-len-in-Stream.len kept in
+    rw (p.1, p.2) (c.in_err-copy_bytes-in-Stream.ensures.enough told tells holds (w.grows.holds tells target) kept can)
+
+pub returns-in_ok-copy_bytes-in-Stream-clause-used : goal.returns-in_ok-copy_bytes-in-Stream-clause-used
+returns-in_ok-copy_bytes-in-Stream-clause-used g c =
+    moved_used c.insert_like.new.target.base c.copy_bytes.new.target.base c.in_ok-number.number c.in_ok-copy_bytes-in-Stream.ensures.fills.moves ∙ c.in_ok-number.ensures.used
 
 pub returns-in_ok-copy_bytes-in-Stream-clause-grows : goal.returns-in_ok-copy_bytes-in-Stream-clause-grows
 returns-in_ok-copy_bytes-in-Stream-clause-grows g c =
@@ -108,6 +142,8 @@ returns-in_default g c =
           storage_tree (cases_of old.base) (bytes_of old.base) (bytes_of mid.base) content e part is (other_is_storage e c.requires.copyable.like.object other)
           (joined_as (cases_of old.base) (bytes_of old.base) (bytes_of mid.base) content e part is
           (tree is.first is.rest (above_as old c.args.parent content e part is to) (named_as content e part is)));
+      used = w.used;
       err = λ told tells holds target whole takes. tt;
+      enough = λ told tells holds target whole part is to room. tt;
       counts = λ told. refl;
     }

@@ -15,9 +15,11 @@ use Rattle.cfb_copies.specs.cfb_entry_changes.Kept.{KeepsFound}
 use Rattle.cfb_copies.specs.cfb_entry_changes.Marking.{GivesFields}
 use Rattle.cfb_copies.specs.Steps.{IsLikeIn, TakesName, fields_like, like_added}
 use Rattle.cfb_copies.proofs.Adding.{like_joins, set_like}
-use Rattle.cfb_copies.proofs.Faults.{break_at_all, counted_gives, medium_breaks}
+use Rattle.cfb_copies.proofs.Faults.{break_at_all, counted_gives, full_why, medium_breaks, medium_not_full}
 use Rattle.cfb_copies.proofs.Growing.{grows_by, grows_then, leads_still, ordered, reached_still, same_tables}
+use Rattle.cfb_copies.proofs.cfb_agreement.Parts.{parts-keep-made}
 use Rattle.cfb_copies.proofs.Likes.{like_len, like_start, like_valid}
+use Rattle.cfb_copies.proofs.Slots.{marked_tight, marked_used, put_tight}
 use Rattle.cfb_copies.proofs.parts.insert_like.Goals as goal
 
 pub set_fields-requires-clause-sound : goal.set_fields-requires-clause-sound
@@ -38,10 +40,12 @@ returns-clause-grows g c =
     let w = c.in_ok-number.ensures in
     let s = c.in_ok-set_fields.ensures in
     grows_then tells old mid new
-    (grows_by tells old mid w.setting w.ended (ordered old c.entries-before.ensures.in_order) (ordered mid c.entries-between.ensures.in_order) w.stays (λ told holds. w.agrees told holds)
-    (λ told. w.header told) (λ told holds made. w.made told holds made) w.stays_full (λ told. w.counts told))
+    (grows_by tells old mid w.setting w.ended (ordered old c.entries-before.ensures.in_order) (ordered mid c.entries-between.ensures.in_order) w.stays
+    (put_tight old.base mid.base w.setting.limits.version w.minifat w.slots) (λ told holds. w.agrees told holds)
+    (λ told. w.header told) (λ told holds made. parts-keep-made old.base mid.base (w.parts told holds) made) w.stays_full (λ told. w.counts told))
     (grows_by tells mid new s.setting s.ended (ordered mid c.entries-between.ensures.in_order) (ordered new c.entries-behind.ensures.in_order)
-    (λ before after was is names k at. s.finds before after was is names ∙ at) (λ told holds. s.agrees told holds) (λ told. s.header told) (λ told holds made. s.made told holds made) (same_tables mid new s.tables) (λ told. s.counts told))
+    (λ before after was is names k at. s.finds before after was is names ∙ at)
+    (marked_tight mid.base new.base c.in_ok-number.number s.entries.0 s.entries.2 s.setting.limits.version s.minifat) (λ told holds. s.agrees told holds) (λ told. s.header told) (λ told holds made. parts-keep-made mid.base new.base (s.parts told holds) made) (same_tables mid new s.tables) (λ told. s.counts told))
 
 pub returns-then-not-takes_name-clause-err : goal.returns-then-not-takes_name-clause-err
 returns-then-not-takes_name-clause-err g c told holds takes =
@@ -157,3 +161,21 @@ returns-clause-tree g c told holds first names to last =
     (w.tree told holds (first ∷ names) was.outline was.is at named)
     (λ f g gives. s.tree told (w.agrees told holds w.ended) f g (first ∷ names) between.outline between.is there
     (λ fields post. let is : fields ≡ fields_like like (fields_in midE) = search rules in subst (λ (x : Fields). GivesFields midE x f g) (sym is) gives)))
+
+pub returns-clause-used : goal.returns-clause-used
+returns-clause-used g c =
+    let s = c.in_ok-set_fields.ensures in
+    marked_used c.insert.new.self.base c.set_fields.new.self.base c.in_ok-number.number s.entries.0 s.entries.2 ∙ c.in_ok-number.ensures.slots.used
+
+-- ---- numbers are not what lacked
+
+pub returns-in_err-number-clause-enough : goal.returns-in_err-number-clause-enough
+returns-in_err-number-clause-enough g c told holds enough =
+    let p = err_from_is_err_and c.from_residual.result c.from_residual.ensures.1 in
+    rw (p.1, p.2) (λ full. enough (full_why _ _ _ _ c.in_err-number.field-0.0 (c.in_err-number.ensures.reason holds) full))
+
+pub returns-in_err-set_fields-clause-enough : goal.returns-in_err-set_fields-clause-enough
+returns-in_err-set_fields-clause-enough g c told holds enough =
+    let p = err_from_is_err_and c.from_residual-in_err-set_fields.result c.from_residual-in_err-set_fields.ensures.1 in
+    let w = c.in_ok-number.ensures in
+    rw (p.1, p.2) (medium_not_full _ c.in_err-set_fields.field-0.0 (c.in_err-set_fields.ensures.err told (w.agrees told holds w.ended)))

@@ -1,15 +1,17 @@
-use Rattle.std.proofs.Common.{◌≡◌, ◌+◌, ◌<◌, ◌≤◌, ◌++◌, inl, ℕ, List, refl, sym, ◌∙◌, ap, subst, length, take, drop, arith, length-append, length-take, length-drop}
+use Rattle.std.proofs.Common.{◌≡◌, ◌+◌, ◌<◌, ◌≤◌, ◌++◌, ◌⊎◌, inl, inr, ℕ, List, refl, sym, ◌∙◌, ap, subst, length, take, drop, arith, length-append, length-take, length-drop}
 use Rattle.std.proofs.lemmas.List.{take_all, take-append-le}
 use Rattle.std.proofs.lemmas.Result.{err_from_is_err_and}
+use Rattle.cfb_format.specs.Content.{mini_stream_cutoff}
 use Rattle.cfb_format.specs.DirectoryEntry.{Entry}
 use Rattle.cfb_format.specs.Medium.{part, written}
 use Rattle.cfb_format.specs.Siblings.{entry_at}
 use Rattle.cfb_copies.specs.cfb_content.Contents.{len_of}
 use Rattle.cfb_volume.specs.Answers.{content_at}
 use Rattle.cfb_copies.proofs.Appended.{next_joins, nothing_yet}
-use Rattle.cfb_copies.proofs.Faults.{break_at_all}
+use Rattle.cfb_copies.proofs.Faults.{break_at_all, no_full_break}
 use Rattle.cfb_copies.proofs.Filling.{fills_none, fills_then, fills_written}
 use Rattle.cfb_copies.proofs.Settled.{leaves_none, settles}
+use Rattle.cfb_copies.proofs.Slots.{moved_tight}
 use Rattle.cfb_copies.proofs.Reading.{read_content, read_holds, read_none, read_then}
 use Rattle.cfb_copies.proofs.pieces.copy_bytes.Goals as goal
 
@@ -50,13 +52,53 @@ returns-in_err-read_piece-clause-err g c told tells holds target whole =
     let mid = c.loop-at.source in
     let i = c.loop-at.invariant in
     let same : length (content_at mid c.args.from) ≡ length (content_at start c.args.from) = ap (λ (xs : List ℕ). length xs) (read_content g.F.ReadMedium.tells start mid i.reads told c.args.from) in
-    rw (p.1, p.2) (c.in_err-read_piece.ensures.err told (read_holds g.F.ReadMedium.tells start mid i.reads told holds)
-    (omega (arith, same, whole, i.within, c.min-count.ensures, length-take c.min-count.result c.loop-at.piece)))
+    rw (p.1, p.2) (break_at_all _ c.in_err-read_piece.field-0.0 (c.in_err-read_piece.ensures.err told (read_holds g.F.ReadMedium.tells start mid i.reads told holds)
+    (omega (arith, same, whole, i.within, c.min-count.ensures, length-take c.min-count.result c.loop-at.piece))))
+
+pub returns-in_err-read_piece-clause-enough : goal.returns-in_err-read_piece-clause-enough
+returns-in_err-read_piece-clause-enough g c told tells holds target whole can =
+    let p = err_from_is_err_and c.from_residual.result c.from_residual.ensures.1 in
+    let start = c.args.source.now in
+    let mid = c.loop-at.source in
+    let i = c.loop-at.invariant in
+    let same : length (content_at mid c.args.from) ≡ length (content_at start c.args.from) = ap (λ (xs : List ℕ). length xs) (read_content g.F.ReadMedium.tells start mid i.reads told c.args.from) in
+    rw (p.1, p.2) (no_full_break c.in_err-read_piece.field-0.0 (c.in_err-read_piece.ensures.err told (read_holds g.F.ReadMedium.tells start mid i.reads told holds)
+    (omega (arith, same, whole, i.within, c.min-count.ensures, length-take c.min-count.result c.loop-at.piece))))
 
 pub returns-in_err-append-clause-err : goal.returns-in_err-append-clause-err
 returns-in_err-append-clause-err g c told tells holds target whole =
     let p = err_from_is_err_and c.from_residual-in_err-append.result c.from_residual-in_err-append.ensures.1 in
     rw (p.1, p.2) (break_at_all _ c.in_err-append.field-0.0 (c.in_err-append.ensures.err tells (c.loop-at.invariant.fills.holds tells target)))
+
+-- there are numbers for the next piece
+pub returns-in_err-append-clause-enough : goal.returns-in_err-append-clause-enough
+returns-in_err-append-clause-enough g c told tells holds target whole can =
+    let p = err_from_is_err_and c.from_residual-in_err-append.result c.from_residual-in_err-append.ensures.1 in
+    let i = c.loop-at.invariant in
+    let to = c.args.to in
+    let old = c.loop-at.target in
+    let n = c.min-count.result in
+    let at = c.loop-at.at in
+    let into = c.read_piece.new.into in
+    let least = c.min-count.ensures in
+    let more = c.loop-at-test.true in
+    let upto : at + n ≤ c.args.len = omega (arith, least, i.within) in
+    let long : length into ≡ n = omega (arith, c.read_piece.auto.into, length-take n c.loop-at.piece, least) in
+    let put : take n (into ++ drop n c.loop-at.piece) ≡ take n into = take-append-le n into (drop n c.loop-at.piece) (omega (arith, long)) in
+    let count : length (take n (into ++ drop n c.loop-at.piece)) ≡ n = ap (λ (xs : List ℕ). length xs) put ∙ omega (arith, long, length-take n into) in
+    let some : 0 < n = omega (arith, least, more, c.requires.room, c.loop-at.auto.piece) in
+    let size = len_of old.base to + length (take n (into ++ drop n c.loop-at.piece)) in
+    let is : size ≡ at + n = λ j. i.end j + count j in
+    let settled : (mini_stream_cutoff ≤ size) ⊎ (size ≡ c.args.len) =
+    elim (settles c.args.len at n (length c.loop-at.piece) least (omega (arith, c.requires.room, c.loop-at.auto.piece)) i.within) [
+      | inl none ↦ absurd (omega (arith, none, some))
+      | inr (inl large) ↦ inl (omega (arith, large, is))
+      | inr (inr all) ↦ inr (is ∙ all)
+    ] in
+    let end = i.end in
+    rw (p.1, p.2) (λ full. can old size i.fills (omega (arith, end, is, some)) (omega (arith, is, upto)) settled
+    (leaves_none old to c.args.len at (length (take n (into ++ drop n c.loop-at.piece))) i.end i.settled more)
+    (c.in_err-append.ensures.foreseen tells (i.fills.holds tells target) full))
 
 pub loop-at-preserved : goal.loop-at-preserved
 loop-at-preserved g c =
@@ -85,7 +127,9 @@ loop-at-preserved g c =
       reads = read_then g.F.ReadMedium.tells start mid c.read_piece.new.source i.reads r.reads;
       calm = λ told. r.counts told ∙ i.calm told;
       fills = fills_then g.W.ReadMedium.tells to c.args.target.now old new i.fills
-          (fills_written g.W.ReadMedium.tells to old new a.setting a.ended a.stream a.entries (λ told holds. a.agrees told holds) (λ told holds. a.changes told holds)
+          (fills_written g.W.ReadMedium.tells to old new a.setting a.ended a.stream a.entries
+          (λ told holds. moved_tight old.base new.base to a.entries a.setting.limits.version
+          (λ none. a.minis_full told holds (leaves_none old to c.args.len at (length (take n (into ++ drop n c.loop-at.piece))) i.end i.settled more) none)) (λ told holds. a.agrees told holds) (λ told holds. a.changes told holds)
           (λ told holds none. a.stays_full told holds (leaves_none old to c.args.len at (length (take n (into ++ drop n c.loop-at.piece))) i.end i.settled more) none) (λ told. a.counts told));
       end = a.len ∙ (λ j. i.end j + count j);
       room = omega (arith, length-append into (drop n c.loop-at.piece), length-drop n c.loop-at.piece, long, least, c.loop-at.auto.piece);

@@ -1,4 +1,4 @@
-use Rattle.std.proofs.Common.{◌≡◌, ◌<◌, ℕ, List, ap, sym, ◌∙◌, subst, length, false, true, arith, map, take}
+use Rattle.std.proofs.Common.{◌≡◌, List, ap, sym, ◌∙◌, false, true, arith, map}
 use Rattle.std.proofs.lemmas.List.{take_all}
 use Rattle.cfb_places.specs.declared.walk.Place.{Place}
 use Rattle.cfb_places.specs.Places.{placed_in}

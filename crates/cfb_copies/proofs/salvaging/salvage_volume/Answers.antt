@@ -1,14 +1,8 @@
 use Rattle.std.proofs.Common.{List, sym, ◌∙◌, subst}
 use Rattle.std.proofs.lemmas.Result.{err_from_is_err_and}
-use Rattle.std.specs.Prelude.{◌||◌}
-use Rattle.cfb_format.specs.declared.error.Error.{Error}
-use Rattle.cfb_format.specs.declared.medium.MediumFault.{MediumFault}
 use Rattle.cfb_places.specs.declared.walk.Place.{Place}
-use Rattle.cfb_copies.specs.cfb_agreement.Files.{failures_of}
 use Rattle.cfb_copies.specs.Copies.{AreCopyable, ListsObjects}
-use Rattle.cfb_copies.specs.Salvaged.{SalvageRefused}
-use Rattle.cfb_copies.specs.Steps.{IsFaultOfEither}
-use Rattle.cfb_copies.proofs.Faults.{counted_counts, counted_cut, no_fault_counts, refused_cut, unprepared_cut}
+use Rattle.cfb_copies.proofs.Faults.{break_cut, no_fault_counts, refused_cut, unprepared_cut}
 use Rattle.cfb_copies.proofs.Headers.{header_as_created}
 use Rattle.cfb_copies.proofs.salvaging.salvage_volume.Goals as goal
 
@@ -37,46 +31,44 @@ fill-requires-clause-listed g c = subst (λ (l : List Place). ListsObjects c.arg
 pub fill-requires-clause-copyable : goal.fill-requires-clause-copyable
 fill-requires-clause-copyable g c = subst (λ (l : List Place). AreCopyable c.args.source.now l) (sym c.as_slice-listed.ensures.value) c.in_ok-prepared.ensures.copyable
 
-pub returns-in-Err-clause-full : goal.returns-in-Err-clause-full
-returns-in-Err-clause-full g c told agrees calm tree means large = absurd (c.in_ok-prepared.ensures.fits told (agrees calm) tree means large)
+pub returns-in_err-fill-clause-full : goal.returns-in_err-fill-clause-full
+returns-in_err-fill-clause-full g c told agrees calm tree means large = absurd (c.in_ok-prepared.ensures.fits told (agrees calm) tree means large)
 
-pub returns-in-Err-clause-err : goal.returns-in-Err-clause-err
-returns-in-Err-clause-err g c told tells agrees =
+pub returns-in_err-fill-clause-err : goal.returns-in_err-fill-clause-err
+returns-in_err-fill-clause-err g c told tells agrees =
+    let p = err_from_is_err_and c.from_residual-in_err-fill.result c.from_residual-in_err-fill.ensures.1 in
     let calm = sym c.is_failed.ensures ∙ c.if-is_failed.false in
     let m = c.in_ok-volume.ensures in
-    subst (λ (e : Error). SalvageRefused c.args.source.now e) (sym c.counted.ensures)
-    (counted_cut c.args.source.now c.in-Err.error calm (c.in-Err.ensures.err told tells (agrees calm) (m.made tells).holds (λ j d below. tt) (m.empty tells)))
+    rw (p.1, p.2) (break_cut c.args.source.now c.in_err-fill.field-0.0 calm (c.in_err-fill.ensures.err told tells (agrees calm) (m.made tells).holds (λ j d below. tt) (m.empty tells))
+    (c.in_err-fill.ensures.enough told tells (agrees calm) (m.made tells).holds (λ j d below. tt) (m.empty tells) (m.fresh tells) (c.in_ok-prepared.ensures.fits told (agrees calm))))
 
-pub returns-in-Err-clause-counts : goal.returns-in-Err-clause-counts
-returns-in-Err-clause-counts g c told =
-    let gives = g.F.ReadMedium.read_faults in
-    let can = λ (f : MediumFault). g.W.ReadMedium.read_faults f || g.W.Medium.write_faults f in
-    let was = failures_of c.args.source.now in
-    let now = failures_of c.fill.new.source in
-    subst (λ (e : Error). IsFaultOfEither gives g.W.ReadMedium.tells can was now e) (sym c.counted.ensures)
-    (counted_counts gives g.W.ReadMedium.tells can was now c.in-Err.error (c.in-Err.ensures.counts told))
+pub returns-in_err-fill-clause-counts : goal.returns-in_err-fill-clause-counts
+returns-in_err-fill-clause-counts g c told =
+    let p = err_from_is_err_and c.from_residual-in_err-fill.result c.from_residual-in_err-fill.ensures.1 in
+    rw (p.1, p.2) (c.in_err-fill.ensures.counts told)
 
-pub returns-in-Ok-clause-made : goal.returns-in-Ok-clause-made
-returns-in-Ok-clause-made g c tells =
+pub returns-clause-made : goal.returns-clause-made
+returns-clause-made g c tells =
     let m = c.in_ok-volume.ensures.made tells in
-    let w = c.in-Ok.ensures.grows in
+    let w = c.in_ok-fill.ensures.grows in
     record {
       holds = w.holds tells m.holds;
       made = w.made tells m.holds m.made;
       none_free = w.none_free tells m.holds m.none_free;
+      tight = w.tight tells m.holds m.tight;
       header = header_as_created c.in_ok-volume.volume c.fill.new.target m.holds w.setting.limits.version (w.header tells m.holds) m.header;
       calm = w.calm tells ∙ m.calm;
     }
 
-pub returns-in-Ok-clause-salvaged : goal.returns-in-Ok-clause-salvaged
-returns-in-Ok-clause-salvaged g c told agrees =
+pub returns-clause-salvaged : goal.returns-clause-salvaged
+returns-clause-salvaged g c told agrees =
     let calm = sym c.is_failed.ensures ∙ c.if-is_failed.false in
     let m = c.in_ok-volume.ensures in
     record {
-      tree = λ tells. c.in-Ok.ensures.tree told tells (agrees calm) (m.made tells).holds (λ j d below. tt) (m.empty tells);
+      tree = λ tells. c.in_ok-fill.ensures.tree told tells (agrees calm) (m.made tells).holds (λ j d below. tt) (m.empty tells);
       report = c.in_ok-prepared.ensures.told told (agrees calm);
       fits = c.in_ok-prepared.ensures.fits told (agrees calm);
     }
 
-pub returns-in-Ok-clause-full : goal.returns-in-Ok-clause-full
-returns-in-Ok-clause-full g c told agrees calm tree means large = absurd (c.in_ok-prepared.ensures.fits told (agrees calm) tree means large)
+pub returns-clause-full : goal.returns-clause-full
+returns-clause-full g c told agrees calm tree means large = absurd (c.in_ok-prepared.ensures.fits told (agrees calm) tree means large)

@@ -5,6 +5,7 @@ use Rattle.cfb_format.specs.DirectoryEntry.{Entry, EntryFits, IsValidEntry}
 use Rattle.cfb_format.specs.Names.{utf16_units, max_name_len}
 use Rattle.cfb_format.specs.Siblings.{entry_at}
 use Rattle.cfb_codecs.specs.EntryModel.{entry_of}
+use Rattle.cfb_sectors.proofs.SectorLemmas.{SectorStays_refl}
 use Rattle.cfb_alloc.proofs.Answering.{all_ok, on_both}
 use Rattle.cfb_alloc.proofs.Spared.{spares_refl}
 use Rattle.cfb_entries.specs.Fields.{entry_with_fields}
@@ -12,7 +13,7 @@ use Rattle.cfb_slots.specs.Slots.{HavePlaces, HoldSlotsBut}
 use Rattle.cfb_directory.specs.State.{directory_of}
 use Rattle.cfb_directory.proofs.ChangedFields.{changed_here, changed_length, changed_told, changed_writable, changed_beside}
 use Rattle.cfb_directory.proofs.DirectoryRefusals.{invalid_for, medium_is, medium_refused, medium_stops, err_map}
-use Rattle.cfb_directory.proofs.Placed.{held_places, held_no_tables, header_left, slot_left}
+use Rattle.cfb_directory.proofs.Placed.{held_places, held_no_tables, header_left, others_left, slot_left}
 use Rattle.cfb_directory.proofs.Rewritten.{rewritten}
 use Rattle.cfb_slots.proofs.SlotWrites.{entries-stay}
 use Rattle.cfb_directory.proofs.changing.change_fields.Goals as goal
@@ -83,6 +84,18 @@ returns-clause-holds g c told validation h valid =
 pub returns-clause-header : goal.returns-clause-header
 returns-clause-header g c told = header_left (c.args.number ∷ []) c.args.allocator.now.tables.version c.args.sectors.now c.args.allocator.now.file.bytes c.write_entry.new.allocator.file.bytes
     (c.write_entry.ensures.others told)
+
+pub returns-then-not-are_placed-clause-others : goal.returns-then-not-are_placed-clause-others
+returns-then-not-are_placed-clause-others g c told i out = let a = c.args.allocator.now in SectorStays_refl a.tables.version i a.file.bytes
+
+pub returns-clause-others : goal.returns-clause-others
+returns-clause-others g c told =
+    let a = c.args.allocator.now in
+    let before : length c.list-count.result.now ≡ length c.args.entries.now.entries =
+    sym (length-map c.list-count.result.now entry_of) ∙ ap (λ (es : List Entry). length es) c.list-count.ensures.list in
+    others_left (c.args.number ∷ []) a.tables.version c.args.sectors.now a.file.bytes c.write_entry.new.allocator.file.bytes (length c.list-count.result.now) (length a.tables.fat)
+    (c.are_placed.ensures.0 c.if-not-are_placed.false) (c.write_entry.ensures.others told)
+    (λ k m. let e = Contains-one c.args.number k m in let inside = c.requires.inside in omega (arith, e, inside, before))
 
 pub returns-clause-slots : goal.returns-clause-slots
 returns-clause-slots g c told validation h k lt ne =

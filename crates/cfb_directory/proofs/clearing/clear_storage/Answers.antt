@@ -11,6 +11,7 @@ use Rattle.cfb_directory.proofs.cfb_trees.Members.{reached-is-used}
 use Rattle.cfb_alloc.specs.Alloc.{AllocatorState, HoldsTables}
 use Rattle.cfb_alloc.specs.Agreement.{HasSectors}
 use Rattle.cfb_alloc.specs.InSector.{IsNoTableSector}
+use Rattle.cfb_sectors.proofs.SectorLemmas.{SectorStays_refl}
 use Rattle.cfb_alloc.proofs.Answering.{all_ok, on_both, on_ok}
 use Rattle.cfb_alloc.proofs.Spared.{spares_refl}
 use Rattle.cfb_directory.specs.cfb_outline.Outlines.{IsReachedStorage}
@@ -18,7 +19,7 @@ use Rattle.cfb_slots.specs.Slots.{ChangesSlots, HavePlaces, HoldSlotsBut}
 use Rattle.cfb_directory.specs.State.{directory_of}
 use Rattle.cfb_directory.proofs.ClearedEntries.{cleared_told, cleared_valid, cleared_within, cleared_writable}
 use Rattle.cfb_directory.proofs.DirectoryRefusals.{invalid_for, invalid_stops, medium_refused, medium_stops, err_map, invalid_counts}
-use Rattle.cfb_directory.proofs.Placed.{begun_as, begun_holds, begun_spares, held_places, held_no_tables, header_left, slot_left}
+use Rattle.cfb_directory.proofs.Placed.{begun_as, begun_holds, begun_spares, held_places, held_no_tables, header_left, others_left, slot_left}
 use Rattle.cfb_directory.proofs.Rewritten.{rewritten}
 use Rattle.cfb_slots.proofs.SlotWrites.{entries-stay}
 use Rattle.cfb_directory.proofs.clearing.clear_storage.Goals as goal
@@ -123,6 +124,27 @@ pub returns-clause-header : goal.returns-clause-header
 returns-clause-header g c told = header_left c.deref.result.now c.args.allocator.now.tables.version c.args.sectors.now c.args.allocator.now.file.bytes c.write_entries.new.allocator.file.bytes
     (subst (λ (a : AllocatorState). ChangesSlots c.deref.result.now a.tables.version c.args.sectors.now a.file.bytes c.write_entries.new.allocator.file.bytes) c.begin_change.ensures
     (c.write_entries.ensures.others told))
+
+pub returns-then-not-are_placed-clause-others : goal.returns-then-not-are_placed-clause-others
+returns-then-not-are_placed-clause-others g c told i out = let a = c.args.allocator.now in SectorStays_refl a.tables.version i a.file.bytes
+
+pub returns-in_err-touched-clause-others : goal.returns-in_err-touched-clause-others
+returns-in_err-touched-clause-others g c told i out = let a = c.args.allocator.now in SectorStays_refl a.tables.version i a.file.bytes
+
+pub returns-clause-others : goal.returns-clause-others
+returns-clause-others g c told =
+    let a = c.args.allocator.now in
+    let touched = c.deref.result.now in
+    let before : length c.list-count.result.now ≡ length c.args.entries.now.entries =
+    sym (length-map c.list-count.result.now entry_of) ∙ ap (λ (es : List Entry). length es) c.list-count.ensures.list in
+    let items : touched ≡ c.args.top ∷ c.args.inside.now = c.deref.ensures.value ∙ c.in_ok-touched.ensures.touched in
+    others_left touched a.tables.version c.args.sectors.now a.file.bytes c.write_entries.new.allocator.file.bytes (length c.list-count.result.now) (length a.tables.fat)
+    (c.are_placed.ensures.0 c.if-not-are_placed.false)
+    (subst (λ (z : AllocatorState). ChangesSlots touched z.tables.version c.args.sectors.now z.file.bytes c.write_entries.new.allocator.file.bytes) c.begin_change.ensures
+    (c.write_entries.ensures.others told))
+    (λ k m.
+    let inside = cleared_within c.args.entries.now.cases c.args.entries.now.entries c.args.top c.args.inside.now c.requires.top c.requires.all k (subst (λ (l : List ℕ). Contains l k) items m) in
+    omega (arith, inside, before))
 
 pub returns-clause-slots : goal.returns-clause-slots
 returns-clause-slots g c told validation h k lt out =

@@ -1,12 +1,12 @@
 use Rattle.cfb_entry_changes.proofs.Entries.{put-is-exact, put-is-snug-mini, put-grows-tightly}
-use Rattle.cfb_entry_changes.proofs.Sound.{put-is-all-used, put-is-changeable, put-is-snug}
+use Rattle.cfb_entry_changes.proofs.Sound.{put-loses-none, put-is-changeable, put-is-snug}
 use Rattle.cfb_entry_changes.proofs.insertion.insertions_keep_files_sound.Goals as goal
 
 pub returns-clause-changeable : goal.returns-clause-changeable
 returns-clause-changeable c = put-is-changeable
 
-pub returns-clause-all_used : goal.returns-clause-all_used
-returns-clause-all_used c = put-is-all-used
+pub returns-clause-loses_none : goal.returns-clause-loses_none
+returns-clause-loses_none c = put-loses-none
 
 pub returns-clause-exact : goal.returns-clause-exact
 returns-clause-exact c = put-is-exact

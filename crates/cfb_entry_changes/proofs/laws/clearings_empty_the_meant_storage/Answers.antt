@@ -1,11 +1,11 @@
-use Rattle.cfb_entry_changes.proofs.Emptied.{cleared-empties-tree, cleared-is-all-used, cleared-is-changeable, cleared-is-snug, cleared-is-snug-mini}
+use Rattle.cfb_entry_changes.proofs.Emptied.{cleared-empties-tree, cleared-loses-none, cleared-is-changeable, cleared-is-snug, cleared-is-snug-mini}
 use Rattle.cfb_entry_changes.proofs.laws.clearings_empty_the_meant_storage.Goals as goal
 
 pub returns-clause-changeable : goal.returns-clause-changeable
 returns-clause-changeable c = cleared-is-changeable
 
-pub returns-clause-all_used : goal.returns-clause-all_used
-returns-clause-all_used c = cleared-is-all-used
+pub returns-clause-loses_none : goal.returns-clause-loses_none
+returns-clause-loses_none c = cleared-loses-none
 
 pub returns-clause-tree : goal.returns-clause-tree
 returns-clause-tree c = cleared-empties-tree

@@ -1,11 +1,11 @@
-use Rattle.cfb_entry_changes.proofs.Marked.{marked-changes-tree, marked-is-all-used, marked-is-changeable, marked-is-snug, marked-is-snug-mini}
+use Rattle.cfb_entry_changes.proofs.Marked.{marked-changes-tree, marked-loses-none, marked-is-changeable, marked-is-snug, marked-is-snug-mini}
 use Rattle.cfb_entry_changes.proofs.laws.fields_change_the_meant_tree.Goals as goal
 
 pub returns-clause-changeable : goal.returns-clause-changeable
 returns-clause-changeable c = marked-is-changeable
 
-pub returns-clause-all_used : goal.returns-clause-all_used
-returns-clause-all_used c = marked-is-all-used
+pub returns-clause-loses_none : goal.returns-clause-loses_none
+returns-clause-loses_none c = marked-loses-none
 
 pub returns-clause-tree : goal.returns-clause-tree
 returns-clause-tree c = marked-changes-tree

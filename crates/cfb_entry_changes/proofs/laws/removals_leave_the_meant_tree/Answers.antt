@@ -1,11 +1,11 @@
-use Rattle.cfb_entry_changes.proofs.Taken.{taken-is-all-used, taken-is-changeable, taken-is-snug, taken-is-snug-mini, taken-leaves-tree}
+use Rattle.cfb_entry_changes.proofs.Taken.{taken-loses-none, taken-is-changeable, taken-is-snug, taken-is-snug-mini, taken-leaves-tree}
 use Rattle.cfb_entry_changes.proofs.laws.removals_leave_the_meant_tree.Goals as goal
 
 pub returns-clause-changeable : goal.returns-clause-changeable
 returns-clause-changeable c = taken-is-changeable
 
-pub returns-clause-all_used : goal.returns-clause-all_used
-returns-clause-all_used c = taken-is-all-used
+pub returns-clause-loses_none : goal.returns-clause-loses_none
+returns-clause-loses_none c = taken-loses-none
 
 pub returns-clause-tree : goal.returns-clause-tree
 returns-clause-tree c = taken-leaves-tree

@@ -1,4 +1,4 @@
-use Rattle.cfb_entry_changes.proofs.Standing.{entries-keep-streams, standing-is-all-used, standing-is-changeable, standing-is-snug, streams-kept-then}
+use Rattle.cfb_entry_changes.proofs.Standing.{entries-keep-streams, standing-loses-none, standing-is-changeable, standing-is-snug, streams-kept-then}
 use Rattle.cfb_entry_changes.proofs.laws.streams_stand_at_their_entries.Goals as goal
 
 pub returns-clause-kept : goal.returns-clause-kept
@@ -7,8 +7,8 @@ returns-clause-kept c = entries-keep-streams
 pub returns-clause-changeable : goal.returns-clause-changeable
 returns-clause-changeable c = standing-is-changeable
 
-pub returns-clause-all_used : goal.returns-clause-all_used
-returns-clause-all_used c = standing-is-all-used
+pub returns-clause-loses_none : goal.returns-clause-loses_none
+returns-clause-loses_none c = standing-loses-none
 
 pub returns-clause-snug : goal.returns-clause-snug
 returns-clause-snug c = standing-is-snug

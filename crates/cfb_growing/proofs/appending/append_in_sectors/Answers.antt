@@ -18,13 +18,14 @@ use Rattle.cfb_growing.proofs.cfb_content.Changed.{moves-same, spares-same}
 use Rattle.cfb_growing.proofs.cfb_content.FreedMinis.{frees-before}
 use Rattle.cfb_growing.proofs.cfb_content.SnugMini.{kept-is-snug-mini}
 use Rattle.cfb_resizing.proofs.SnugMinis.{puts-frees}
-use Rattle.cfb_growing.proofs.cfb_content.Sound.{all-used-kept, changed-is-changeable}
+use Rattle.cfb_growing.proofs.cfb_content.Sound.{changed-is-changeable, changed-loses-none}
 use Rattle.cfb_growing.proofs.cfb_content.StreamEntry.{stream-inside}
 use Rattle.cfb_resizing.proofs.LengthenedMinis.{not-both}
 use Rattle.cfb_resizing.proofs.Named.{WasNamed, around-moves, moves-then, named-changes, named-keeps-others, named-tidy, placed-stays}
 use Rattle.cfb_resizing.proofs.PutBehind.{fits-u64, tight-then}
+use Rattle.cfb_resizing.proofs.Tightness.{kept-minis-full}
 use Rattle.cfb_resizing.proofs.Turned.{all-changed, always-on-ok}
-use Rattle.cfb_growing.proofs.Appended.{WasAppended, appended-is, appended-stays-full}
+use Rattle.cfb_growing.proofs.Appended.{WasAppended, appended-is, appended-minis-full, appended-stays-full}
 use Rattle.cfb_growing.proofs.appending.append_in_sectors.Goals as goal
 use Rattle.cfb_growing.proofs.cfb_tables.Refusals.{refused-as}
 use Rattle.cfb_growing.proofs.cfb_mini_changes.MiniExtended.{invalid-refused, limits-then}
@@ -84,6 +85,7 @@ named g c told validation change = record {
   others = (c.put_at_end.ensures.spares told).others validation change;
   held = c.in_ok-start.ensures.holds told validation change;
   spares = c.name_content.ensures.spares told;
+  slots = c.name_content.ensures.others told;
   system = c.name_content.ensures.system;
   mini = c.name_content.ensures.mini;
   limits = c.name_content.ensures.limits;
@@ -144,8 +146,8 @@ returns-clause-changed g c told =
     (λ v change. on_ok_weaker c.name_content.result
     (λ t. changed-is-changeable v i s new (named-changes v s c.put_at_end.new.mini new i (named g c told v change) t.0) t.1.used t.1.chain t.1.whole)
     (appended-then g c told v change))
-    (λ v change all. on_ok_weaker c.name_content.result
-    (λ t. all-used-kept v i s new (named-changes v s c.put_at_end.new.mini new i (named g c told v change) t.0) t.1.used all) (appended-then g c told v change))
+    (λ v change. on_ok_weaker c.name_content.result
+    (λ t. changed-loses-none v i s new (named-changes v s c.put_at_end.new.mini new i (named g c told v change) t.0) t.1.used) (appended-then g c told v change))
     (λ v change. on_ok_weaker c.name_content.result (λ t. t.1.sized) (appended-then g c told v change))
     (λ v change snug. kept-is-snug-mini c.put_at_end.new.mini new c.name_content.ensures.limits.version c.name_content.ensures.mini
     (ap (λ (e : Entry). e.start_sector) c.name_content.ensures.root) (ap (λ (e : Entry). e.stream_len) c.name_content.ensures.root)
@@ -168,3 +170,9 @@ pub returns-clause-stays_full : goal.returns-clause-stays_full
 returns-clause-stays_full g c told validation change stays none =
     let full = appended-stays-full c.args.mini.now c.put_at_end.new.mini c.args.entry c.in_ok-start.start c.args.bytes.now stays (c.in_ok-start.ensures.put told validation change) none in
     always-on-ok c.name_content.result (subst (λ (t : TableState). NoneFree t.fat) (sym c.name_content.ensures.system.tables) full)
+
+pub returns-clause-minis_full : goal.returns-clause-minis_full
+returns-clause-minis_full g c told validation change stays none =
+    always-on-ok c.name_content.result
+    (kept-minis-full c.put_at_end.new.mini c.name_content.new.mini c.name_content.ensures.mini
+    (appended-minis-full c.args.mini.now c.put_at_end.new.mini c.args.entry c.in_ok-start.start c.args.bytes.now stays (c.in_ok-start.ensures.put told validation change) none))

@@ -51,6 +51,9 @@ returns-then-fits-clause-err g c =
 pub returns-then-fits-clause-stays_full : goal.returns-then-fits-clause-stays_full
 returns-then-fits-clause-stays_full g c told v change stays none = c.append_in_sectors.ensures.stays_full told v change stays none
 
+pub returns-then-fits-clause-minis_full : goal.returns-then-fits-clause-minis_full
+returns-then-fits-clause-minis_full g c told v change stays none = c.append_in_sectors.ensures.minis_full told v change stays none
+
 -- ---- one that can't
 
 pub take_the_rest-requires-clause-longer : goal.take_the_rest-requires-clause-longer

@@ -8,12 +8,13 @@ use Rattle.cfb_growing.specs.cfb_tables.Changes.{NoneFree}
 use Rattle.cfb_growing.specs.cfb_tables.Tables.{TableState}
 use Rattle.cfb_growing.specs.cfb_mini_sectors.State.{content_of, entries_of}
 use Rattle.cfb_growing.specs.cfb_content.Contents.{IsTooLongFor, len_of}
+use Rattle.cfb_growing.proofs.cfb_content.Lost.{none-lost-then}
 use Rattle.cfb_growing.proofs.cfb_content.Outlines.{stream-stays}
 use Rattle.cfb_growing.proofs.cfb_content.Readable.{whole-of}
 use Rattle.cfb_growing.proofs.cfb_content.Rewritten.{written-none}
 use Rattle.cfb_growing.proofs.cfb_content.StreamEntry.{stream-inside}
 use Rattle.cfb_growing.proofs.cfb_content.Changed.{moves-same, spares-same, changed-same, spares-behind}
-use Rattle.cfb_resizing.proofs.PutBehind.{appended, filed-entries, filed-sized, filed-tables, filed-tidy, filed-used, stops-behind, filed-alone, still-begun}
+use Rattle.cfb_resizing.proofs.PutBehind.{appended, filed-entries, filed-loses-none, filed-sized, filed-tables, filed-tidy, stops-behind, filed-alone, still-begun, filed-minis-full}
 use Rattle.cfb_resizing.proofs.Tightness.{leaves-less}
 use Rattle.cfb_resizing.proofs.SnugMinis.{filed-frees, filed-snug}
 use Rattle.cfb_growing.proofs.putting.append_all.Goals as goal
@@ -52,6 +53,9 @@ append_long_all-requires-clause-large g c = omega (arith, c.if-wanted.true, c.co
 
 pub returns-then-wanted-clause-stays_full : goal.returns-then-wanted-clause-stays_full
 returns-then-wanted-clause-stays_full g c told v change stays none = c.append_long_all.ensures.stays_full told v change stays none
+
+pub returns-then-wanted-clause-minis_full : goal.returns-then-wanted-clause-minis_full
+returns-then-wanted-clause-minis_full g c told v change stays none = c.append_long_all.ensures.minis_full told v change stays none
 
 -- ---- it cannot grow
 
@@ -122,7 +126,8 @@ returns-clause-changed g c told =
     let made = c.in_ok-grow_to.ensures.changed told in
     record {
       holds = λ v change. c.in_ok-write_listed.ensures.holds told v (made.holds v change);
-      owned = λ v change all. filed-used c.grow_to.new.mini c.write_listed.new.mini c.in_ok-write_listed.ensures.rest (made.owned v change all);
+      owned = λ v change. none-lost-then c.args.mini.now c.grow_to.new.mini c.write_listed.new.mini (made.owned v change)
+          (filed-loses-none c.grow_to.new.mini c.write_listed.new.mini c.in_ok-write_listed.ensures.rest);
       sized = λ v change. filed-sized c.grow_to.new.mini c.write_listed.new.mini c.in_ok-write_listed.ensures.rest c.args.mini.now c.args.entry (made.sized v change);
       snug_mini = λ v change snug. filed-snug c.grow_to.new.mini c.write_listed.new.mini c.in_ok-write_listed.ensures.rest (made.snug_mini v change snug);
       gives_back = λ v change frees. filed-snug c.grow_to.new.mini c.write_listed.new.mini c.in_ok-write_listed.ensures.rest
@@ -138,4 +143,12 @@ returns-clause-stays_full g c told v change stays none =
     let wanted = c.content_in-len.result.1 + length c.args.bytes.now in
     subst (λ (t : TableState). NoneFree t.fat) (sym (filed-tables c.grow_to.new.mini c.write_listed.new.mini c.in_ok-write_listed.ensures.rest))
     ((c.in_ok-grow_to.ensures.content told).stays_full v change (omega (arith, c.content_in-len.ensures.len))
+    (leaves-less s c.args.entry wanted (len_of s c.args.entry + length c.args.bytes.now) (omega (arith, c.content_in-len.ensures.len)) stays) none)
+
+pub returns-clause-minis_full : goal.returns-clause-minis_full
+returns-clause-minis_full g c told v change stays none =
+    let s = c.args.mini.now in
+    let wanted = c.content_in-len.result.1 + length c.args.bytes.now in
+    filed-minis-full c.grow_to.new.mini c.write_listed.new.mini c.in_ok-write_listed.ensures.rest
+    ((c.in_ok-grow_to.ensures.content told).minis_full v change (omega (arith, c.content_in-len.ensures.len))
     (leaves-less s c.args.entry wanted (len_of s c.args.entry + length c.args.bytes.now) (omega (arith, c.content_in-len.ensures.len)) stays) none)

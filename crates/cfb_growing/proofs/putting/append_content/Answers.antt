@@ -9,11 +9,12 @@ use Rattle.cfb_growing.specs.cfb_tables.Changes.{NoneFree}
 use Rattle.cfb_growing.specs.cfb_tables.Tables.{TableState}
 use Rattle.cfb_growing.specs.cfb_mini_sectors.State.{content_of, entries_of}
 use Rattle.cfb_growing.specs.cfb_content.Contents.{len_of}
+use Rattle.cfb_growing.proofs.cfb_content.Lost.{none-lost-then}
 use Rattle.cfb_growing.proofs.cfb_content.Outlines.{stream-stays}
 use Rattle.cfb_growing.proofs.cfb_content.Readable.{whole-of}
 use Rattle.cfb_growing.proofs.cfb_content.StreamEntry.{stream-inside}
 use Rattle.cfb_growing.proofs.cfb_content.Changed.{moves-same, spares-same, spares-behind}
-use Rattle.cfb_resizing.proofs.PutBehind.{appended, filed-entries, filed-sized, filed-tables, filed-tidy, filed-used, filed-alone, still-begun, stops-behind, tight-then}
+use Rattle.cfb_resizing.proofs.PutBehind.{appended, filed-entries, filed-loses-none, filed-sized, filed-tables, filed-tidy, filed-alone, still-begun, stops-behind, tight-then}
 use Rattle.cfb_resizing.proofs.Tightness.{leaves-less}
 use Rattle.cfb_resizing.proofs.SnugMinis.{filed-frees, filed-snug}
 use Rattle.cfb_growing.proofs.putting.append_content.Goals as goal
@@ -133,7 +134,8 @@ returns-clause-changed g c told =
     let made = c.in_ok-grown.ensures.changed told in
     record {
       holds = λ v change. c.in_ok-write_listed.ensures.holds told v (made.holds v change);
-      owned = λ v change all. filed-used c.grow_content.new.mini c.write_listed.new.mini c.in_ok-write_listed.ensures.rest (made.owned v change all);
+      owned = λ v change. none-lost-then c.args.mini.now c.grow_content.new.mini c.write_listed.new.mini (made.owned v change)
+          (filed-loses-none c.grow_content.new.mini c.write_listed.new.mini c.in_ok-write_listed.ensures.rest);
       sized = λ v change. filed-sized c.grow_content.new.mini c.write_listed.new.mini c.in_ok-write_listed.ensures.rest c.args.mini.now c.args.entry (made.sized v change);
       snug_mini = λ v change snug. filed-snug c.grow_content.new.mini c.write_listed.new.mini c.in_ok-write_listed.ensures.rest (made.snug_mini v change snug);
       gives_back = λ v change frees. filed-snug c.grow_content.new.mini c.write_listed.new.mini c.in_ok-write_listed.ensures.rest

@@ -16,7 +16,7 @@ use Rattle.cfb_growing.proofs.cfb_content.Rewritten.{written-none}
 use Rattle.cfb_growing.proofs.cfb_content.Snug.{same-is-sized}
 use Rattle.cfb_growing.proofs.cfb_content.StreamEntry.{stream-inside}
 use Rattle.cfb_growing.proofs.cfb_content.Changed.{moves-same, spares-same, changed-same, tidy-same}
-use Rattle.cfb_resizing.proofs.PutBehind.{filed-entries, filed-sized, filed-tables, filed-tidy, filed-used, filed-alone}
+use Rattle.cfb_resizing.proofs.PutBehind.{filed-entries, filed-loses-none, filed-sized, filed-tables, filed-tidy, filed-alone}
 use Rattle.cfb_resizing.proofs.Tightness.{leaves-less}
 use Rattle.cfb_resizing.proofs.SnugMinis.{filed-frees, filed-snug}
 use Rattle.cfb_growing.proofs.putting.put_content.Goals as goal
@@ -120,7 +120,7 @@ returns-clause-changed g c told =
     let s = c.args.mini.now in
     record {
       holds = λ v change. c.in_ok-write_content.ensures.holds told v change;
-      owned = λ v change all. filed-used c.args.mini.now c.write_content.new.mini c.in_ok-write_content.ensures.rest all;
+      owned = λ v change. filed-loses-none c.args.mini.now c.write_content.new.mini c.in_ok-write_content.ensures.rest;
       sized = λ v change. filed-sized c.args.mini.now c.write_content.new.mini c.in_ok-write_content.ensures.rest s c.args.entry (same-is-sized v s s c.args.entry change c.requires.stream refl refl refl refl);
       snug_mini = λ v change snug. filed-snug c.args.mini.now c.write_content.new.mini c.in_ok-write_content.ensures.rest snug;
       gives_back = λ v change frees. (let same = filed-frees s s c.write_content.new.mini c.in_ok-write_content.ensures.rest frees in absurd (same.was same.now));

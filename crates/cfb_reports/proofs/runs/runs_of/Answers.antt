@@ -1,4 +1,4 @@
-use Rattle.std.proofs.Common.{◌≡◌, ℕ, List, arith}
+use Rattle.std.proofs.Common.{arith}
 use Rattle.cfb_reports.proofs.Joining.{joined-all, joined-start}
 use Rattle.cfb_reports.proofs.runs.runs_of.Goals as goal
 

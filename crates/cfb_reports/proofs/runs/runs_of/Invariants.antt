@@ -1,4 +1,4 @@
-use Rattle.std.proofs.Common.{◌≤◌, ℕ, List}
+use Rattle.std.proofs.Common.{◌≤◌}
 use Rattle.cfb_reports.specs.Runs.{Joined}
 use Rattle.cfb_reports.proofs.runs.runs_of.Given as goal
 

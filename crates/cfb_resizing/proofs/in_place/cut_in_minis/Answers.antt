@@ -70,6 +70,7 @@ returns-clause-turned g c told = record {
       (omega (arith, c.div_ceil-wanted.ensures)) c.in_ok-cut_mini_listed.ensures.listed c.in_ok-cut_mini_listed.ensures.given_back
       (cut-settles v s new c.div_ceil-wanted.result list change.held c.in_ok-cut_mini_listed.ensures.room (λ all. (c.cut_mini_listed.ensures.none all).1))
       c.cut_mini_listed.ensures.limits.version c.cut_mini_listed.ensures.stays c.cut_mini_listed.ensures.chain (c.cut_mini_listed.ensures.bytes told v change.held) (c.in_ok-cut_mini_listed.ensures.wiped told v change.held)
+      (c.in_ok-cut_mini_listed.ensures.erased told v change.held)
       (λ fewer. c.in_ok-cut_mini_listed.ensures.snug fewer v change.held));
   holds = λ v change.
       let s = c.args.mini.now in

@@ -1,7 +1,8 @@
-use Rattle.std.proofs.Common.{List, ℕ, length, subst}
+use Rattle.std.proofs.Common.{List, ℕ, ◌++◌, length, subst}
 use Rattle.cfb_sectors.specs.declared.sector.SectorInit.TheVariants.{Zero}
 use Rattle.cfb_resizing.proofs.cfb_table_words.FilledSectors.{filled_whole_each}
 use Rattle.cfb_tables.specs.Listed.{ends_of, gained}
+use Rattle.cfb_resizing.specs.cfb_alloc.Alloc.{ChangesSectors}
 use Rattle.cfb_resizing.specs.cfb_alloc.Frame.{Spares}
 use Rattle.cfb_resizing.proofs.cfb_mini.WholeFiles.{taken-whole}
 use Rattle.cfb_resizing.proofs.BegunInSectors.{begun-fits, begun-padded}
@@ -29,6 +30,13 @@ returns-clause-whole g c told validation held was =
 pub returns-clause-spares : goal.returns-clause-spares
 returns-clause-spares g c told =
     subst (λ (l : List ℕ). Spares (ends_of l) c.args.allocator.now c.extend_listed_from.new.self) c.requires.fresh (c.extend_listed_from.ensures.spares told)
+
+pub returns-clause-changes : goal.returns-clause-changes
+returns-clause-changes g c told =
+    let new = c.extend_listed_from.new.self in
+    let ids' = c.extend_listed_from.new.ids.items in
+    subst (λ (l : List ℕ). ChangesSectors (new.tables.fat_sectors ++ new.tables.difat_sectors ++ gained l ids') new.tables.version c.args.allocator.now.file.bytes new.file.bytes) c.requires.fresh
+    (c.extend_listed_from.ensures.changes told)
 
 pub returns-clause-header : goal.returns-clause-header
 returns-clause-header g c told i lt is = let others = c.extend_listed_from.ensures.others told in others.header i lt is

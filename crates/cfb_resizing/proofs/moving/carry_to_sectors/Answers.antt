@@ -1,8 +1,9 @@
-use Rattle.std.proofs.Common.{◌≡◌, ◌∙◌, ℕ, ap, sym, subst, length}
+use Rattle.std.proofs.Common.{◌≡◌, ◌∙◌, ◌++◌, ℕ, [], ap, sym, subst, length}
 use Rattle.cfb_format.specs.Refused.{CountsFailure}
 use Rattle.cfb_tables.specs.Tables.{IsTooFew, TableState}
-use Rattle.cfb_resizing.specs.cfb_alloc.Alloc.{AllocatorState, IsUsable}
+use Rattle.cfb_resizing.specs.cfb_alloc.Alloc.{AllocatorState, ChangesSectors, IsUsable}
 use Rattle.cfb_resizing.proofs.cfb_alloc.Answering.{all_ok, on_both, on_ok}
+use Rattle.cfb_resizing.specs.cfb_alloc.ListedChain.{Lengthens}
 use Rattle.cfb_resizing.specs.cfb_mini_sectors.Growing.{KeepsOutsideMini}
 use Rattle.cfb_resizing.specs.cfb_mini_sectors.State.{bytes_of, table_of, tables_in}
 use Rattle.cfb_resizing.proofs.cfb_mini_sectors.HeldShortened.{usable-left}
@@ -11,6 +12,7 @@ use Rattle.cfb_resizing.proofs.cfb_mini.WholeFiles.{same-whole}
 use Rattle.cfb_content.proofs.DirCount.{outside-other}
 use Rattle.cfb_content.proofs.RoomGiven.{lacking-before}
 use Rattle.cfb_resizing.proofs.CarriedToSectors.{carried-apart, carried-around, carried-err, carried-held, carried-makes, carried-mini-spares, carried-padded, carried-refused, carried-spares, carried-tables, carried-tight, carried-unwritten, carried-zeros, freed-held}
+use Rattle.cfb_resizing.proofs.Erased.{begun-zeros}
 use Rattle.cfb_resizing.proofs.SnugMinis.{freed-snug, table-snug}
 use Rattle.cfb_resizing.proofs.moving.carry_to_sectors.Goals as goal
 use Rattle.cfb_resizing.proofs.cfb_mini_sectors.BothGrown.{both-outside}
@@ -66,6 +68,21 @@ returns-clause-wiped g c told v held unnamed =
     let held' = freed-held s mid list v held unnamed (c.in_ok-cut_mini_listed.ensures.holds told v held) (λ few. (c.cut_mini_listed.ensures.none few).1) in
     all_ok c.begin_in_sectors.result (carried-zeros s mid list c.allocator_mut.result.now c.begin_in_sectors.new.allocator c.allocator_mut.ensures.value c.cut_mini_listed.ensures.limits
     v held' (c.begin_in_sectors.ensures.spares told) c.begin_in_sectors.ensures.version (c.in_ok-cut_mini_listed.ensures.wiped told v held))
+
+pub returns-clause-erased : goal.returns-clause-erased
+returns-clause-erased g c told v held =
+    let s = c.args.mini.now in
+    let mid = c.cut_mini_listed.new.self in
+    let list = c.args.list.now.items in
+    let a = c.begin_in_sectors.new.allocator in
+    let lent-is = c.allocator_mut.ensures.value in
+    on_both _ _ _ c.begin_in_sectors.result
+    (λ made changes. begun-zeros v s mid list c.begin_in_sectors.new.ids.items a c.args.count held c.requires.chain c.cut_mini_listed.ensures.sizes
+    (subst (λ (b : AllocatorState). Lengthens c.args.count [] c.begin_in_sectors.new.ids.items b.tables a.tables) lent-is made)
+    (c.begin_in_sectors.ensures.version ∙ ap (λ (b : AllocatorState). b.tables.version) lent-is ∙ c.cut_mini_listed.ensures.limits.version)
+    (subst (λ (b : AllocatorState). ChangesSectors (a.tables.fat_sectors ++ a.tables.difat_sectors ++ c.begin_in_sectors.new.ids.items) a.tables.version b.file.bytes a.file.bytes) lent-is changes)
+    (c.in_ok-cut_mini_listed.ensures.erased told v held))
+    c.begin_in_sectors.ensures.lengthened (c.begin_in_sectors.ensures.changes told)
 
 pub returns-clause-spares : goal.returns-clause-spares
 returns-clause-spares g c told =

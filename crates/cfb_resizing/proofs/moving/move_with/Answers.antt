@@ -170,7 +170,7 @@ returns-clause-moved g c told = rw (c.end_chain.ensures, c.allocator_mut-2.ensur
       c.carry_to_sectors.new.ids.items content from c.deref.result.now (with_table c.args.mini.now c.reserve.new.self) c.requires.fits same first c.deref.ensures.value
       v change (c.in_ok-carry_to_sectors.ensures.carried v) (c.in_ok-carry_to_sectors.ensures.apart told v)
       c.carry_to_sectors.ensures.around c.in_ok-carry_to_sectors.ensures.chain long got put (c.in_ok-carry_to_sectors.ensures.padded told v)
-      (c.in_ok-carry_to_sectors.ensures.wiped told v));
+      (c.in_ok-carry_to_sectors.ensures.wiped told v) (c.in_ok-carry_to_sectors.ensures.erased told v));
   holds = λ v change.
       let first = ap (λ (b : AllocatorState). with_table c.args.mini.now b) (c.reserve.ensures.unchanged ∙ c.allocator_mut.ensures.value) in
       let same = c.in_ok-joined.ensures.same told ∙ first in

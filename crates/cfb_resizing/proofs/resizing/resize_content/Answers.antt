@@ -19,12 +19,12 @@ use Rattle.cfb_content.proofs.Fullness.{enough-is-not-too-long, lack-is-too-long
 use Rattle.cfb_content.proofs.Outlines.{moved-root-moved, stream-is-no-root, stream-stays}
 use Rattle.cfb_content.proofs.Readable.{whole-of}
 use Rattle.cfb_content.proofs.Rewritten.{resized-same}
-use Rattle.cfb_content.proofs.Sound.{all-used-kept, changed-is-changeable}
+use Rattle.cfb_content.proofs.Sound.{changed-is-changeable, changed-loses-none}
 use Rattle.cfb_content.proofs.StreamEntry.{stream-inside}
 use Rattle.cfb_content.proofs.FixedHeader.{header-then, spared-keeps-header}
 use Rattle.cfb_resizing.proofs.CarriedToMinis.{kept-after, medium-after}
 use Rattle.cfb_resizing.proofs.Named.{WasNamed, moves-then, named-changes, named-keeps-others, named-tidy, placed-stays, around-moves}
-use Rattle.cfb_resizing.proofs.Tightness.{turned-stays-full, same-tight}
+use Rattle.cfb_resizing.proofs.Tightness.{kept-minis-full, turned-minis-full, turned-stays-full, same-tight}
 use Rattle.cfb_resizing.proofs.Turned.{WasTurned, always-on-ok, turned, turned-whole, all-changed, all-resized}
 use Rattle.cfb_format.specs.DirectoryEntry.{Entry}
 use Rattle.cfb_content.proofs.FreedMinis.{frees-before}
@@ -49,7 +49,9 @@ returns-then-size-len-clause-content g c told = record {
       resized-same (content_of s (entry_at (entries_of s) c.args.entry)) c.args.size
       (whole-of v s c.args.entry change c.requires.stream ∙ sym c.content_in-len.ensures.len ∙ sym c.if-size-len.true);
   wiped = λ v change m mine out. absurd (out mine);
+  erased = λ v change m mine out other. absurd (out mine);
   stays_full = λ v change more leaves none. none;
+  minis_full = λ v change more leaves none. none;
 }
 
 pub returns-then-size-len-clause-trimmed : goal.returns-then-size-len-clause-trimmed
@@ -131,6 +133,7 @@ named g c told validation change = record {
   others = (c.turn.ensures.spares told).others validation change;
   held = (c.in_ok-start.ensures.turned told).holds validation change;
   spares = c.name_content.ensures.spares told;
+  slots = c.name_content.ensures.others told;
   system = c.name_content.ensures.system;
   mini = c.name_content.ensures.mini;
   limits = c.name_content.ensures.limits;
@@ -189,9 +192,12 @@ returns-clause-content g c told =
     all-resized c.name_content.result s new c.args.entry c.args.size
     (λ v change. on_ok_weaker c.name_content.result (λ t. t.1.content) (turned-then g c told v change))
     (λ v change. on_ok_weaker c.name_content.result (λ t. t.1.wiped) (turned-then g c told v change))
+    (λ v change. on_ok_weaker c.name_content.result (λ t. t.1.erased) (turned-then g c told v change))
     (λ v change longer stays none.
     let full = turned-stays-full s c.turn.new.mini c.args.entry c.args.size c.in_ok-start.start longer stays ((c.in_ok-start.ensures.turned told).turned v change) none in
     subst (λ (t : TableState). NoneFree t.fat) (sym c.name_content.ensures.system.tables) full)
+    (λ v change longer stays none. kept-minis-full c.turn.new.mini new c.name_content.ensures.mini
+    (turned-minis-full s c.turn.new.mini c.args.entry c.args.size c.in_ok-start.start longer stays ((c.in_ok-start.ensures.turned told).turned v change) none))
 
 pub returns-clause-spares : goal.returns-clause-spares
 returns-clause-spares g c told = record {
@@ -213,8 +219,8 @@ returns-clause-changed g c told =
     (λ t at. changed-is-changeable v i s new (named-changes v s c.turn.new.mini new i (named g c told v change) t.0) t.1.used t.1.chain
     (turned-whole s new i c.args.size t.1 (ap (λ e. e.stream_len) at)))
     (turned-then g c told v change) c.name_content.ensures.named)
-    (λ v change all. on_ok_weaker c.name_content.result
-    (λ t. all-used-kept v i s new (named-changes v s c.turn.new.mini new i (named g c told v change) t.0) t.1.used all) (turned-then g c told v change))
+    (λ v change. on_ok_weaker c.name_content.result
+    (λ t. changed-loses-none v i s new (named-changes v s c.turn.new.mini new i (named g c told v change) t.0) t.1.used) (turned-then g c told v change))
     (λ v change. on_ok_weaker c.name_content.result (λ t. t.1.sized) (turned-then g c told v change))
     (λ v change snug. kept-is-snug-mini c.turn.new.mini new c.name_content.ensures.limits.version c.name_content.ensures.mini
     (ap (λ (e : Entry). e.start_sector) c.name_content.ensures.root) (ap (λ (e : Entry). e.stream_len) c.name_content.ensures.root)

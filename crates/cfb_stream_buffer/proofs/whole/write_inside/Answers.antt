@@ -8,7 +8,8 @@ pub loop-done-init : goal.loop-done-init
 loop-done-init g c = record {
   within = omega arith;
   there = c.requires.there;
-  any = record { setting = refl; failed = refl };
+  setting = refl;
+  failed = refl;
   told = λ h. h;
   others = λ h first k. k;
   tight = λ h first k. k;
@@ -32,7 +33,8 @@ loop-done-preserved g c =
     record {
       within = omega (arith, e.bound, len);
       there = e.there;
-      any = record { setting = e.any.setting ∙ i.any.setting; failed = e.any.done ∙ i.any.failed };
+      setting = e.any.setting ∙ i.setting;
+      failed = e.any.done ∙ i.failed;
       told = λ h. e.told (i.told h);
       others = λ h first k. e.others (i.told h) first (i.others h first k);
       tight = λ h first k. e.inside (i.told h) (omega (arith, within, i.same_len, len)) first (i.tight h first k);

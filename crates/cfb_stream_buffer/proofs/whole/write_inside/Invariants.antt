@@ -1,13 +1,13 @@
 use Rattle.std.proofs.Common.{◌≡◌, ◌≤◌, ◌-◌, length, take}
 use Rattle.cfb_stream_buffer.specs.Contents.{TakesBytes, stored_after_write}
-use Rattle.cfb_stream_buffer.specs.Touched.{HasSameFlags}
 use Rattle.cfb_stream_buffer.proofs.whole.write_inside.Given as goal
 
 abbrev pub invariant-loop-done : goal.invariant-loop-done
 invariant-loop-done g l = record {
   within : l.done ≤ length l.bytes;
   there : g.C.ReadContents.has l.content l.id;
-  any : HasSameFlags g.C.ReadContents l.initial.content l.content l.id;
+  setting : g.C.ReadContents.setting l.content ≡ g.C.ReadContents.setting l.initial.content;
+  failed : (g.C.ReadContents.stored l.content l.id).failed ≡ (g.C.ReadContents.stored l.initial.content l.id).failed;
   told : g.C.ReadContents.tells l.initial.content → g.C.ReadContents.tells l.content;
   others : g.C.ReadContents.tells l.initial.content → (first : _) → g.C.Contents.keeps l.id first l.initial.content → g.C.Contents.keeps l.id first l.content;
   tight : g.C.ReadContents.tells l.initial.content → (first : _) → g.C.Contents.tight first l.initial.content → g.C.Contents.tight first l.content;

@@ -3,6 +3,7 @@ use Rattle.std.specs.Prelude.{IsTrue}
 use Rattle.std.proofs.lemmas.Bool.{cases_lt}
 use Rattle.std.proofs.lemmas.Result.{err_from_is_err_and}
 use Rattle.cfb_format.specs.declared.validate.Validation.{Validation}
+use Rattle.cfb_format.specs.declared.validate.Validation.TheVariants.{Strict}
 use Rattle.cfb_format.specs.DirectoryEntry.{Entry}
 use Rattle.cfb_volume.specs.cfb_entries.EntryList.{AreInOrder}
 use Rattle.cfb_volume.proofs.cfb_trees.Members.{reached-is-within}
@@ -10,8 +11,9 @@ use Rattle.cfb_volume.proofs.cfb_trees.Reached.{below-reached}
 use Rattle.cfb_volume.specs.cfb_mini_sectors.State.{HoldsMini, cases_of, entries_of}
 use Rattle.cfb_volume.specs.cfb_content.Contents.{IsNotChangeable, IsStreamOf, IsTooLongFor, len_of}
 use Rattle.cfb_volume.proofs.cfb_content.Changed.{moves-same, spares-same}
+use Rattle.cfb_volume.proofs.cfb_content.Erased.{emptied-zeros}
 use Rattle.cfb_volume.proofs.cfb_content.Snug.{sized-is-snug}
-use Rattle.cfb_agreement.proofs.ContentChanges.{moved-starts-at-end, stays-tidy}
+use Rattle.cfb_agreement.proofs.ContentChanges.{content-keeps-parts}
 use Rattle.cfb_volume.proofs.Emptying.{emptying-fits}
 use Rattle.cfb_volume.proofs.EmptyStreams.{sized-at-end}
 use Rattle.cfb_volume.proofs.RemovedObjects.{below-stream, empty-break, none-emptied}
@@ -65,20 +67,17 @@ returns-in_ok-resize_content-in-Stream-clause-emptied g c told =
       entries = e.moves.entries;
       others = (e.spares told).others;
       holds = (ok.changed told).holds;
-      owned = (ok.changed told).owned;
-      exact = ok.tight.exact;
-      tidy = λ v change was.
+      parts = λ v change.
           let s = c.args.mini.now in
           let new = c.resize_content.new.mini in
           let i = c.args.entry in
           let at = stream g (goal.at.returns-in_ok-resize_content-in-Stream-clause-emptied g c).In-Stream in
-          stays-tidy s new e.moves.limits e.moves.directory ((ok.changed told).tidy v change)
-          (moved-starts-at-end s new i e.moves.limits e.moves.entries at
-          (sized-at-end s new i 0 ok.len (λ same. ap entries_of (ok.none same).1) ok.trimmed (was.ended i at)) was.ended) was;
-      snug = λ v change snug. sized-is-snug c.args.mini.now c.resize_content.new.mini c.args.entry e.moves.limits e.moves.entries ((e.spares told).others v change)
-          (stream g (goal.at.returns-in_ok-resize_content-in-Stream-clause-emptied g c).In-Stream) ((ok.changed told).sized v change) snug;
-      snug_mini = (ok.changed told).snug_mini;
+          let made = ok.changed told in
+          content-keeps-parts i s new e.moves at (made.holds Strict) (made.tidy v change) (made.owned v change) ok.tight.exact
+          (sized-is-snug s new i e.moves.limits e.moves.entries ((e.spares told).others v change) at (made.sized v change)) (made.snug_mini v change) (made.gives_back v change)
+          (sized-at-end s new i 0 ok.len (λ same. ap entries_of (ok.none same).1) ok.trimmed);
       empty = λ stream. ok.len;
+      erased = λ v change stream. emptied-zeros c.args.mini.now c.resize_content.new.mini c.args.entry ok.len ((ok.content told).erased v change);
     }
 
 pub returns-in_default : goal.returns-in_default

@@ -12,7 +12,8 @@ use Rattle.cfb_tables.specs.Tables.{HasTaken, first_or_end}
 use Rattle.cfb_table_words.proofs.Answering.{all_err, if_err, on_ok}
 use Rattle.cfb_tables.specs.Listed.{EndsChain, ends_of, gained}
 use Rattle.cfb_alloc.specs.ListedChain.{Lengthens}
-use Rattle.cfb_alloc.proofs.AllocLemmas.{clean_taken, difats_known, fats_apart_shown, fats_kept_shown, fats_known, fats_unchanged, held_counted, others_refl, others_unchanged, others_written, placed_reserved, placed_written, shown_below, shown_taken, touched_below}
+use Rattle.cfb_table_words.proofs.FrameLemmas.{changes_refl}
+use Rattle.cfb_alloc.proofs.AllocLemmas.{changes_unchanged, changes_written, clean_taken, difats_known, fats_apart_shown, fats_kept_shown, fats_known, fats_unchanged, held_counted, others_refl, others_unchanged, others_written, placed_reserved, placed_written, shown_below, shown_taken, touched_below}
 use Rattle.cfb_alloc.proofs.ListedLemmas.{behind_none, lengthened_none, shown_ends, shown_gained, ends_few}
 use Rattle.cfb_alloc.proofs.Spared.{spares_refl, spares_unchanged, taken_written}
 use Rattle.cfb_alloc.proofs.alloc.Allocator.extend_listed_from.Goals as goal
@@ -35,6 +36,18 @@ returns-then-count-eq0-clause-behind g c =
     let t = c.args.self.now.tables in
     let ids = c.args.ids.now.items in
     behind_none t.fat ids c.in_ok-before.ensures.sizes.short (subst (EndsChain t.fat) c.deref.ensures.value c.in_ok-check_end.ensures.ends)
+
+pub returns-in_err-before-clause-changes : goal.returns-in_err-before-clause-changes
+returns-in_err-before-clause-changes g c told = let a = c.args.self.now in changes_refl _ a.tables.version a.file.bytes
+
+pub returns-in_err-check_end-clause-changes : goal.returns-in_err-check_end-clause-changes
+returns-in_err-check_end-clause-changes g c told = let a = c.args.self.now in changes_refl _ a.tables.version a.file.bytes
+
+pub returns-then-count-eq0-clause-changes : goal.returns-then-count-eq0-clause-changes
+returns-then-count-eq0-clause-changes g c told = let a = c.args.self.now in changes_refl _ a.tables.version a.file.bytes
+
+pub returns-in_err-extend_listed-clause-changes : goal.returns-in_err-extend_listed-clause-changes
+returns-in_err-extend_listed-clause-changes g c told = changes_unchanged c.self.view_is _ _
 
 pub returns-in_err-check_end-clause-others : goal.returns-in_err-check_end-clause-others
 returns-in_err-check_end-clause-others g c told = others_refl c.args.self.now
@@ -210,6 +223,26 @@ returns-clause-others g c told =
     shown_gained ids c.deref-3.result.now c.len-len.result n ∙ ap (gained ids) c.deref-3.ensures.value in
     let taken = subst (λ (z : List ℕ). HasTaken t0 t z (gained ids ids')) (sym ends) e.taken in
     others_written _ more c.self.view_is taken
+    c.reserve_sectors.new.self c.write_taken.new.sectors c.len.result c.reserve_sectors.ensures (c.write_taken.ensures.changes told)
+
+pub returns-clause-changes : goal.returns-clause-changes
+returns-clause-changes g c told =
+    let ids = c.args.ids.now.items in
+    let ids' = c.extend_listed.new.list.items in
+    let e = c.in_ok-extend_listed.ensures in
+    let t0 = c.self.inside.tables in
+    let t = c.extend_listed.new.self in
+    let short = subst (λ (a : AllocatorState). length a.tables.fat ≤ max_regular_sector) (sym c.self.view_is) c.in_ok-before.ensures.sizes.short in
+    let ended = subst (EndsChain c.args.self.now.tables.fat) c.deref.ensures.value c.in_ok-check_end.ensures.ends in
+    let ends0 = subst (λ (a : AllocatorState). EndsChain a.tables.fat ids) (sym c.self.view_is) ended in
+    let n : c.len-len.result ≡ length ids = omega (arith, c.len-len.ensures, c.args.ids.now.ok.0) in
+    let m : c.saturating_sub.result ≡ length ids - 1 = omega (arith, c.saturating_sub.ensures, n) in
+    let ends : take (c.len-len.result - c.saturating_sub.result) (drop c.saturating_sub.result c.deref-2.result.now) ≡ ends_of ids =
+    shown_ends t0.fat ids c.deref-2.result.now (gained ids ids') c.len-len.result c.saturating_sub.result short ends0 (c.deref-2.ensures.value ∙ e.listed) n m in
+    let more : take (length c.deref-3.result.now - c.len-len.result) (drop c.len-len.result c.deref-3.result.now) ≡ gained ids ids' =
+    shown_gained ids c.deref-3.result.now c.len-len.result n ∙ ap (gained ids) c.deref-3.ensures.value in
+    let taken = subst (λ (z : List ℕ). HasTaken t0 t z (gained ids ids')) (sym ends) e.taken in
+    changes_written _ more c.self.view_is taken
     c.reserve_sectors.new.self c.write_taken.new.sectors c.len.result c.reserve_sectors.ensures (c.write_taken.ensures.changes told)
 
 pub returns-clause-counts : goal.returns-clause-counts

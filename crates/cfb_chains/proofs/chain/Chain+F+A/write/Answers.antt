@@ -7,12 +7,13 @@ use Rattle.cfb_format.specs.Bytes.{sector_len, sector_start}
 use Rattle.cfb_runs.specs.cfb_table_words.Along.{AreFilledFrom}
 use Rattle.cfb_chains.specs.cfb_tables.Listed.{gained, last_or_end}
 use Rattle.cfb_chains.specs.cfb_tables.Tables.{TableState, ending}
+use Rattle.cfb_chains.specs.ChainPlaces.{place_along}
 use Rattle.cfb_chains.specs.LentChain.{allocator_of, start_sector_of, ids_of, init_of, left_of, len_of, missing_of, place_of, position_of, version_of, content_of, HasBytes}
-use Rattle.cfb_chains.proofs.ChainWrites.{goes_nowhere, if_ok, left_after, none_missing, none_needed, there_of}
+use Rattle.cfb_chains.proofs.ChainWrites.{goes_nowhere, if_both, if_ok, left_after, none_missing, none_needed, there_of}
 use Rattle.cfb_chains.proofs.LentContent.{keeps_own}
 use Rattle.cfb_chains.proofs.OwnWrites.{own_gained, own_none, own_taken, own_wanted}
 use Rattle.cfb_chains.proofs.PlacedChains.{was_wanted}
-use Rattle.cfb_chains.proofs.PutBehind.{each_error, filled_as, gained_has, left_few, more_wanted, nothing_gained, put_behind, put_content, put_stays}
+use Rattle.cfb_chains.proofs.PutBehind.{each_error, filled_as, gained_has, left_few, more_wanted, nothing_gained, put_behind, put_content, put_in_run, put_stays}
 use Rattle.cfb_chains.proofs.cfb_alloc.ChainView.{found_chain}
 use Rattle.cfb_format.proofs.ByteLemmas.{part_written}
 use Rattle.std.proofs.lemmas.Bool.{cases_lt}
@@ -36,11 +37,26 @@ returns-then-missing-eq0-clause-some g c =
 pub returns-then-missing-eq0-clause-there : goal.returns-then-missing-eq0-clause-there
 returns-then-missing-eq0-clause-there g c told =
     let now = c.args.self.now in
+    let from = c.args.from.now in
+    let new = c.write_within.new.self in
     let e = c.write_within.ensures in
     let l = sector_len (version_of now) in
-    if_ok _ _ c.write_within.result (λ n there some few. there some)
-    (there_of c.write_within.result (allocator_of now).now.file (allocator_of c.write_within.new.self).now.file (place_of now) _ (left_of now) c.args.from.now
+    let at = place_along (version_of now) (ids_of new) (position_of now) in
+    if_both _ _ _ c.write_within.result (λ n count there some.
+    let all : min n (left_of now) ≡ n = omega (arith, count) in
+    subst (λ (k : ℕ). part (allocator_of new).now.file.bytes at k ≡ take k from) (sym all) (there some))
+    e.count
+    (there_of c.write_within.result (allocator_of now).now.file (allocator_of new).now.file (place_of now) _ (left_of now) from
     (λ j. sector_start (version_of now) (slice_index (sym e.chain.0 j) (position_of now / l)) + position_of now % l) e.count (e.ok told))
+
+pub returns-then-missing-eq0-clause-run : goal.returns-then-missing-eq0-clause-run
+returns-then-missing-eq0-clause-run g c told validation h =
+    let now = c.args.self.now in
+    let from = c.args.from.now in
+    let new = c.write_within.new.self in
+    let e = c.write_within.ensures in
+    if_both _ _ _ c.write_within.result
+    (λ n count wrote run. put_in_run now new n from (ap (λ (t : TableState). t.version) e.tables) (omega (arith, count)) wrote run) e.count (e.places told)
 
 pub returns-then-missing-eq0-clause-places : goal.returns-then-missing-eq0-clause-places
 returns-then-missing-eq0-clause-places g c told validation h = c.write_within.ensures.places told
@@ -321,7 +337,7 @@ returns-clause-content g c told validation h whole some all =
     )
 
 pub returns-clause-there : goal.returns-clause-there
-returns-clause-there g c told some inside =
+returns-clause-there g c told some =
     let now = c.args.self.now in
     let from = c.args.from.now in
     let left = c.left-left.result in
@@ -337,15 +353,31 @@ returns-clause-there g c told some inside =
     let m = c.reached-count.result in
     let first = take left from in
     let low : n ≤ left = (let by = o.count in omega (arith, by, size)) in
-    let same : m ≡ n = elim c.reached-count.ensures.reached [ inl part ↦ part.1 | inr all ↦ omega (arith, all.0, all.1, inside, left-is, few) ] in
-    let put = o.ok told (omega (arith, some, same)) in
-    let at : place_of grown ≡ sector_start (version_of now) (slice_index (ids_of mid) (position_of now / sector_len (version_of now))) + position_of now % sector_len (version_of now) =
+    let same : min m (left_of now) ≡ n = elim c.reached-count.ensures.reached [
+      | inl part ↦ (let less = part.0 in omega (arith, less, part.1, left-is))
+      | inr all ↦ omega (arith, all.0, all.1, left-is, few)
+    ] in
+    let at : place_of grown ≡ place_along (version_of now) (ids_of mid) (position_of now) =
     λ j. sector_start (e.version j) (slice_index (sym w.chain.0 j) (e.position j / sector_len (e.version j))) + e.position j % sector_len (e.version j) in
     let long = length-take n first in
-    subst (λ (p : ℕ). part (allocator_of mid).now.file.bytes p m ≡ take m from) at
-    (subst (λ (k : ℕ). part (allocator_of mid).now.file.bytes (place_of grown) k ≡ take k from) (sym same)
-    (ap (λ (f : SectorFile). part f.bytes (place_of grown) n) put ∙ part_written (allocator_of grown).now.file.bytes (place_of grown) n (take n first) (omega (arith, long, low, size, few))
-    ∙ take-take n left from low))
+    let stands : part (allocator_of mid).now.file.bytes (place_of grown) n ≡ take n from = elim (cases_lt 0 n) [
+      | inl wrote ↦
+          ap (λ (f : SectorFile). part f.bytes (place_of grown) n) (o.ok told wrote)
+          ∙ part_written (allocator_of grown).now.file.bytes (place_of grown) n (take n first) (omega (arith, long, low, size, few))
+          ∙ take-take n left from low
+      | inr none ↦ (let zero : n ≡ 0 = omega (arith, none) in subst (λ (k : ℕ). part (allocator_of mid).now.file.bytes (place_of grown) k ≡ take k from) (sym zero) refl)
+    ] in
+    subst (λ (p : ℕ). part (allocator_of mid).now.file.bytes p (min m (left_of now)) ≡ take (min m (left_of now)) from) at
+    (subst (λ (k : ℕ). part (allocator_of mid).now.file.bytes (place_of grown) k ≡ take k from) (sym same) stands)
+
+pub returns-clause-run : goal.returns-clause-run
+returns-clause-run g c told validation h run =
+    let now = c.args.self.now in
+    let mid = c.write_within-2.new.self in
+    let put = returns-clause-places g c told validation h in
+    let wrote : HasWritten c.reached-count.result c.args.from.now now mid = record { places = put.places; written = put.written; stays = put.stays; gap = put.gap; fresh = put.fresh } in
+    put_in_run now mid c.reached-count.result c.args.from.now (ap (λ (t : TableState). t.version) c.write_within-2.ensures.tables ∙ c.in_ok-grow_from.ensures.version)
+    c.reached-count.ensures.few wrote run
 
 pub returns-clause-begun : goal.returns-clause-begun
 returns-clause-begun g c some =

@@ -74,9 +74,9 @@ pub returns-in_err-entry-clause-any : goal.returns-in_err-entry-clause-any
 returns-in_err-entry-clause-any g c =
     let p = err_from_is_err_and c.from_residual-in_err-entry.result c.from_residual-in_err-entry.ensures.1 in
     let at = c.in_ok-place.ensures.ok in
-    rw (← c.self.view_is, p.1, p.2) (heeds_change c.self.inside.volume _ c.fill_place.new.volume at.unfailed at.sound c.fill_place.ensures.setting tt)
+    rw (← c.self.view_is, p.1, p.2) (heeds_change c.self.inside.volume _ c.fill_place.new.volume at.unfailed at.sound c.fill_place.ensures.setting tt c.in_err-entry.ensures.in_memory)
 
 pub returns-clause-any : goal.returns-clause-any
 returns-clause-any g c =
     let at = c.in_ok-place.ensures.ok in
-    rw (← c.self.view_is) (heeds_change c.self.inside.volume _ c.fill_place.new.volume at.unfailed at.sound c.fill_place.ensures.setting c.in_ok-entry.ensures.ended)
+    rw (← c.self.view_is) (heeds_change c.self.inside.volume _ c.fill_place.new.volume at.unfailed at.sound c.fill_place.ensures.setting c.in_ok-entry.ensures.ended tt)

@@ -8,7 +8,7 @@ returns-in_err-entry g c = let p = err_from_is_err_and c.from_residual.result c.
     refl,
     (λ w. tt),
     (
-      (let k = c.in_err-entry.ensures.any in record { setting = k.setting; failed = k.failed; unsound = k.unsound; unfailed = tt }),
+      (let k = c.in_err-entry.ensures.any in record { setting = k.setting; failed = k.failed; unsound = k.unsound; unfailed = tt; stays = k.stays }),
       λ told. c.in_err-entry.ensures.refused told,
     ),
   ),

@@ -97,4 +97,4 @@ returns-then-not-is_inside-clause-sure g c =
 pub returns-clause-any : goal.returns-clause-any
 returns-clause-any g c =
     let unfailed = sym c.is_failed.ensures ∙ c.if-is_failed.false in
-    rw (← c.self.view_is) (change_keeps_flags _ _ _ c.append.result c.append.ensures.setting unfailed c.append.ensures.ended)
+    rw (← c.self.view_is) (change_keeps_flags _ _ _ c.append.result c.append.ensures.setting unfailed c.append.ensures.ended c.append.ensures.in_memory)

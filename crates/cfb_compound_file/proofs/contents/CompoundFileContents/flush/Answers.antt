@@ -1,6 +1,6 @@
 use Rattle.std.proofs.Common.{◌∙◌, sym}
 use Rattle.cfb_compound_file.proofs.StoredStreams.{agrees_with_flags, flushed_kept, flushes_then, flushes_tight, stream_stays}
-use Rattle.cfb_compound_file.proofs.Heeding.{change_keeps_flags}
+use Rattle.cfb_compound_file.proofs.Heeding.{change_keeps_flags, failed_in_memory}
 use Rattle.cfb_compound_file.proofs.contents.CompoundFileContents.flush.Goals as goal
 
 pub invariant_of-self : goal.invariant_of-self
@@ -21,4 +21,4 @@ returns-clause-kept g c = rw (← c.self.view_is) (λ told. flushed_kept _ _ c.f
 pub returns-clause-any : goal.returns-clause-any
 returns-clause-any g c =
     let unfailed = sym c.is_failed.ensures ∙ c.if-is_failed.false in
-    rw (← c.self.view_is) (change_keeps_flags _ _ _ c.flush.result c.flush.ensures.setting unfailed c.flush.ensures.ended)
+    rw (← c.self.view_is) (change_keeps_flags _ _ _ c.flush.result c.flush.ensures.setting unfailed c.flush.ensures.ended (failed_in_memory _ _ c.flush.result c.flush.ensures.failed))

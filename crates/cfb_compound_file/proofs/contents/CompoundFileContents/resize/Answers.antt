@@ -67,4 +67,4 @@ returns-clause-foreseen g c =
 pub returns-clause-any : goal.returns-clause-any
 returns-clause-any g c =
     let unfailed = sym c.is_failed.ensures ∙ c.if-is_failed.false in
-    rw (← c.self.view_is) (change_keeps_flags _ _ _ c.resize.result c.resize.ensures.setting unfailed c.resize.ensures.ended)
+    rw (← c.self.view_is) (change_keeps_flags _ _ _ c.resize.result c.resize.ensures.setting unfailed c.resize.ensures.ended c.resize.ensures.in_memory)

@@ -1,5 +1,5 @@
 use Rattle.cfb_compound_file.proofs.StoredStreams.{agrees_as_before, stream_inside, stream_stays}
-use Rattle.cfb_compound_file.proofs.Heeding.{setting_is}
+use Rattle.cfb_compound_file.proofs.Heeding.{remembered_is, setting_is}
 use Rattle.cfb_compound_file.proofs.contents.CompoundFileReadContents.read_at.Goals as goal
 
 pub read-requires : goal.read-requires
@@ -12,4 +12,4 @@ pub returns-clause-there : goal.returns-clause-there
 returns-clause-there g c = stream_stays _ _ _ c.read.ensures.entries c.read.ensures.setting.limits.cases (rw (← c.self.view_is) at c.requires.there)
 
 pub returns-clause-any : goal.returns-clause-any
-returns-clause-any g c = rw (← c.self.view_is) (record { setting = setting_is _ _ c.read.ensures.setting; failed = c.read.ensures.flag })
+returns-clause-any g c = rw (← c.self.view_is) (record { setting = setting_is _ _ c.read.ensures.setting; remembered = remembered_is _ _ c.read.ensures.in_memory; failed = c.read.ensures.flag })

@@ -5,6 +5,7 @@ use Rattle.cfb_directory.specs.cfb_outline.Outlines.{HasInside}
 use Rattle.cfb_entries.specs.Clearing.{HasCleared}
 use Rattle.cfb_directory.specs.Clearing.{KeepsSlotsOutside}
 use Rattle.cfb_directory.specs.State.{DirectoryState, HoldsDirectory, directory_of}
+use Rattle.cfb_directory.specs.Steps.{KeepsOtherSectors}
 use Rattle.cfb_directory.proofs.LeastAbove.{least-kept}
 use Rattle.cfb_directory.proofs.directory.Directory.clear.Goals as goal
 
@@ -21,6 +22,14 @@ returns-clause-holds g c told validation h =
     let here = subst (λ (s : List ℕ). HoldsDirectory validation (directory_of table s list)) (sym c.deref.ensures.value) (subst (HoldsDirectory validation) (sym c.self.view_is) h) in
     subst (λ (s : List ℕ). OnOk c.clear_storage.result (HoldsDirectory validation (directory_of c.clear_storage.new.allocator s c.clear_storage.new.entries))) c.deref.ensures.value
     (c.clear_storage.ensures.holds told validation here)
+
+pub returns-clause-others : goal.returns-clause-others
+returns-clause-others g c told =
+    let table = c.self.inside.allocator in
+    let list = c.self.inside.entries in
+    subst (λ (d : DirectoryState). KeepsOtherSectors d (directory_of c.clear_storage.new.allocator c.self.inside.sectors.items c.clear_storage.new.entries)) c.self.view_is
+    (subst (λ (s : List ℕ). KeepsOtherSectors (directory_of table s list) (directory_of c.clear_storage.new.allocator s c.clear_storage.new.entries)) c.deref.ensures.value
+    (c.clear_storage.ensures.others told))
 
 pub returns-clause-slots : goal.returns-clause-slots
 returns-clause-slots g c told validation h =

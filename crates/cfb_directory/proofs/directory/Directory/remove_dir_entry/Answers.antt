@@ -5,7 +5,7 @@ use Rattle.cfb_format.specs.Siblings.{entry_at}
 use Rattle.cfb_directory.specs.cfb_siblings.Children.{HasChildren, IsChildNamed, KeepsBalance}
 use Rattle.cfb_entries.specs.EntryList.{RemovesEntry}
 use Rattle.cfb_directory.specs.State.{DirectoryState, HoldsDirectory, directory_of}
-use Rattle.cfb_directory.specs.Steps.{KeepsOtherSlots}
+use Rattle.cfb_directory.specs.Steps.{KeepsOtherSectors, KeepsOtherSlots}
 use Rattle.cfb_directory.proofs.LeastAbove.{least-kept}
 use Rattle.cfb_directory.proofs.directory.Directory.remove_dir_entry.Goals as goal
 
@@ -20,6 +20,14 @@ returns-clause-holds g c told validation h =
     let here = subst (λ (s : List ℕ). HoldsDirectory validation (directory_of table s list)) (sym c.deref.ensures.value) (subst (HoldsDirectory validation) (sym c.self.view_is) h) in
     subst (λ (s : List ℕ). OnOk c.remove_entry.result (HoldsDirectory validation (directory_of c.remove_entry.new.allocator s c.remove_entry.new.entries))) c.deref.ensures.value
     (c.remove_entry.ensures.holds told validation here)
+
+pub returns-clause-others : goal.returns-clause-others
+returns-clause-others g c told =
+    let table = c.self.inside.allocator in
+    let list = c.self.inside.entries in
+    subst (λ (d : DirectoryState). KeepsOtherSectors d (directory_of c.remove_entry.new.allocator c.self.inside.sectors.items c.remove_entry.new.entries)) c.self.view_is
+    (subst (λ (s : List ℕ). KeepsOtherSectors (directory_of table s list) (directory_of c.remove_entry.new.allocator s c.remove_entry.new.entries)) c.deref.ensures.value
+    (c.remove_entry.ensures.others told))
 
 pub returns-clause-slots : goal.returns-clause-slots
 returns-clause-slots g c told validation h =

@@ -5,7 +5,7 @@ use Rattle.cfb_format.specs.Siblings.{entry_at}
 use Rattle.cfb_entries.specs.declared.fields.Fields.{Fields}
 use Rattle.cfb_entries.specs.Fields.{fields_in, entry_with_fields}
 use Rattle.cfb_directory.specs.State.{DirectoryState, HoldsDirectory, directory_of, directory_version}
-use Rattle.cfb_directory.specs.Steps.{KeepsSlotsBut}
+use Rattle.cfb_directory.specs.Steps.{KeepsOtherSectors, KeepsSlotsBut}
 use Rattle.cfb_directory.proofs.LeastAbove.{least-kept}
 use Rattle.cfb_directory.proofs.directory.Directory.with_dir_entry_mut.Goals as goal
 
@@ -19,6 +19,14 @@ returns-clause-holds g c told validation h valid =
     (c.change_fields.ensures.holds told validation h'
     (subst (λ (d : DirectoryState). (f : Fields) → g.W.FnOnce.post c.args.change (fields_in (entry_at d.entries c.args.number), tt) f
     → IsValidEntry (directory_version d) (entry_with_fields (entry_at d.entries c.args.number) f)) same valid))
+
+pub returns-clause-others : goal.returns-clause-others
+returns-clause-others g c told =
+    let table = c.self.inside.allocator in
+    let list = c.self.inside.entries in
+    subst (λ (d : DirectoryState). KeepsOtherSectors d (directory_of c.change_fields.new.allocator c.self.inside.sectors.items c.change_fields.new.entries)) c.self.view_is
+    (subst (λ (s : List ℕ). KeepsOtherSectors (directory_of table s list) (directory_of c.change_fields.new.allocator s c.change_fields.new.entries)) c.deref.ensures.value
+    (c.change_fields.ensures.others told))
 
 pub returns-clause-slots : goal.returns-clause-slots
 returns-clause-slots g c told validation h =

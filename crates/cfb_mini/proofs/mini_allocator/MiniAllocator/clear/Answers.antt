@@ -3,6 +3,7 @@ use Rattle.cfb_format.specs.Reading.{Outline, numbers}
 use Rattle.cfb_mini.specs.cfb_outline.Outlines.{HasInside, IsReachedStorage}
 use Rattle.cfb_mini.specs.cfb_directory.Clearing.{KeepsSlotsOutside}
 use Rattle.cfb_mini.specs.cfb_directory.State.{HoldsDirectory}
+use Rattle.cfb_mini.specs.cfb_directory.Steps.{KeepsOtherSectors}
 use Rattle.cfb_mini.specs.cfb_mini_sectors.State.{HoldsMini, MiniState, cases_of, entries_of}
 use Rattle.cfb_mini.proofs.MiniDirectory.{cleared-holds}
 use Rattle.cfb_mini.proofs.mini_allocator.MiniAllocator.clear.Goals as goal
@@ -20,3 +21,6 @@ pub returns-clause-slots : goal.returns-clause-slots
 returns-clause-slots g c told validation =
     subst (λ (s : MiniState). HoldsDirectory validation s.directory → KeepsSlotsOutside (c.args.top ∷ c.args.inside.now) s.directory c.clear.new.self) c.self.view_is
     (c.clear.ensures.slots told validation)
+
+pub returns-clause-others : goal.returns-clause-others
+returns-clause-others g c told = subst (λ (s : MiniState). KeepsOtherSectors s.directory c.clear.new.self) c.self.view_is (c.clear.ensures.others told)

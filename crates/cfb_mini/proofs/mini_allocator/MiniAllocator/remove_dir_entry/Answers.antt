@@ -6,7 +6,7 @@ use Rattle.cfb_mini.specs.cfb_outline.Outlines.{IsReachedStorage}
 use Rattle.cfb_mini.specs.cfb_siblings.Children.{HasChildren, IsChildNamed, KeepsBalance}
 use Rattle.cfb_mini.specs.cfb_entries.EntryList.{RemovesEntry}
 use Rattle.cfb_mini.specs.cfb_directory.State.{HoldsDirectory}
-use Rattle.cfb_mini.specs.cfb_directory.Steps.{KeepsOtherSlots}
+use Rattle.cfb_mini.specs.cfb_directory.Steps.{KeepsOtherSectors, KeepsOtherSlots}
 use Rattle.cfb_mini.specs.cfb_mini_sectors.State.{HoldsMini, MiniState}
 use Rattle.cfb_mini.proofs.MiniDirectory.{removed-holds}
 use Rattle.cfb_mini.proofs.mini_allocator.MiniAllocator.remove_dir_entry.Goals as goal
@@ -34,3 +34,6 @@ pub returns-clause-slots : goal.returns-clause-slots
 returns-clause-slots g c told validation =
     subst (λ (s : MiniState). HoldsDirectory validation s.directory → KeepsOtherSlots c.args.parent s.directory c.remove_dir_entry.new.self) c.self.view_is
     (c.remove_dir_entry.ensures.slots told validation)
+
+pub returns-clause-others : goal.returns-clause-others
+returns-clause-others g c told = subst (λ (s : MiniState). KeepsOtherSectors s.directory c.remove_dir_entry.new.self) c.self.view_is (c.remove_dir_entry.ensures.others told)

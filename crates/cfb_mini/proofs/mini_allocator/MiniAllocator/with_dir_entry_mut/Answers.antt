@@ -4,7 +4,7 @@ use Rattle.cfb_format.specs.Siblings.{entry_at}
 use Rattle.cfb_mini.specs.cfb_entries.declared.fields.Fields.{Fields}
 use Rattle.cfb_mini.specs.cfb_entries.Fields.{fields_in, entry_with_fields}
 use Rattle.cfb_mini.specs.cfb_directory.State.{HoldsDirectory}
-use Rattle.cfb_mini.specs.cfb_directory.Steps.{KeepsSlotsBut}
+use Rattle.cfb_mini.specs.cfb_directory.Steps.{KeepsOtherSectors, KeepsSlotsBut}
 use Rattle.cfb_mini.specs.cfb_mini_sectors.State.{HoldsMini, MiniState, root_len_of, version_of}
 use Rattle.cfb_mini.proofs.MiniDirectory.{fields-holds}
 use Rattle.cfb_mini.proofs.mini_allocator.MiniAllocator.with_dir_entry_mut.Goals as goal
@@ -29,3 +29,6 @@ pub returns-clause-slots : goal.returns-clause-slots
 returns-clause-slots g c told validation =
     subst (λ (s : MiniState). HoldsDirectory validation s.directory → KeepsSlotsBut c.args.number s.directory c.with_dir_entry_mut.new.self) c.self.view_is
     (c.with_dir_entry_mut.ensures.slots told validation)
+
+pub returns-clause-others : goal.returns-clause-others
+returns-clause-others g c told = subst (λ (s : MiniState). KeepsOtherSectors s.directory c.with_dir_entry_mut.new.self) c.self.view_is (c.with_dir_entry_mut.ensures.others told)

@@ -33,6 +33,12 @@ returns-then-count-len-clause-wiped g c told validation h m gone inside =
     let len = c.len.ensures in
     absurd (none_dropped (ids_of c.args.self.now) c.args.count m (omega (arith, all, len)) gone)
 
+pub returns-then-count-len-clause-erased : goal.returns-then-count-len-clause-erased
+returns-then-count-len-clause-erased g c told validation h m gone =
+    let all = c.if-count-len.true in
+    let len = c.len.ensures in
+    absurd (none_dropped (ids_of c.args.self.now) c.args.count m (omega (arith, all, len)) gone)
+
 pub returns-then-count-len-clause-counted : goal.returns-then-count-len-clause-counted
 returns-then-count-len-clause-counted g c told fewer validation h =
     let all = c.if-count-len.true in

@@ -10,7 +10,8 @@ use Rattle.cfb_tables.specs.Refused.{ChangeRefused}
 use Rattle.cfb_mini_chains.proofs.cfb_alloc.Answering.{all_ok, on_both, on_ok}
 use Rattle.cfb_mini_chains.proofs.cfb_alloc.Spared.{spares_refl}
 use Rattle.cfb_chains.proofs.ChainWrites.{on_if}
-use Rattle.cfb_mini_sectors.specs.State.{MiniState, bytes_of, mini_stream_of, table_of, version_of}
+use Rattle.cfb_mini_sectors.specs.Pieces.{AreZeros}
+use Rattle.cfb_mini_sectors.specs.State.{MiniState, bytes_of, mini_place, mini_stream_of, table_of, version_of}
 use Rattle.cfb_mini.specs.MiniSectors.{ShortensMini}
 use Rattle.cfb_mini_sectors.specs.Steps.{IsInMiniStream, IsNotHeld, IsTooFewFor, IsZeroMini, SparesMini, system_sectors}
 use Rattle.cfb_mini_sectors.proofs.HeldGrown.{but-long}
@@ -19,7 +20,7 @@ use Rattle.cfb_mini_sectors.proofs.MiniFrames.{held-places, spares-then}
 use Rattle.cfb_mini.proofs.MiniWritten.{spares-mini-refl}
 use Rattle.cfb_mini_chains.specs.LentMiniChain.{state_of, ids_of, mini_sector_at}
 use Rattle.cfb_mini_chains.proofs.MiniChainAnswers.{err_both, invalid_for, medium_reason, medium_stops, on_err}
-use Rattle.cfb_mini_chains.proofs.MiniChainBytes.{cut_resized, grown_resized, zero_mini_stays, zero_or_more}
+use Rattle.cfb_mini_chains.proofs.MiniChainBytes.{cut_resized, grown_resized, zero_mini_stays, zero_or_more, zeros_stay}
 use Rattle.cfb_mini_chains.proofs.MiniChainFrames.{bytes_less, counted_then_write, cut_spared, directory_refl, directory_then_file, header_then_write}
 use Rattle.cfb_mini_chains.proofs.MiniChainPlaces.{behind_header, kept_own, mini_member}
 use Rattle.cfb_mini_chains.proofs.MiniChainLists.{dropped_more, none_dropped}
@@ -61,6 +62,13 @@ returns-then-mini_sectors-have-clause-wiped g c told validation h =
     let more = c.if-mini_sectors-have.true in
     let wanted = c.div_ceil-mini_sectors.ensures in
     all_ok c.grow.result (λ m gone inside. absurd (none_dropped (ids_of c.args.self.now) (rounded_up c.args.len 64) m (omega (arith, have, more, wanted)) gone))
+
+pub returns-then-mini_sectors-have-clause-erased : goal.returns-then-mini_sectors-have-clause-erased
+returns-then-mini_sectors-have-clause-erased g c told validation h =
+    let have = c.num_mini_sectors-have.ensures in
+    let more = c.if-mini_sectors-have.true in
+    let wanted = c.div_ceil-mini_sectors.ensures in
+    all_ok c.grow.result (λ m gone. absurd (none_dropped (ids_of c.args.self.now) (rounded_up c.args.len 64) m (omega (arith, have, more, wanted)) gone))
 
 pub returns-then-mini_sectors-have-clause-counted : goal.returns-then-mini_sectors-have-clause-counted
 returns-then-mini_sectors-have-clause-counted g c told fewer validation h =
@@ -142,6 +150,23 @@ returns-clause-wiped g c told validation h =
       | inr parted ↦
           on_ok _ _ c.zero_tail.result
           (λ put m member inside. zero_mini_stays (state_of cut) (state_of new) _ _ m z.kept (ap (λ (f : SectorFile). f.bytes) put) (gone m member inside)) (z.ok told parted)
+    ]
+
+pub returns-clause-erased : goal.returns-clause-erased
+returns-clause-erased g c told validation h =
+    let now = c.args.self.now in
+    let cut = state_of c.cut.new.self in
+    let new = state_of c.zero_tail.new.self in
+    let z = c.zero_tail.ensures in
+    let wanted = c.div_ceil-mini_sectors.ensures in
+    let is : c.div_ceil-mini_sectors.result ≡ rounded_up c.args.len 64 = omega (arith, wanted) in
+    let gone : (m : ℕ) → Contains (drop (rounded_up c.args.len 64) (ids_of now)) m → AreZeros (bytes_of cut) (mini_place (state_of now) m) =
+    λ m member. c.in_ok-cut.ensures.erased told validation h m (subst (λ n. Contains (drop n (ids_of now)) m) (sym is) member) in
+    elim (zero_or_more (c.args.len % 64)) [
+      | inl whole ↦ all_ok c.zero_tail.result (λ m member. subst (λ (s : MiniState). AreZeros (bytes_of s) (mini_place (state_of now) m)) (sym (z.none whole).1) (gone m member))
+      | inr parted ↦
+          on_ok _ _ c.zero_tail.result
+          (λ put m member. zeros_stay (bytes_of cut) (bytes_of new) _ _ (mini_place (state_of now) m) (ap (λ (f : SectorFile). f.bytes) put) (gone m member)) (z.ok told parted)
     ]
 
 pub returns-clause-spares : goal.returns-clause-spares

@@ -4,6 +4,7 @@ use Rattle.std.proofs.lemmas.Result.{err_from_is_err_and}
 use Rattle.cfb_format.specs.declared.validate.Validation.{Validation}
 use Rattle.cfb_format.specs.declared.validate.Validation.TheVariants.{Permissive}
 use Rattle.cfb_format.specs.Bytes.{max_stream_len}
+use Rattle.cfb_format.specs.Full.{free_count}
 use Rattle.cfb_format.specs.Medium.{written}
 use Rattle.cfb_format.specs.Siblings.{entry_at}
 use Rattle.cfb_volume.specs.cfb_tables.Changes.{NoneFree}
@@ -12,7 +13,8 @@ use Rattle.cfb_volume.specs.cfb_mini_sectors.Steps.{KeepsLimits}
 use Rattle.cfb_volume.specs.cfb_content.Contents.{IsNotChangeable, IsStreamOf, IsTooLongFor, MovesContent, len_of}
 use Rattle.cfb_volume.specs.cfb_resizing.Turning.{LeavesNoMinis}
 use Rattle.cfb_agreement.specs.Changes.{ChangesOneContent}
-use Rattle.cfb_agreement.specs.Files.{EmptyStartAtEnd, FileState, Holds, SameSetting}
+use Rattle.cfb_agreement.specs.Files.{FileState, Holds, SameSetting, StartsAtEndIfEmpty, EmptyStartAtEnd}
+use Rattle.cfb_volume.proofs.InMemory.{still-in-memory}
 use Rattle.cfb_volume.proofs.ContentSteps.{WasRefused, WentWell, ended-changes, ended-entries, ended-holds, ended-same, ended-setting, ended-stream, file_on, refused-agrees, refused-changes, refused-setting, refused-stays, refused-stream}
 use Rattle.cfb_volume.proofs.EmptyStreams.{put-in-at-end}
 use Rattle.cfb_volume.proofs.Refusals.{append-break, why-full}
@@ -70,6 +72,11 @@ returns-in_err-append_all-clause-refused g c told held =
     (ap (λ (f : FileState). f.is_sound) c.self.view_is) (ap (λ (f : FileState). f.buffer_limit) c.self.view_is)
     (refused g c told) c.requires.unfailed)
 
+pub returns-in_err-append_all-clause-in_memory : goal.returns-in_err-append_all-clause-in_memory
+returns-in_err-append_all-clause-in_memory g c =
+    let p = err_from_is_err_and c.from_residual.result c.from_residual.ensures.1 in
+    rw p.1 (still-in-memory c.self.inside.mini c.append_all.new.mini c.self.inside.is_sound c.self.inside.buffer_limit c.args.self.now c.self.view_is c.in_err-append_all.ensures.still)
+
 pub returns-in_err-append_all-clause-err : goal.returns-in_err-append_all-clause-err
 returns-in_err-append_all-clause-err g c told held =
     let p = err_from_is_err_and c.from_residual.result c.from_residual.ensures.1 in
@@ -102,9 +109,9 @@ changed g c told =
     let s = c.self.inside.mini in
     let i = c.args.entry in
     let longer : 0 < length c.args.bytes.now → 0 < len_of c.append_all.new.mini i = λ more. let len = ok.len in omega (arith, len, more) in
-    let at-end = λ (at : IsStreamOf s i) (all : EmptyStartAtEnd s). put-in-at-end s c.append_all.new.mini i (length c.args.bytes.now) longer (λ none. ap entries_of (ok.none none).1) (all i at) in
+    let at-end = λ (was : StartsAtEndIfEmpty s i). put-in-at-end s c.append_all.new.mini i (length c.args.bytes.now) longer (λ none. ap entries_of (ok.none none).1) was in
     subst (λ (f : FileState). IsStreamOf f.base c.args.entry → WentWell f.base c.append_all.new.mini c.args.entry) c.self.view_is
-    (λ at. record { stream = at; moves = e.moves; spares = e.spares told; changed = ok.changed told; tight = ok.tight; at_end = at-end at }) c.requires.stream
+    (λ at. record { stream = at; moves = e.moves; spares = e.spares told; changed = ok.changed told; tight = ok.tight; at_end = at-end }) c.requires.stream
 
 pub returns-clause-stream : goal.returns-clause-stream
 returns-clause-stream g c =
@@ -185,3 +192,11 @@ returns-clause-stays_full g c told held leaves none =
     (c.in_ok-append_all.ensures.stays_full told Permissive sound
     (subst (λ (f : FileState). LeavesNoMinis f.base c.args.entry (len_of f.base c.args.entry + length c.args.bytes.now)) (sym c.self.view_is) leaves)
     (subst (λ (f : FileState). NoneFree (tables_in f.base).fat) (sym c.self.view_is) none))
+
+pub returns-clause-minis_full : goal.returns-clause-minis_full
+returns-clause-minis_full g c told held leaves none =
+    let sound = subst (λ (f : FileState). IsChangeable Permissive f.base) (sym c.self.view_is) (held.sound c.requires.sound) in
+    subst (λ (s : MiniState). free_count s.minifat ≡ 0) (sym c.end_change.ensures)
+    (c.in_ok-append_all.ensures.minis_full told Permissive sound
+    (subst (λ (f : FileState). LeavesNoMinis f.base c.args.entry (len_of f.base c.args.entry + length c.args.bytes.now)) (sym c.self.view_is) leaves)
+    (subst (λ (f : FileState). free_count f.base.minifat ≡ 0) (sym c.self.view_is) none))

@@ -1,7 +1,7 @@
 use Rattle.std.proofs.Common.{◌≡◌, ℕ, List, true, refl, sym, ap, subst}
 use Rattle.std.specs.Prelude.{Contains, Some}
 use Rattle.std.proofs.lemmas.Result.{err_from_is_err_and}
-use Rattle.cfb_format.specs.declared.validate.Validation.TheVariants.{Permissive, Strict}
+use Rattle.cfb_format.specs.declared.validate.Validation.TheVariants.{Permissive}
 use Rattle.cfb_format.specs.Reading.{IsOutline, Outline, numbers, stream_numbers}
 use Rattle.cfb_format.specs.Refused.{AfterMedium}
 use Rattle.cfb_outline.specs.Outlines.{HasInside, IsReachedStorage}
@@ -14,11 +14,11 @@ use Rattle.cfb_volume.specs.cfb_mini_sectors.State.{HoldsMini, MiniState, bytes_
 use Rattle.cfb_volume.specs.cfb_mini_sectors.Steps.{KeepsMini, StopsShort}
 use Rattle.cfb_volume.specs.cfb_content.Contents.{KeepsFixedHeader, len_of}
 use Rattle.cfb_volume.proofs.cfb_content.FixedHeader.{spared-keeps-header}
-use Rattle.cfb_agreement.specs.Changes.{KeepsStreams}
-use Rattle.cfb_agreement.specs.Files.{Agrees, FileState, Holds, IsAsMade, is_failed}
+use Rattle.cfb_agreement.specs.Changes.{KeepsParts, KeepsStreams}
+use Rattle.cfb_agreement.specs.Files.{Agrees, FileState, Holds, is_failed}
 use Rattle.cfb_entry_changes.specs.Clearing.{ClearsStorage}
 use Rattle.cfb_volume.specs.Clearing.{emptied_at}
-use Rattle.cfb_volume.proofs.ClearedStorages.{clear-break, clear-holds, clear-made, clear-tree, clearing-ended, clears-storage}
+use Rattle.cfb_volume.proofs.ClearedStorages.{clear-break, clear-holds, clear-parts, clear-tree, clearing-ended, clears-storage}
 use Rattle.cfb_volume.proofs.InsertedObjects.{ended, header-ended, insert-keeps-streams, refused-agrees, refused-stops, same-file, streams-ended}
 use Rattle.cfb_volume.proofs.volume.Volume.clear.Goals as goal
 
@@ -101,15 +101,15 @@ returns-clause-others g c told holds =
     (insert-keeps-streams c.args.self.now mid c.requires.sound holds
     (subst (λ (s : MiniState). Spares s.directory.sectors (table_of s) (table_of mid)) e (was.spares told)) (subst (λ (s : MiniState). KeepsMini s mid) e was.mini)))
 
-pub returns-clause-made : goal.returns-clause-made
-returns-clause-made g c told holds made =
+pub returns-clause-parts : goal.returns-clause-parts
+returns-clause-parts g c told holds =
     let w = c.in_ok-clear.ensures in
     let mid = c.clear.new.self in
     let old = c.args.self.now in
     let e = ap (λ (f : FileState). f.base) c.self.view_is in
-    subst (λ (s : MiniState). IsAsMade s) (sym c.end_change.ensures)
-    (clear-made old mid c.args.top (clears g c) (subst (λ (s : MiniState). Spares s.directory.sectors (table_of s) (table_of mid)) e (w.spares told)) made
-    (w.holds told Strict (subst (λ (s : MiniState). HoldsMini Strict s) (sym e) made.changeable.held))
+    subst (λ (s : MiniState). KeepsParts old.base s) (sym c.end_change.ensures)
+    (clear-parts old mid c.args.top (clears g c) (subst (λ (s : MiniState). Spares s.directory.sectors (table_of s) (table_of mid)) e (w.spares told))
+    c.requires.sound holds (λ v change. w.holds told v (subst (λ (s : MiniState). HoldsMini v s) (sym e) change.held))
     (subst (λ (s : MiniState). KeepsWholeHeader s.directory mid.directory) e (w.header told)))
 
 pub returns-clause-agrees : goal.returns-clause-agrees

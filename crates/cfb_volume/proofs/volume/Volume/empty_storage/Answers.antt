@@ -11,6 +11,7 @@ use Rattle.cfb_agreement.specs.Files.{FileState, failures_of}
 use Rattle.cfb_volume.specs.Clearing.{ClearingBreaksOff, EmptiesStorage, EmptiesStreams, KeepsStreamsBeside, KeepsStreamsBut}
 use Rattle.cfb_volume.proofs.EmptiedStorages.{all-still, beside-but, empties-storage, empty-now, others-then, storage-still}
 use Rattle.cfb_volume.proofs.EmptiedStreams.{kept-stream}
+use Rattle.cfb_volume.proofs.InMemory.{in-memory}
 use Rattle.cfb_volume.proofs.Insides.{inside-among}
 use Rattle.cfb_volume.proofs.Steps.{broke-off, counts-of-write, flags-keep, hand-err, hand-ok, handed_on, memory-breaks-off, step-err, step-err-counts, step-ok, step-ok-counts, step-on-err}
 use Rattle.cfb_volume.proofs.volume.Volume.empty_storage.Goals as goal
@@ -127,6 +128,7 @@ returns-in_err-hand_on-clause-refused g c =
       header = λ told held. w.header told;
       agrees = λ told held. w.agrees told held;
       refused = λ told held. step-on-err c.clear-cleared.result e is w.refused;
+      in_memory = in-memory mid step (step-on-err c.clear-cleared.result e is w.refused);
       err = λ told held. step-err _ c.clear-cleared.result e is (w.err held);
       counts = λ told. counts-of-write g.F.ReadMedium.read_faults g.F.Medium.write_faults (failures_of mid) (failures_of step) e
           (step-err-counts g.F.Medium.write_faults (failures_of mid) (failures_of step) c.clear-cleared.result e is (w.counts told));
@@ -152,7 +154,7 @@ returns-clause-emptied g c =
     let same = hand-ok step c.hand_on.new.self c.in_ok-some.some c.clear-cleared.result c.hand_on.ensures.fails _ is in
     subst (λ (f : FileState). EmptiesStorage g.F.ReadMedium.tells c.args.top start f) (sym same)
     (empties-storage g.F.ReadMedium.tells c.args.top start mid x.outline c.requires.top x.has i step w.setting (step-ok c.clear-cleared.result _ is w.cleared)
-    (step-ok c.clear-cleared.result _ is w.ended) w.same_tables (λ told held. w.agrees told held) (λ told held made. step-ok c.clear-cleared.result _ is (w.made told held made))
+    (step-ok c.clear-cleared.result _ is w.ended) w.same_tables (λ told held. w.agrees told held) (λ told held. step-ok c.clear-cleared.result _ is (w.parts told held))
     (λ told held. w.others told held) (λ told. w.header told) (λ told held. step-ok c.clear-cleared.result _ is (w.tree told held))
     (λ told. step-ok-counts g.F.Medium.write_faults (failures_of mid) (failures_of step) c.clear-cleared.result _ is (w.counts told)))
 

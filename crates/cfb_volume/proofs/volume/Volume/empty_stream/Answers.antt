@@ -41,6 +41,7 @@ returns-in_err-resize-clause-refused g c =
       header = λ told holds. (w.changes told holds).header;
       agrees = λ told holds. w.agrees told holds;
       refused = λ told holds. r.refused told holds;
+      in_memory = r.in_memory;
       err = λ told holds. break-as (IsTooLongFor old.base c.args.entry 0 × (new ≡ old)) ⊥ (λ long. w.emptied holds refl long.0) e (r.err told holds);
       counts = λ told. r.counts told;
     })

@@ -1,7 +1,7 @@
-use Rattle.std.proofs.Common.{◌≡◌, ◌≤◌, ◌∷◌, ℕ, List, refl, sym, ap, subst, chars, length}
+use Rattle.std.proofs.Common.{◌≡◌, ◌≤◌, ◌∷◌, ℕ, List, refl, sym, ◌∙◌, ap, subst, chars, length}
 use Rattle.std.specs.Prelude.{Some}
 use Rattle.std.proofs.lemmas.Result.{err_from_is_err_and}
-use Rattle.cfb_format.specs.declared.validate.Validation.TheVariants.{Permissive, Strict}
+use Rattle.cfb_format.specs.declared.validate.Validation.TheVariants.{Permissive}
 use Rattle.cfb_format.specs.Bytes.{no_stream}
 use Rattle.cfb_format.specs.Reading.{IsOutline, Outline}
 use Rattle.cfb_format.specs.Siblings.{entry_at}
@@ -20,15 +20,15 @@ use Rattle.cfb_volume.specs.cfb_mini_sectors.Steps.{KeepsMini, StopsShort}
 use Rattle.cfb_volume.specs.cfb_content.Contents.{KeepsFixedHeader, len_of}
 use Rattle.cfb_volume.proofs.cfb_content.FixedHeader.{spared-keeps-header}
 use Rattle.cfb_entry_changes.proofs.Entries.{put-is-balanced, put-is-found, put-is-new, put-keeps-root, put-grows-tightly}
-use Rattle.cfb_agreement.specs.Changes.{KeepsStreams, object_added_at}
-use Rattle.cfb_agreement.specs.Files.{Agrees, FileState, Holds, IsAsMade, IsCounted, IsFullFile, GrowsTightly}
+use Rattle.cfb_agreement.specs.Changes.{KeepsParts, KeepsStreams, object_added_at}
+use Rattle.cfb_agreement.specs.Files.{Agrees, FileState, Holds, IsCounted, IsFullFile, GrowsTightly}
 use Rattle.cfb_format.specs.Refused.{IsBreak}
 use Rattle.cfb_entry_changes.specs.Kept.{AllStayBalanced, KeepsFound}
 use Rattle.cfb_entry_changes.specs.Standing.{StandStill}
 use Rattle.cfb_volume.proofs.Tidy.{put-counted}
 use Rattle.cfb_volume.specs.Slots.{TakesSlot}
 use Rattle.cfb_volume.proofs.PutObjects.{put-is-childless, put-keeps-found, put-no-shorter, put-stands-still, put-stays-full, put-takes-slot}
-use Rattle.cfb_volume.proofs.InsertedObjects.{ended, header-ended, insert-holds, insert-keeps-streams, insert-made, insert-tree, puts-object, refused-agrees, refused-full, refused-reason, same-file, streams-ended}
+use Rattle.cfb_volume.proofs.InsertedObjects.{ended, header-ended, insert-holds, insert-keeps-streams, insert-parts, insert-tree, puts-object, refused-agrees, refused-full, refused-reason, same-file, streams-ended}
 use Rattle.cfb_volume.proofs.volume.Volume.insert.Goals as goal
 
 pub insert_dir_entry-requires : goal.insert_dir_entry-requires
@@ -131,19 +131,21 @@ returns-clause-header g c told =
     subst (λ (s : MiniState). KeepsFixedHeader c.args.self.now.base s) (sym c.end_change.ensures) (header-ended c.args.self.now.base mid
     (subst (λ (f : FileState). KeepsFixedHeader f.base mid) c.self.view_is (spared-keeps-header _ c.self.inside.mini mid (c.insert_dir_entry.ensures.spared told).spares)))
 
-pub returns-clause-made : goal.returns-clause-made
-returns-clause-made g c told holds made =
+pub returns-clause-parts : goal.returns-clause-parts
+returns-clause-parts g c told holds =
     let w = c.in_ok-number.ensures in
     let mid = c.insert_dir_entry.new.self in
     let old = c.args.self.now in
     let e = ap (λ (f : FileState). f.base) c.self.view_is in
     let put = puts-object c.self.inside.mini c.args.self.now.base mid c.args.parent c.in_ok-number.number (chars c.args.name.now) c.args.kind c.args.moment
     e c.requires.parent c.requires.kind w.inserted w.kept w.mini w.limits in
-    let before = subst (λ (s : MiniState). HoldsMini Strict s) (sym e) made.changeable.held in
-    let counted = put-counted Strict c.self.inside.mini mid c.args.parent before w.limits w.kept (w.written told) (w.spared told) (subst IsCounted (sym e) made.tidy.counted) in
-    subst (λ (s : MiniState). IsAsMade s) (sym c.end_change.ensures)
-    (insert-made old mid c.args.parent c.in_ok-number.number (chars c.args.name.now) c.args.kind c.args.moment put
-    (subst (λ (s : MiniState). Spares s.directory.sectors (table_of s) (table_of mid)) e (w.spared told).spares) made (w.holds told Strict before) counted)
+    let before = subst (λ (s : MiniState). HoldsMini Permissive s) (sym e) (holds.sound c.requires.sound).held in
+    let counted = put-counted Permissive c.self.inside.mini mid c.args.parent before w.limits w.kept (w.written told) (w.spared told) in
+    subst (λ (s : MiniState). KeepsParts old.base s) (sym c.end_change.ensures)
+    (insert-parts old mid c.args.parent c.in_ok-number.number (chars c.args.name.now) c.args.kind c.args.moment put
+    (subst (λ (s : MiniState). Spares s.directory.sectors (table_of s) (table_of mid)) e (w.spared told).spares) c.requires.sound holds
+    (λ v change. w.holds told v (subst (λ (s : MiniState). HoldsMini v s) (sym e) change.held))
+    (subst (λ (s : MiniState). IsCounted s → IsCounted mid) e counted))
 
 pub returns-clause-grows : goal.returns-clause-grows
 returns-clause-grows g c =
@@ -260,3 +262,10 @@ returns-clause-empty g c =
 
 pub returns-clause-enough : goal.returns-clause-enough
 returns-clause-enough g c = subst (λ (f : FileState). IsFullForEntry f.base.directory → ⊥) c.self.view_is c.in_ok-number.ensures.inserted.enough
+
+pub returns-in_err-number-clause-minifat : goal.returns-in_err-number-clause-minifat
+returns-in_err-number-clause-minifat g c = c.insert_dir_entry.ensures.mini.minifat ∙ ap (λ (f : FileState). f.base.minifat) c.self.view_is
+
+pub returns-clause-minifat : goal.returns-clause-minifat
+returns-clause-minifat g c =
+    ap (λ (s : MiniState). s.minifat) c.end_change.ensures ∙ c.insert_dir_entry.ensures.mini.minifat ∙ ap (λ (f : FileState). f.base.minifat) c.self.view_is

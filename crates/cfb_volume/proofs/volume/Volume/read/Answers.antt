@@ -25,6 +25,13 @@ returns-clause-same g c told =
       buffer_limit = ap (λ (f : FileState). f.buffer_limit) c.self.view_is;
     }
 
+pub returns-clause-in_memory : goal.returns-clause-in_memory
+returns-clause-in_memory g c = record {
+  base = subst (λ (f : FileState). IsStill f.base c.read_content.new.mini) c.self.view_is c.read_content.ensures.kept;
+  is_sound = ap (λ (f : FileState). f.is_sound) c.self.view_is;
+  buffer_limit = ap (λ (f : FileState). f.buffer_limit) c.self.view_is;
+}
+
 pub returns-clause-flag : goal.returns-clause-flag
 returns-clause-flag g c =
     let still : IsStill c.args.self.now.base c.read_content.new.mini = subst (λ (f : FileState). IsStill f.base c.read_content.new.mini) c.self.view_is c.read_content.ensures.kept in

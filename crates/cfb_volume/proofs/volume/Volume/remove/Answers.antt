@@ -16,17 +16,19 @@ use Rattle.cfb_volume.specs.cfb_objects.Laws.{BecomesTree}
 use Rattle.cfb_volume.specs.cfb_mini_sectors.State.{IsChangeable, MiniState, bytes_of, cases_of, entries_of, table_of, tables_in}
 use Rattle.cfb_volume.specs.cfb_mini.MiniSectors.{IsStill}
 use Rattle.cfb_volume.specs.cfb_content.Changed.{MovesAlone}
-use Rattle.cfb_volume.specs.cfb_content.Contents.{KeepsFixedHeader, KeepsOthers, len_of}
+use Rattle.cfb_volume.specs.cfb_content.Contents.{KeepsFixedHeader, KeepsOthers, LeavesZeros, len_of}
+use Rattle.cfb_volume.proofs.cfb_content.Erased.{slots-leave-zeros}
 use Rattle.cfb_volume.proofs.cfb_content.FixedHeader.{header-then, spared-keeps-header}
 use Rattle.cfb_entry_changes.specs.Kept.{AllStayBalancedBut, FindsAllBut}
-use Rattle.cfb_agreement.specs.Changes.{StaysOrFails}
-use Rattle.cfb_agreement.specs.Files.{Agrees, FileState, Holds, IsAsMade}
+use Rattle.cfb_agreement.specs.Changes.{KeepsParts, StaysOrFails}
+use Rattle.cfb_agreement.specs.Files.{Agrees, FileState, Holds}
 use Rattle.cfb_volume.specs.Removing.{StaysOrGaveBack, WasEmptied}
 use Rattle.cfb_volume.specs.Slots.{TakesNoSlot}
 use Rattle.cfb_volume.proofs.ContentSteps.{file_on}
+use Rattle.cfb_volume.proofs.InMemory.{in-memory, still-in-memory}
 use Rattle.cfb_volume.proofs.InsertedObjects.{ended, header-ended, same-file}
 use Rattle.cfb_volume.proofs.Refusals.{after-any, after-less, after-none, file-after}
-use Rattle.cfb_volume.proofs.RemovedObjects.{WasRemoved, child-stays, empty-break, others-ended, others-then, remove-balanced, remove-finds, remove-holds, remove-keeps-root, remove-made, remove-tree, stays-agrees, stays-by, stays-then, storage-stays, was-removed}
+use Rattle.cfb_volume.proofs.RemovedObjects.{WasRemoved, child-stays, empty-break, others-ended, others-then, remove-balanced, remove-finds, remove-holds, remove-keeps-root, remove-parts, remove-tree, stays-agrees, stays-by, stays-then, storage-stays, was-removed}
 use Rattle.cfb_volume.proofs.volume.Volume.remove.Goals.{After-remove_dir_entry, In_ok-remove_dir_entry}
 use Rattle.cfb_volume.proofs.volume.Volume.remove.Goals as goal
 
@@ -47,6 +49,12 @@ returns-in_err-empty_object-clause-agrees g c told holds =
     let calm = subst (λ (m : MiniState). (table_of mid).file.begun ≡ false → bytes_of mid ≡ bytes_of m) e (c.empty_object.ensures.spares told).unwritten in
     subst (λ (f : FileState). Agrees f) (same-file s mid mid c.self.inside.is_sound c.self.inside.buffer_limit old c.self.view_is refl)
     (stays-agrees old _ (stays-by old mid still calm c.requires.unfailed) holds)
+
+pub returns-in_err-empty_object-clause-in_memory : goal.returns-in_err-empty_object-clause-in_memory
+returns-in_err-empty_object-clause-in_memory g c =
+    let p = err_from_is_err_and c.from_residual.result c.from_residual.ensures.1 in
+    rw p.1 (still-in-memory c.self.inside.mini c.empty_object.new.mini c.self.inside.is_sound c.self.inside.buffer_limit c.args.self.now c.self.view_is
+    c.in_err-empty_object.ensures.still)
 
 pub returns-in_err-empty_object-clause-err : goal.returns-in_err-empty_object-clause-err
 returns-in_err-empty_object-clause-err g c told holds =
@@ -118,6 +126,18 @@ returns-in_err-remove_dir_entry-clause-refused g c told holds =
     let quiet = subst (λ (m : MiniState). (table_of mid).file.begun ≡ false → mid ≡ m) e c.in_ok-empty_object.ensures.quiet in
     rw p.1 (subst (λ (f : FileState). StaysOrFails old f) (same-file s new new c.self.inside.is_sound c.self.inside.buffer_limit old c.self.view_is refl)
     (stays-then old mid new c.in_err-remove_dir_entry.field-0.0 quiet c.in_err-remove_dir_entry.ensures.refused))
+
+pub returns-in_err-remove_dir_entry-clause-in_memory : goal.returns-in_err-remove_dir_entry-clause-in_memory
+returns-in_err-remove_dir_entry-clause-in_memory g c =
+    let old = c.args.self.now in
+    let s = c.self.inside.mini in
+    let mid = c.empty_object.new.mini in
+    let new = c.remove_dir_entry.new.self in
+    let e = ap (λ (f : FileState). f.base) c.self.view_is in
+    let p = err_from_is_err_and c.from_residual-in_err-remove_dir_entry.result c.from_residual-in_err-remove_dir_entry.ensures.1 in
+    let quiet = subst (λ (m : MiniState). (table_of mid).file.begun ≡ false → mid ≡ m) e c.in_ok-empty_object.ensures.quiet in
+    rw p.1 (in-memory old _ (subst (λ (f : FileState). StaysOrFails old f) (same-file s new new c.self.inside.is_sound c.self.inside.buffer_limit old c.self.view_is refl)
+    (stays-then old mid new c.in_err-remove_dir_entry.field-0.0 quiet c.in_err-remove_dir_entry.ensures.refused)))
 
 pub returns-in_err-remove_dir_entry-clause-err : goal.returns-in_err-remove_dir_entry-clause-err
 returns-in_err-remove_dir_entry-clause-err g c told holds =
@@ -232,11 +252,25 @@ returns-clause-header g c told =
     subst (λ (m : MiniState). KeepsFixedHeader c.args.self.now.base m) (sym c.end_change.ensures)
     (header-ended c.args.self.now.base c.remove_dir_entry.new.self (header-kept g (goal.at.returns-clause-header g c).After-remove_dir_entry told))
 
-pub returns-clause-made : goal.returns-clause-made
-returns-clause-made g c told holds made =
-    let storage : IsReachedStorage (cases_of c.args.self.now.base) (entries_of c.args.self.now.base) c.args.parent = c.requires.parent in
-    subst (λ (m : MiniState). IsAsMade m) (sym c.end_change.ensures)
-    (remove-made (removed g (goal.at.returns-clause-made g c).In_ok-remove_dir_entry told) storage.outline storage.is made)
+pub returns-clause-parts : goal.returns-clause-parts
+returns-clause-parts g c told holds =
+    subst (λ (m : MiniState). KeepsParts c.args.self.now.base m) (sym c.end_change.ensures)
+    (remove-parts (removed g (goal.at.returns-clause-parts g c).In_ok-remove_dir_entry told) c.requires.sound holds)
+
+-- what it had in mini sectors is zeros
+pub returns-clause-erased : goal.returns-clause-erased
+returns-clause-erased g c told holds kind =
+    let old = c.args.self.now in
+    let mid = c.empty_object.new.mini in
+    let new = c.remove_dir_entry.new.self in
+    let child = c.args.child in
+    let e = ap (λ (f : FileState). f.base) c.self.view_is in
+    let emptied = subst (λ (m : MiniState). WasEmptied m mid child) e (c.in_ok-empty_object.ensures.emptied told) in
+    let moves = subst (λ (m : MiniState). MovesAlone m mid child) e c.empty_object.ensures.moves in
+    let change = holds.sound c.requires.sound in
+    subst (λ (m : MiniState). LeavesZeros old.base m child) (sym c.end_change.ensures)
+    (λ m own. slots-leave-zeros Permissive old.base mid new child m change.held moves.limits.version moves.directory (c.in_ok-remove_dir_entry.ensures.others told) own
+    (emptied.erased Permissive change kind m own))
 
 pub returns-clause-slots : goal.returns-clause-slots
 returns-clause-slots g c =

@@ -36,8 +36,8 @@ returns-in-Some-clause-counts g c told = counts-both (ClearingBreaksOff g.F.Read
 pub returns-in-Some-clause-balanced : goal.returns-in-Some-clause-balanced
 returns-in-Some-clause-balanced g c told = on-ok c.remove_with_all.result (λ w. w.balanced told) c.remove_with_all.ensures.removed
 
-pub returns-in-Some-clause-made : goal.returns-in-Some-clause-made
-returns-in-Some-clause-made g c told holds made = on-ok c.remove_with_all.result (λ w. w.made told holds made) c.remove_with_all.ensures.removed
+pub returns-in-Some-clause-parts : goal.returns-in-Some-clause-parts
+returns-in-Some-clause-parts g c told holds = on-ok c.remove_with_all.result (λ w. w.parts told holds) c.remove_with_all.ensures.removed
 
 pub returns-in-Some-clause-grows : goal.returns-in-Some-clause-grows
 returns-in-Some-clause-grows g c = on-ok c.remove_with_all.result (λ w. same-grows c.args.self.now.base c.remove_with_all.new.self.base w.same_length) c.remove_with_all.ensures.removed
@@ -53,6 +53,9 @@ returns-in-Some-clause-agrees g c told holds down = after-both (ClearingBreaksOf
 
 pub returns-in-Some-clause-refused : goal.returns-in-Some-clause-refused
 returns-in-Some-clause-refused g c told holds = on-refused (ClearingBreaksOff g.F.ReadMedium.tells (λ f. g.F.ReadMedium.read_faults f || g.F.Medium.write_faults f) c.args.self.now c.remove_with_all.new.self) c.remove_with_all.result c.remove_with_all.ensures.refused (λ e b. b.refused told holds)
+
+pub returns-in-Some-clause-in_memory : goal.returns-in-Some-clause-in_memory
+returns-in-Some-clause-in_memory g c = on-refused (ClearingBreaksOff g.F.ReadMedium.tells (λ f. g.F.ReadMedium.read_faults f || g.F.Medium.write_faults f) c.args.self.now c.remove_with_all.new.self) c.remove_with_all.result c.remove_with_all.ensures.refused (λ e b. b.in_memory)
 
 pub returns-in-Some-clause-err : goal.returns-in-Some-clause-err
 returns-in-Some-clause-err g c told holds = err_map (ClearingBreaksOff g.F.ReadMedium.tells (λ f. g.F.ReadMedium.read_faults f || g.F.Medium.write_faults f) c.args.self.now c.remove_with_all.new.self) (IsBreak ⊥) (λ e b. b.err told holds) c.remove_with_all.result c.remove_with_all.ensures.refused
@@ -71,8 +74,8 @@ returns-in-None-clause-root_tree g c told holds =
 pub returns-in-None-clause-balanced : goal.returns-in-None-clause-balanced
 returns-in-None-clause-balanced g c told = on-ok c.empty_storage.result (λ w. balanced-but c.args.self.now.base c.empty_storage.new.self.base c.args.top w.childless w.balanced) c.empty_storage.ensures.emptied
 
-pub returns-in-None-clause-made : goal.returns-in-None-clause-made
-returns-in-None-clause-made g c told holds made = on-ok c.empty_storage.result (λ w. w.made told holds made) c.empty_storage.ensures.emptied
+pub returns-in-None-clause-parts : goal.returns-in-None-clause-parts
+returns-in-None-clause-parts g c told holds = on-ok c.empty_storage.result (λ w. w.parts told holds) c.empty_storage.ensures.emptied
 
 pub returns-in-None-clause-slots : goal.returns-in-None-clause-slots
 returns-in-None-clause-slots g c = on-ok c.empty_storage.result (λ w. record { slots = w.longer; fat = w.same_length }) c.empty_storage.ensures.emptied
@@ -91,6 +94,9 @@ returns-in-None-clause-agrees g c told holds down = after-both (ClearingBreaksOf
 
 pub returns-in-None-clause-refused : goal.returns-in-None-clause-refused
 returns-in-None-clause-refused g c told holds = on-refused (ClearingBreaksOff g.F.ReadMedium.tells (λ f. g.F.ReadMedium.read_faults f || g.F.Medium.write_faults f) c.args.self.now c.empty_storage.new.self) c.empty_storage.result c.empty_storage.ensures.refused (λ e b. b.refused told holds)
+
+pub returns-in-None-clause-in_memory : goal.returns-in-None-clause-in_memory
+returns-in-None-clause-in_memory g c = on-refused (ClearingBreaksOff g.F.ReadMedium.tells (λ f. g.F.ReadMedium.read_faults f || g.F.Medium.write_faults f) c.args.self.now c.empty_storage.new.self) c.empty_storage.result c.empty_storage.ensures.refused (λ e b. b.in_memory)
 
 pub returns-in-None-clause-err : goal.returns-in-None-clause-err
 returns-in-None-clause-err g c told holds = err_map (ClearingBreaksOff g.F.ReadMedium.tells (λ f. g.F.ReadMedium.read_faults f || g.F.Medium.write_faults f) c.args.self.now c.empty_storage.new.self) (IsBreak ⊥) (λ e b. b.err told holds) c.empty_storage.result c.empty_storage.ensures.refused

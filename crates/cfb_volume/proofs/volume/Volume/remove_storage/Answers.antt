@@ -14,6 +14,7 @@ use Rattle.cfb_volume.proofs.RemovedStorages.{all-removed, below-still, named-st
 use Rattle.cfb_volume.proofs.Steps.{broke-off, flags-keep, hand-err, hand-ok, step-err, step-err-counts, step-ok, step-ok-counts, step-on-err}
 use Rattle.cfb_volume.proofs.volume.Volume.remove_storage.Goals as goal
 use Rattle.cfb_agreement.proofs.InTurn.{setting-then}
+use Rattle.cfb_agreement.proofs.Parts.{parts-then}
 
 pub empty_storage-requires-clause-top : goal.empty_storage-requires-clause-top
 empty_storage-requires-clause-top g c =
@@ -86,6 +87,7 @@ returns-in_err-hand_on-clause-refused g c =
       header = λ told held. w.header told;
       agrees = λ told held. w.agrees told held;
       refused = λ told held. step-on-err c.remove-removed.result e is (w.refused told held);
+      in_memory = step-on-err c.remove-removed.result e is w.in_memory;
       err = λ told held. step-err _ c.remove-removed.result e is (w.err told held);
       counts = λ told. step-err-counts faults (failures_of mid) (failures_of step) c.remove-removed.result e is (w.counts told);
     } in
@@ -114,7 +116,7 @@ returns-clause-removed g c =
       unfailed = calm;
       balanced = λ told. balanced-then-but start.base mid.base step.base c.args.top (λ o o_is. let left = i.reached o o_is in (left.0, left.1)) i.balanced (step-ok c.remove-removed.result _ is (w.balanced told));
       holds = λ told holds. w.agrees told (i.holds told holds) calm;
-      made = λ told holds made. step-ok c.remove-removed.result _ is (w.made told (i.holds told holds) (i.made told holds made));
+      parts = λ told holds. parts-then start.base mid.base step.base (i.parts told holds) (step-ok c.remove-removed.result _ is (w.parts told (i.holds told holds)));
       longer = (step-ok c.remove-removed.result _ is w.slots).slots ∙ i.longer;
       same_length = w.takes_none ∙ i.same_length;
       header = λ told holds. header-then start.base mid.base step.base i.setting.limits.version (i.header told holds) (w.header told);

@@ -10,6 +10,7 @@ use Rattle.cfb_volume.proofs.cfb_trees.Members.{reached-is-within}
 use Rattle.cfb_volume.proofs.cfb_trees.Reached.{below-reached}
 use Rattle.cfb_volume.specs.cfb_mini_sectors.State.{cases_of, entries_of}
 use Rattle.cfb_agreement.specs.Files.{FileState}
+use Rattle.cfb_volume.proofs.InMemory.{same-in-memory}
 use Rattle.cfb_volume.proofs.Settings.{setting-same}
 use Rattle.cfb_volume.proofs.EmptiedStreams.{kept-stream}
 use Rattle.cfb_volume.proofs.RemovedStorages.{beside-one, stands-removed, stream-is-childless}
@@ -37,6 +38,7 @@ returns-in_err-remove-clause-refused g c =
       header = λ told holds. w.header told;
       agrees = λ told holds. w.agrees told holds;
       refused = λ told holds. r.refused told holds;
+      in_memory = r.in_memory;
       err = λ told holds. r.err told holds;
       counts = λ told. r.counts told;
     })
@@ -50,7 +52,7 @@ returns-then-dir_entry-clause-removed g c =
       unfailed = ok.ended;
       balanced = λ told. ok.balanced told;
       holds = λ told holds. w.agrees told holds ok.ended;
-      made = λ told holds made. ok.made told holds made;
+      parts = λ told holds. ok.parts told holds;
       longer = ok.slots.slots;
       same_length = w.takes_none;
       header = λ told holds. w.header told;
@@ -77,6 +79,7 @@ returns-in-Stream-clause-refused g c =
       header = λ told holds. record { no_shorter = omega arith; bytes = λ i within fixed. refl };
       agrees = λ told holds down. holds;
       refused = λ told holds. inl (record { base = refl; bytes = refl; is_sound = refl; buffer_limit = refl });
+      in_memory = same-in-memory c.args.self.now;
       err = λ told holds.
           let none = stream-is-childless c.args.self.now order.outline c.args.top c.requires.sound holds order.is (below-reached order.outline c.args.top (c.requires.below order.outline order.is)) kind in
           let child : c.dir_entry.result.now.child ≡ no_stream = ap (λ (x : Entry). x.child) c.dir_entry.ensures

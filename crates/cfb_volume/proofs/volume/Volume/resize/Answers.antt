@@ -8,9 +8,10 @@ use Rattle.cfb_format.specs.Siblings.{entry_at}
 use Rattle.cfb_volume.specs.cfb_rules.StreamCalls.{resized}
 use Rattle.cfb_volume.specs.cfb_mini_sectors.State.{HoldsMini, IsChangeable, MiniState, content_of, entries_of, table_of, tables_in, version_of}
 use Rattle.cfb_volume.specs.cfb_mini_sectors.Steps.{KeepsLimits}
-use Rattle.cfb_volume.specs.cfb_content.Contents.{IsNotChangeable, IsStreamOf, IsTooLongFor, MovesContent, len_of}
+use Rattle.cfb_volume.specs.cfb_content.Contents.{ErasesMinis, IsNotChangeable, IsStreamOf, IsTooLongFor, MovesContent, len_of}
 use Rattle.cfb_agreement.specs.Changes.{ChangesOneContent}
-use Rattle.cfb_agreement.specs.Files.{EmptyStartAtEnd, FileState, Holds, SameSetting}
+use Rattle.cfb_agreement.specs.Files.{FileState, Holds, SameSetting, StartsAtEndIfEmpty, EmptyStartAtEnd}
+use Rattle.cfb_volume.proofs.InMemory.{still-in-memory}
 use Rattle.cfb_volume.proofs.ContentSteps.{WasRefused, WentWell, ended-changes, ended-entries, ended-holds, ended-same, ended-setting, ended-stream, file_on, refused-agrees, refused-changes, refused-setting, refused-stays, refused-stream}
 use Rattle.cfb_volume.proofs.Emptying.{emptying-fits}
 use Rattle.cfb_volume.proofs.EmptyStreams.{sized-at-end}
@@ -73,6 +74,11 @@ returns-in_err-resize_content-clause-refused g c told held =
     (ap (λ (f : FileState). f.is_sound) c.self.view_is) (ap (λ (f : FileState). f.buffer_limit) c.self.view_is)
     (refused g c told) c.requires.unfailed)
 
+pub returns-in_err-resize_content-clause-in_memory : goal.returns-in_err-resize_content-clause-in_memory
+returns-in_err-resize_content-clause-in_memory g c =
+    let p = err_from_is_err_and c.from_residual.result c.from_residual.ensures.1 in
+    rw p.1 (still-in-memory c.self.inside.mini c.resize_content.new.mini c.self.inside.is_sound c.self.inside.buffer_limit c.args.self.now c.self.view_is c.in_err-resize_content.ensures.still)
+
 pub returns-in_err-resize_content-clause-err : goal.returns-in_err-resize_content-clause-err
 returns-in_err-resize_content-clause-err g c told held =
     let p = err_from_is_err_and c.from_residual.result c.from_residual.ensures.1 in
@@ -106,9 +112,9 @@ changed g c told =
     let ok = c.in_ok-resize_content.ensures in
     let s = c.self.inside.mini in
     let i = c.args.entry in
-    let at-end = λ (at : IsStreamOf s i) (all : EmptyStartAtEnd s). sized-at-end s c.resize_content.new.mini i c.args.len ok.len (λ same. ap entries_of (ok.none same).1) ok.trimmed (all i at) in
+    let at-end = λ (was : StartsAtEndIfEmpty s i). sized-at-end s c.resize_content.new.mini i c.args.len ok.len (λ same. ap entries_of (ok.none same).1) ok.trimmed was in
     subst (λ (f : FileState). IsStreamOf f.base c.args.entry → WentWell f.base c.resize_content.new.mini c.args.entry) c.self.view_is
-    (λ at. record { stream = at; moves = e.moves; spares = e.spares told; changed = ok.changed told; tight = ok.tight; at_end = at-end at }) c.requires.stream
+    (λ at. record { stream = at; moves = e.moves; spares = e.spares told; changed = ok.changed told; tight = ok.tight; at_end = at-end }) c.requires.stream
 
 pub returns-clause-len : goal.returns-clause-len
 returns-clause-len g c = ap (λ (s : MiniState). len_of s c.args.entry) c.end_change.ensures ∙ c.in_ok-resize_content.ensures.len
@@ -198,3 +204,13 @@ returns-in_err-resize_content-clause-emptied g c =
 pub returns-clause-emptied : goal.returns-clause-emptied
 returns-clause-emptied g c =
     emptied c.self.inside.mini c.args.self.now c.self.inside.buffer_limit c.self.inside.is_sound c.args.entry c.args.len c.self.view_is c.requires.sound c.minifat_len.ensures.short
+
+-- what it left of mini sectors is zeros
+pub returns-clause-erased : goal.returns-clause-erased
+returns-clause-erased g c told held =
+    let old = c.args.self.now in
+    let mid = c.resize_content.new.mini in
+    let i = c.args.entry in
+    let sound = subst (λ (f : FileState). IsChangeable Permissive f.base) (sym c.self.view_is) (held.sound c.requires.sound) in
+    subst (λ (m : MiniState). ErasesMinis old.base m i) (sym c.end_change.ensures)
+    (subst (λ (f : FileState). ErasesMinis f.base mid i) c.self.view_is ((c.in_ok-resize_content.ensures.content told).erased Permissive sound))

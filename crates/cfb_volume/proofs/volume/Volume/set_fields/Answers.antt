@@ -17,11 +17,12 @@ use Rattle.cfb_volume.specs.cfb_mini_sectors.State.{HoldsMini, MiniState, bytes_
 use Rattle.cfb_volume.specs.cfb_mini_sectors.Steps.{KeepsLimits, KeepsMini, StopsShort}
 use Rattle.cfb_volume.specs.cfb_content.Contents.{KeepsFixedHeader, len_of}
 use Rattle.cfb_volume.proofs.cfb_content.FixedHeader.{spared-keeps-header}
-use Rattle.cfb_agreement.specs.Changes.{KeepsStreams, StaysOrFails}
-use Rattle.cfb_agreement.specs.Files.{Agrees, FileState, Holds, IsAsMade}
+use Rattle.cfb_agreement.specs.Changes.{KeepsParts, KeepsStreams, StaysOrFails}
+use Rattle.cfb_agreement.specs.Files.{Agrees, FileState, Holds}
 use Rattle.cfb_entry_changes.specs.Kept.{AllStayBalanced, FindsTheSame}
+use Rattle.cfb_volume.proofs.InMemory.{in-memory}
 use Rattle.cfb_volume.proofs.InsertedObjects.{ended, header-ended, insert-keeps-streams, refused-agrees, refused-stays, same-file, streams-ended}
-use Rattle.cfb_volume.proofs.MarkedObjects.{WasMarked, mark-finds, mark-holds, mark-is-balanced, mark-keeps-root, mark-made, mark-refused, mark-tree, reached-valid}
+use Rattle.cfb_volume.proofs.MarkedObjects.{WasMarked, mark-finds, mark-holds, mark-is-balanced, mark-keeps-root, mark-parts, mark-refused, mark-tree, reached-valid}
 use Rattle.cfb_volume.proofs.volume.Volume.set_fields.Goals as goal
 use Rattle.cfb_volume.proofs.volume.Volume.set_fields.Goals.{In_ok-with_dir_entry_mut}
 
@@ -58,6 +59,15 @@ returns-in_err-with_dir_entry_mut-clause-refused g c told holds =
     rw p.1 (subst (λ (f : FileState). StaysOrFails c.args.self.now f)
     (same-file c.self.inside.mini mid mid c.self.inside.is_sound c.self.inside.buffer_limit c.args.self.now c.self.view_is refl)
     (refused-stays c.args.self.now mid c.in_err-with_dir_entry_mut.field-0.0 stops))
+
+pub returns-in_err-with_dir_entry_mut-clause-in_memory : goal.returns-in_err-with_dir_entry_mut-clause-in_memory
+returns-in_err-with_dir_entry_mut-clause-in_memory g c =
+    let mid = c.with_dir_entry_mut.new.self in
+    let p = err_from_is_err_and c.from_residual.result c.from_residual.ensures.1 in
+    let stops = subst (λ (f : FileState). StopsShort f.base mid c.in_err-with_dir_entry_mut.field-0.0) c.self.view_is c.in_err-with_dir_entry_mut.ensures.refused in
+    rw p.1 (in-memory c.args.self.now _ (subst (λ (f : FileState). StaysOrFails c.args.self.now f)
+    (same-file c.self.inside.mini mid mid c.self.inside.is_sound c.self.inside.buffer_limit c.args.self.now c.self.view_is refl)
+    (refused-stays c.args.self.now mid c.in_err-with_dir_entry_mut.field-0.0 stops)))
 
 pub returns-in_err-with_dir_entry_mut-clause-err : goal.returns-in_err-with_dir_entry_mut-clause-err
 returns-in_err-with_dir_entry_mut-clause-err g c told holds =
@@ -150,10 +160,10 @@ returns-clause-header g c told =
     subst (λ (s : MiniState). KeepsFixedHeader c.args.self.now.base s) (sym c.end_change.ensures) (header-ended c.args.self.now.base mid
     (subst (λ (f : FileState). KeepsFixedHeader f.base mid) c.self.view_is (spared-keeps-header _ c.self.inside.mini mid (c.with_dir_entry_mut.ensures.spares told))))
 
-pub returns-clause-made : goal.returns-clause-made
-returns-clause-made g c told holds made =
-    subst (λ (s : MiniState). IsAsMade s) (sym c.end_change.ensures)
-    (mark-made (marked g (goal.at.returns-clause-made g c).In_ok-with_dir_entry_mut) told made)
+pub returns-clause-parts : goal.returns-clause-parts
+returns-clause-parts g c told holds =
+    subst (λ (s : MiniState). KeepsParts c.args.self.now.base s) (sym c.end_change.ensures)
+    (mark-parts (marked g (goal.at.returns-clause-parts g c).In_ok-with_dir_entry_mut) told c.requires.sound holds)
 
 pub returns-clause-balanced : goal.returns-clause-balanced
 returns-clause-balanced g c =
@@ -174,3 +184,10 @@ returns-clause-agrees g c told holds unfailed =
 pub returns-clause-counts : goal.returns-clause-counts
 returns-clause-counts g c told =
     ap (λ (m : MiniState). (table_of m).file.failures) c.end_change.ensures ∙ c.in_ok-with_dir_entry_mut.ensures.counts told ∙ ap (λ (f : FileState). (table_of f.base).file.failures) c.self.view_is
+
+pub returns-in_err-with_dir_entry_mut-clause-minifat : goal.returns-in_err-with_dir_entry_mut-clause-minifat
+returns-in_err-with_dir_entry_mut-clause-minifat g c = c.with_dir_entry_mut.ensures.mini.minifat ∙ ap (λ (f : FileState). f.base.minifat) c.self.view_is
+
+pub returns-clause-minifat : goal.returns-clause-minifat
+returns-clause-minifat g c =
+    ap (λ (s : MiniState). s.minifat) c.end_change.ensures ∙ c.with_dir_entry_mut.ensures.mini.minifat ∙ ap (λ (f : FileState). f.base.minifat) c.self.view_is

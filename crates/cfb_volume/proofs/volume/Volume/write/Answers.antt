@@ -13,7 +13,8 @@ use Rattle.cfb_volume.specs.cfb_content.Contents.{IsNotChangeable, IsStreamOf, I
 use Rattle.cfb_volume.specs.cfb_resizing.Turning.{LeavesNoMinis}
 use Rattle.cfb_growing.specs.Putting.{ChangesFileAlone}
 use Rattle.cfb_agreement.specs.Changes.{ChangesOneContent}
-use Rattle.cfb_agreement.specs.Files.{EmptyStartAtEnd, FileState, Holds, SameSetting}
+use Rattle.cfb_agreement.specs.Files.{FileState, Holds, SameSetting, StartsAtEndIfEmpty, EmptyStartAtEnd}
+use Rattle.cfb_volume.proofs.InMemory.{still-in-memory}
 use Rattle.cfb_volume.proofs.ContentSteps.{WasRefused, WentWell, ended-changes, ended-entries, ended-holds, ended-same, ended-setting, ended-stream, file_on, refused-agrees, refused-changes, refused-setting, refused-stays, refused-stream}
 use Rattle.cfb_volume.proofs.EmptyStreams.{put-in-at-end}
 use Rattle.cfb_volume.proofs.Refusals.{why-full, write-break}
@@ -74,6 +75,11 @@ returns-in_err-count-clause-refused g c told held =
     (ap (λ (f : FileState). f.is_sound) c.self.view_is) (ap (λ (f : FileState). f.buffer_limit) c.self.view_is)
     (refused g c told) c.requires.unfailed)
 
+pub returns-in_err-count-clause-in_memory : goal.returns-in_err-count-clause-in_memory
+returns-in_err-count-clause-in_memory g c =
+    let p = err_from_is_err_and c.from_residual.result c.from_residual.ensures.1 in
+    rw p.1 (still-in-memory c.self.inside.mini c.put_content.new.mini c.self.inside.is_sound c.self.inside.buffer_limit c.args.self.now c.self.view_is c.in_err-count.ensures.still)
+
 pub returns-in_err-count-clause-err : goal.returns-in_err-count-clause-err
 returns-in_err-count-clause-err g c told held =
     let p = err_from_is_err_and c.from_residual.result c.from_residual.ensures.1 in
@@ -109,9 +115,9 @@ changed g c told =
     let s = c.self.inside.mini in
     let i = c.args.entry in
     let longer : 0 < length c.args.bytes.now → 0 < len_of c.put_content.new.mini i = λ more. let len = ok.len in let some = ok.some more in omega (arith, len, some) in
-    let at-end = λ (at : IsStreamOf s i) (all : EmptyStartAtEnd s). put-in-at-end s c.put_content.new.mini i (length c.args.bytes.now) longer (λ none. ap entries_of (e.within (inr none))) (all i at) in
+    let at-end = λ (was : StartsAtEndIfEmpty s i). put-in-at-end s c.put_content.new.mini i (length c.args.bytes.now) longer (λ none. ap entries_of (e.within (inr none))) was in
     subst (λ (f : FileState). IsStreamOf f.base c.args.entry → WentWell f.base c.put_content.new.mini c.args.entry) c.self.view_is
-    (λ at. record { stream = at; moves = e.moves; spares = e.spares told; changed = ok.changed told; tight = ok.tight; at_end = at-end at }) c.requires.stream
+    (λ at. record { stream = at; moves = e.moves; spares = e.spares told; changed = ok.changed told; tight = ok.tight; at_end = at-end }) c.requires.stream
 
 pub returns-clause-stream : goal.returns-clause-stream
 returns-clause-stream g c =

@@ -1,0 +1,41 @@
+use Rattle.std.proofs.Common.{◌≡◌, ◌∙◌, ℕ, List, inl, inr, refl, subst, sym}
+use Rattle.std.specs.Prelude.{Result, Ok, OnOk}
+use Rattle.cfb_mini_sectors.specs.State.{bytes_of}
+use Rattle.cfb_journal.specs.Sound.{IsAllOrNothing}
+use Rattle.cfb_promise.proofs.Worked.{given_back}
+use Rattle.cfb_journaled.proofs.running.run_whole.Goals as goal
+
+-- what holds at `Ok` holds where it is that
+at-ok : {T E P : Type 0} (r : Result T E) (x : T) → r ≡ Ok x → OnOk r P → P
+at-ok {T} {E} {P} r x is holds = subst (λ (s : Result T E). OnOk s P) is holds
+
+pub returns-then-is_failed-clause-whole : goal.returns-then-is_failed-clause-whole
+returns-then-is_failed-clause-whole g c = λ tells cases version first opens. inr (c.roll_back.ensures.taken_back tells)
+
+pub returns-in-Ok-clause-whole : goal.returns-in-Ok-clause-whole
+returns-in-Ok-clause-whole g c = λ tells cases version first opens.
+    let calm = sym c.is_failed-is_failed-2.ensures.value ∙ c.if-is_failed.false in
+    let order = c.run.ensures.order tells in
+    let same = c.into_inner-transaction.ensures.bytes in
+    record {
+      ends = record {
+        bytes = bytes_of c.run.new.file.base;
+        given = given_back cases version _ c.args.file first opens (c.is_failed-is_failed.ensures.agrees tells) c.run.new.file _ _ (c.run.ensures.runs tells) order
+            (bytes_of c.run.new.file.base) calm refl (c.into_inner-transaction.ensures.reopens tells calm (order.setting.is_sound ∙ opens.counts));
+        whole = subst (λ (b : List ℕ). IsAllOrNothing g.D.Disk.opened b (g.D.Disk.view c.commit-done.result.1)) same (c.commit-done.ensures.all_or_nothing tells);
+      };
+      on_disk = at-ok c.commit-done.result.0 c.in-Ok.field-0 c.in-Ok.is (c.commit-done.ensures.committed tells) ∙ same;
+      quiet = at-ok c.commit-done.result.0 c.in-Ok.field-0 c.in-Ok.is (c.commit-done.ensures.durable tells);
+    }
+
+pub returns-in-Err-clause-whole : goal.returns-in-Err-clause-whole
+returns-in-Err-clause-whole g c = λ tells cases version first opens.
+    let calm = sym c.is_failed-is_failed-2.ensures.value ∙ c.if-is_failed.false in
+    let order = c.run.ensures.order tells in
+    let same = c.into_inner-transaction.ensures.bytes in
+    inl (record {
+      bytes = bytes_of c.run.new.file.base;
+      given = given_back cases version _ c.args.file first opens (c.is_failed-is_failed.ensures.agrees tells) c.run.new.file _ _ (c.run.ensures.runs tells) order
+          (bytes_of c.run.new.file.base) calm refl (c.into_inner-transaction.ensures.reopens tells calm (order.setting.is_sound ∙ opens.counts));
+      whole = subst (λ (b : List ℕ). IsAllOrNothing g.D.Disk.opened b (g.D.Disk.view c.commit-done.result.1)) same (c.commit-done.ensures.all_or_nothing tells);
+    })
