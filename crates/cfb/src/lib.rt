@@ -30,7 +30,7 @@ pub use cfb_compound_file::salvaging::{Extent, Salvaged};
 pub use cfb_compound_file::stream::Stream;
 pub use cfb_files::file::{FileMedium, FileReadMedium};
 pub use cfb_files::locking;
-pub use cfb_files_opening::{create, create_as, open, open_journaled, open_rw};
+pub use cfb_files_opening::{create, create_as, open, open_journaled, open_rw, seeded_options};
 pub use cfb_format::error::{Detail, Error};
 pub use cfb_format::medium::{Medium, MediumFault, ReadMedium};
 pub use cfb_format::memory::MemoryMedium;

@@ -40,7 +40,7 @@ pub fn open<R: Files<File = File> + RandomSource, A: Heap + Clone>(
     ensures kinds { IfErr result IsOfOpening }
 {
     let medium = FileReadMedium::open(rt, path)?;
-    seeded(rt).open_with(alloc, medium)
+    seeded_options(rt).open_with(alloc, medium)
 }
 
 /// Opens the compound file at this path of the system, to be read and changed in place. The file is locked as long as it is open
@@ -59,7 +59,7 @@ pub fn open_rw<R: Files<File = File> + RandomSource, A: Heap + Clone>(
     ensures kinds { IfErr result IsOfOpening }
 {
     let medium = FileMedium::open(rt, path)?;
-    seeded(rt).open_with(alloc, medium)
+    seeded_options(rt).open_with(alloc, medium)
 }
 
 /// Makes a compound file of version 4 with nothing in it at this path of the system. An older file there is emptied first. The file is
@@ -80,7 +80,7 @@ pub fn create<R: Files<File = File> + RandomSource, A: Heap + Clone>(
     ensures kinds { IfErr result IsOfCreating }
 {
     let medium = FileMedium::create(rt, path)?;
-    seeded(rt).create_with(alloc, medium)
+    seeded_options(rt).create_with(alloc, medium)
 }
 
 /// Makes a compound file of this version with nothing in it at this path of the system, as `create` does one of version 4.
@@ -100,7 +100,7 @@ pub fn create_as<R: Files<File = File> + RandomSource, A: Heap + Clone>(
     ensures kinds { IfErr result IsOfCreating }
 {
     let medium = FileMedium::create(rt, path)?;
-    seeded(rt).create_as(alloc, version, medium)
+    seeded_options(rt).create_as(alloc, version, medium)
 }
 
 /// Opens the compound file at this path of the system, to be read and changed as a whole or not at all: what is changed between two calls of
@@ -128,7 +128,7 @@ pub fn open_journaled<'a, R: Files<File = File> + RandomSource>(
         return Err(Error::Medium(MediumFault::Open));
     };
     match JournaledMedium::open(alloc, disk) {
-        Ok(medium) => seeded(rt).open_with(alloc, medium),
+        Ok(medium) => seeded_options(rt).open_with(alloc, medium),
         Err(RecoveryError::Medium(fault)) => Err(Error::Medium(fault)),
         Err(RecoveryError::Damaged) => Err(Error::InvalidData(Detail::text(
             "the journal beside the file is damaged",
@@ -136,8 +136,9 @@ pub fn open_journaled<'a, R: Files<File = File> + RandomSource>(
     }
 }
 
-/// The options that nobody has changed, with a number that nobody knows.
-fn seeded<R: RandomSource, A: Heap>(rt: &R) -> OpenOptions<A>
+/// The options that nobody has changed, with a seed from the system that nobody knows, or 0 where the system gives none: names can't be
+/// chosen to make a file's indexes slow. The calls by path take these; they are there for files on other media.
+pub fn seeded_options<R: RandomSource, A: Heap>(rt: &R) -> OpenOptions<A>
     ensures { result ≡ permissive_options }
 {
     OpenOptions::new().seed(seed_of(rt))

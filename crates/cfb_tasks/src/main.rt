@@ -32,15 +32,12 @@ fn write_stream<F: Medium>(file: &mut CompoundFile<F>, path: &str, bytes: &[u8])
 
 /// Copies a stream from one file to another at the same path.
 fn copy_stream<F: ReadMedium, G: Medium>(
+    alloc: Global,
     from: &mut CompoundFile<F>,
     to: &mut CompoundFile<G>,
     path: &str,
 ) -> io::Result<u64> {
-    let mut source = from.open_read_stream(path)?;
-    let mut target = to.create_stream(path)?;
-    let copied = io::copy(&mut source, &mut target);
-    target.close()?;
-    copied
+    Ok(cfb::copy_stream(alloc, from, path, to, path)?)
 }
 
 /// Prints path, class id, state bits and moment of each object.
@@ -96,7 +93,7 @@ fn all(rt: &HostRuntime) -> io::Result<()> {
     println!(rt; "{}", bytes.len())?;
     let mut to = cfb::create(rt, rt.alloc(), "u3.cfb")?;
     to.create_storage("/s", Timestamp::zero())?;
-    println!(rt; "{}", copy_stream(&mut file, &mut to, "/s/x")?)?;
+    println!(rt; "{}", copy_stream(rt.alloc(), &mut file, &mut to, "/s/x")?)?;
     let whole = std::fs::read(rt, path)?;
     let mut mem = from_bytes(rt.alloc(), &whole)?;
     println!(rt;

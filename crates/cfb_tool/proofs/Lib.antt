@@ -1,5 +1,6 @@
 pub use Rattle.cfb_commands.proofs.cfb_volume
 pub use Rattle.cfb_commands.proofs.cfb_agreement
+pub use Rattle.cfb_commands.proofs.cfb_path_changes
 pub use Rattle.cfb_commands.proofs.cfb_compound_file
 pub mod Lines
 pub mod Listed
@@ -9,6 +10,7 @@ pub mod Runs
 pub mod Explained
 pub mod Pieces
 pub mod Stored
+pub mod FoundCuts
 pub mod Digits
 pub mod Reached
 pub mod Dumped

@@ -5,10 +5,12 @@ pub use Rattle.cfb_commands.specs.cfb_stream_window
 pub use Rattle.cfb_commands.specs.cfb_agreement
 pub use Rattle.cfb_commands.specs.cfb_path_changes
 pub use Rattle.cfb_commands.specs.cfb_compound_file
+pub use Rattle.cfb_commands.specs.cfb_compound_file.cfb_volume
 pub mod Word
 pub mod Asking
 pub mod Listing
 pub mod Details
+pub mod Cuts
 pub mod Playing
 pub mod Sending
 pub mod Dumping

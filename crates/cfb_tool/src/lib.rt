@@ -2,6 +2,7 @@
 #![tactic(auto)]
 
 pub mod asking;
+pub mod cuts;
 pub mod details;
 pub mod dump_error;
 pub mod dumping;

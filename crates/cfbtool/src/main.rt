@@ -8,6 +8,7 @@ mod lent;
 mod output;
 mod refusal;
 mod shown;
+mod system;
 #[cfg(test)]
 mod tests;
 mod words;
@@ -16,6 +17,7 @@ use descriptors::hold_standard;
 pub use output::Output;
 use std::env;
 use std::process::ExitCode;
+pub use system::System;
 pub use words::tool;
 
 fn main(rt: HostRuntime) -> ExitCode {

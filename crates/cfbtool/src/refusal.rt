@@ -3,6 +3,7 @@ use crate::output::Output;
 use crate::shown::Shown;
 use cfb::{Error, MediumFault};
 use cfb_tool::asking::Asked;
+use cfb_tool::cuts::Extent;
 use cfb_tool::word::Word;
 use std::alloc::{AllocError, AllocFailed};
 use std::io;
@@ -34,6 +35,8 @@ pub(crate) enum Refusal {
     Busy,
     /// What was to be shown on a terminal is no text.
     NotText,
+    /// Of the stream at PATH only so much can be read.
+    NotWhole(Extent),
 }
 
 /// Where the system refuses a call.
@@ -225,6 +228,9 @@ pub(crate) fn tell<E: Output>(refusal: Refusal, about: About<'_>, faults: &mut E
             )
         }
         Refusal::Busy => writeln!(faults, "cfbtool: {file}: another program is changing it"),
+        Refusal::NotWhole(extent) => {
+            tell_cut(about.file, about.path.unwrap_or(""), extent, faults)
+        }
         Refusal::NotText => {
             let path = Shown(about.path.unwrap_or(""));
             writeln!(
@@ -243,6 +249,21 @@ pub(crate) fn tell_system<E: Output>(
 ) -> io::Result<()> {
     let name = Shown(name);
     writeln!(faults, "cfbtool: medium failed: {name}: {reason}")
+}
+
+/// Writes the line on a stream that can't be read to its end.
+pub(crate) fn tell_cut<E: Output>(
+    file: &str,
+    path: &str,
+    extent: Extent,
+    faults: &mut E,
+) -> io::Result<()> {
+    let (file, path) = (Shown(file), Shown(path));
+    let Extent { readable, len } = extent;
+    writeln!(
+        faults,
+        "cfbtool: {file}: {path}: {readable} of {len} bytes can be read"
+    )
 }
 
 /// Writes the line on an object of FILE at which the file refused so.

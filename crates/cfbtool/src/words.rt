@@ -2,6 +2,7 @@
 use crate::help::{HELP, VERSION, help_on};
 use crate::output::Output;
 use crate::refusal::{About, Refusal, tell, tell_wrong};
+use crate::system::System;
 use cfb_tool::asking::{Asked, asked_by};
 use cfb_tool::word::{Word, word_by};
 use changes::{change_one, put_from, put_input, run_explained, run_input};
@@ -12,10 +13,8 @@ use files::{create, is_there};
 use info::info;
 use looks::look;
 use salvage::salvage;
-use std::fs::File;
 use std::io::{Read, Write};
 use std::process::ExitCode;
-use std::rt::Files;
 
 mod changes;
 mod compact;
@@ -56,7 +55,7 @@ mod tree;
 /// - `salvage FILE NEW`: what can be read of a damaged file, or of one that was cut short, in a new
 ///   file, and on `out` what is not whole; the status is 1 then.
 /// - `help`, `--help`, `-h`, `help WORD`, `WORD --help`, `--version`: what the words are.
-pub fn tool<H: Files<File = File> + AllocGlobal, R: Read, W: Output, E: Output>(
+pub fn tool<H: System, R: Read, W: Output, E: Output>(
     rt: &H,
     words: &[String],
     input: &mut R,
@@ -85,7 +84,7 @@ fn word_in(words: &[String]) -> Option<Word> {
     }
 }
 
-fn answer<H: Files<File = File> + AllocGlobal, R: Read, W: Output, E: Output>(
+fn answer<H: System, R: Read, W: Output, E: Output>(
     rt: &H,
     asked: Asked<'_>,
     input: &mut R,
@@ -107,7 +106,7 @@ fn answer<H: Files<File = File> + AllocGlobal, R: Read, W: Output, E: Output>(
         }
         Asked::Run(path) => run_input(rt, path, input, out),
         Asked::RunExplained(path) => run_explained(rt, path, input, out, faults),
-        Asked::Compact(path, target) => compact(rt, path, target),
+        Asked::Compact(..) => compact(rt, About::of(asked), faults),
         Asked::Salvage(path, target) => salvage(rt, path, target, out),
         Asked::Info(path) => info(rt, path, out),
         Asked::Dump(path) => dump(rt, path, out, faults),

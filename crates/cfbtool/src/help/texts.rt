@@ -82,7 +82,8 @@ newlines.
 Example: cfbtool cat a.cfb /docs/note
 hello
 
-Fails if no stream is at PATH, or it cannot be read whole.
+Fails if no stream is at PATH, or it cannot be read whole: it says how many of
+its bytes can be read.
 ";
 
 pub(super) const EXTRACT: &str = "cfbtool extract FILE [PATH] DIR
@@ -283,7 +284,8 @@ FILE is only read.
 Example: cfbtool compact a.cfb b.cfb && cfbtool check b.cfb strict
 version 3 sound
 
-Fails if NEW is there, or a stream cannot be read whole.
+Fails if NEW is there, or a stream cannot be read whole: it says which one, and
+how many of its bytes can be read. NEW is not there then.
 ";
 
 pub(super) const SALVAGE: &str = "cfbtool salvage FILE NEW

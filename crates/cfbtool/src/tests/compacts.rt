@@ -1,5 +1,5 @@
 //! Copies made by the program's words.
-use super::Step::{self, At, Content, Damage, Len, Longer, Note, Runs, Stays};
+use super::Step::{self, Absent, At, Content, Damage, Len, Longer, Note, Runs, Stays};
 use super::play;
 use super::runs::{CONTENT, NEW_WITH_CONTENT, Run, TARGET_EXISTS};
 use std::test::Fail;
@@ -51,6 +51,34 @@ static COMPACTED: &[Step<'static>] = &[
     Runs(COPY), At("@g"), Len(5632), Note, Longer(7), Runs(COPIED), Stays,
     Content(4095), Runs(ONE_LESS), At("@h"), Len(6144),
 ];
+
+/// Two streams of 5000 bytes, the second of which ends the file.
+#[rattlefmt::skip]
+const WITH_STORAGE: &[Run<'static>] = &[
+    (&["create", "3", "@f"], b"", 0, b"", b""),
+    (&["mkdir", "@f", "/s"], b"", 0, b"", b""),
+    (&["put", "@f", "/a"], CONTENT, 0, b"", b""),
+    (&["put", "@f", "/s/\\u0005b"], CONTENT, 0, b"", b""),
+];
+
+#[rattlefmt::skip]
+const NOT_COPIED: &[Run<'static>] = &[
+    (&["cat", "@f", "/a"], b"", 0, CONTENT, b""),
+    (&["cat", "@f", "/S/\\u0005b"], b"", 1, b"", b"cfbtool: @f: /S/\\u0005b: 4944 of 5000 bytes can be read\n"),
+    (&["compact", "@f", "@g"], b"", 1, b"", b"cfbtool: @f: /s/\\u0005b: 4944 of 5000 bytes can be read\n"),
+];
+
+#[rattlefmt::skip]
+static CUT: &[Step<'static>] = &[
+    Content(5000), Runs(WITH_STORAGE), Len(11776), Damage(&[], 11600), Note, Runs(NOT_COPIED), Stays,
+    At("@g"), Absent,
+];
+
+/// The stream that is not whole is named, and nothing stays at the target.
+#[test]
+fn streams_that_are_not_whole_are_not_copied(rt: HostRuntime) -> Result<(), Fail> {
+    play(&rt, CUT)
+}
 
 /// A copy has the sectors that its streams need and no others; what is there is not written over.
 #[test]

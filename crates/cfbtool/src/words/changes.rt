@@ -9,6 +9,7 @@ use super::print;
 use crate::lent::Lent;
 use crate::output::Output;
 use crate::refusal::Refusal;
+use crate::system::System;
 use cfb::{Command, Error, Medium};
 use cfb_journal::disk::Disk;
 use cfb_journal_file::lent::LentDisk;
@@ -16,9 +17,7 @@ use cfb_text::meant::meant;
 use cfb_tool::explaining::play_explained;
 use std::alloc::Global;
 use std::fs;
-use std::fs::File;
 use std::io::{Read, Write};
-use std::rt::Files;
 
 /// All of standard input. `Medium`, `Memory`.
 pub(super) fn read_input<R: Read>(alloc: Global, input: &mut R) -> Result<Vec<u8>, Refusal> {
@@ -30,7 +29,7 @@ pub(super) fn read_input<R: Read>(alloc: Global, input: &mut R) -> Result<Vec<u8
 }
 
 /// `put` without FROM.
-pub(super) fn put_input<H: Files<File = File> + AllocGlobal, R: Read>(
+pub(super) fn put_input<H: System, R: Read>(
     rt: &H,
     path: &str,
     stream: &str,
@@ -41,7 +40,7 @@ pub(super) fn put_input<H: Files<File = File> + AllocGlobal, R: Read>(
 }
 
 /// `put` with FROM.
-pub(super) fn put_from<H: Files<File = File> + AllocGlobal>(
+pub(super) fn put_from<H: System>(
     rt: &H,
     path: &str,
     stream: &str,
@@ -53,38 +52,33 @@ pub(super) fn put_from<H: Files<File = File> + AllocGlobal>(
     }
 }
 
-fn put_bytes<H: Files<File = File> + AllocGlobal>(
-    rt: &H,
-    path: &str,
-    stream: &str,
-    bytes: &[u8],
-) -> Result<(), Refusal> {
+fn put_bytes<H: System>(rt: &H, path: &str, stream: &str, bytes: &[u8]) -> Result<(), Refusal> {
     let object = meant(rt.alloc(), stream)?;
     let mut disk = to_change(rt, path)?;
-    let done = put_whole(rt.alloc(), LentDisk(&mut disk), object.as_str(), bytes);
+    let done = put_whole(rt, LentDisk(&mut disk), object.as_str(), bytes);
     ended(rt.alloc(), disk, done)
 }
 
-fn put_whole<D: Disk>(alloc: Global, disk: D, stream: &str, bytes: &[u8]) -> Result<(), Refusal>
+fn put_whole<H: System, D: Disk>(rt: &H, disk: D, stream: &str, bytes: &[u8]) -> Result<(), Refusal>
     requires opened { IsTrue D.tells → IsOpened D.opened (D.view disk) }
 {
-    let mut medium = begun(alloc, disk)?;
-    put_into(alloc, Lent(&mut medium), stream, bytes)?;
+    let mut medium = begun(rt.alloc(), disk)?;
+    put_into(rt, Lent(&mut medium), stream, bytes)?;
     committed(medium)
 }
 
-fn put_into<F: Medium>(
-    alloc: Global,
+fn put_into<H: System, F: Medium>(
+    rt: &H,
     medium: F,
     stream: &str,
     bytes: &[u8],
 ) -> Result<(), Refusal> {
-    let mut file = opened(alloc, medium)?;
+    let mut file = opened(rt, medium)?;
     cfb::write_stream(&mut file, stream, bytes).map_err(Refusal::Of)
 }
 
 /// One change.
-pub(super) fn change_one<H: Files<File = File> + AllocGlobal, R: Read>(
+pub(super) fn change_one<H: System, R: Read>(
     rt: &H,
     path: &str,
     one: One<'_>,
@@ -99,7 +93,7 @@ pub(super) fn change_one<H: Files<File = File> + AllocGlobal, R: Read>(
 }
 
 /// `run`.
-pub(super) fn run_input<H: Files<File = File> + AllocGlobal, R: Read, W: Write>(
+pub(super) fn run_input<H: System, R: Read, W: Write>(
     rt: &H,
     path: &str,
     input: &mut R,
@@ -112,7 +106,7 @@ pub(super) fn run_input<H: Files<File = File> + AllocGlobal, R: Read, W: Write>(
 }
 
 /// `run -e`.
-pub(super) fn run_explained<H: Files<File = File> + AllocGlobal, R: Read, W: Output, E: Output>(
+pub(super) fn run_explained<H: System, R: Read, W: Output, E: Output>(
     rt: &H,
     path: &str,
     input: &mut R,
@@ -137,17 +131,13 @@ struct Told {
     is_done: bool,
 }
 
-fn run_commands<H: Files<File = File> + AllocGlobal>(
-    rt: &H,
-    path: &str,
-    commands: &[Command],
-) -> Result<Told, Refusal> {
+fn run_commands<H: System>(rt: &H, path: &str, commands: &[Command]) -> Result<Told, Refusal> {
     let mut lines = room_for_lines(rt.alloc(), commands.len())?;
     let mut refusals = Vec::with_capacity(rt.alloc(), commands.len())?;
     let mut disk = to_change(rt, path)?;
     let mut is_done = false;
     let done = play_whole(
-        rt.alloc(),
+        rt,
         LentDisk(&mut disk),
         commands,
         (&mut lines, &mut refusals, &mut is_done),
@@ -162,8 +152,8 @@ fn run_commands<H: Files<File = File> + AllocGlobal>(
 
 /// Plays the commands, and makes their changes on the disk, unless one of them left the file failed:
 /// then there is no change at all.
-fn play_whole<D: Disk>(
-    alloc: Global,
+fn play_whole<H: System, D: Disk>(
+    rt: &H,
     disk: D,
     commands: &[Command],
     told: (&mut Vec<u8>, &mut Vec<(usize, Error)>, &mut bool),
@@ -174,13 +164,13 @@ fn play_whole<D: Disk>(
     requires empty { told.old.1.items ≡ [] }
 {
     let (lines, refusals, is_done) = told;
-    let mut medium = begun(alloc, disk)?;
-    *is_done = play_in(alloc, Lent(&mut medium), commands, lines, refusals)?;
+    let mut medium = begun(rt.alloc(), disk)?;
+    *is_done = play_in(rt, Lent(&mut medium), commands, lines, refusals)?;
     committed(medium)
 }
 
-fn play_in<F: Medium>(
-    alloc: Global,
+fn play_in<H: System, F: Medium>(
+    rt: &H,
     medium: F,
     commands: &[Command],
     lines: &mut Vec<u8>,
@@ -190,8 +180,8 @@ fn play_in<F: Medium>(
     requires kept { length commands.now ≤ vec_capacity refusals.old }
     requires empty { refusals.old.items ≡ [] }
 {
-    let mut file = opened(alloc, medium)?;
-    let is_done = play_explained(&alloc, &mut file, commands, lines, refusals)?;
+    let mut file = opened(rt, medium)?;
+    let is_done = play_explained(&rt.alloc(), &mut file, commands, lines, refusals)?;
     if file.is_failed() {
         return Err(Refusal::Of(why_failed(refusals.as_slice())));
     }

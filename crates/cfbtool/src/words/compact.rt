@@ -3,43 +3,81 @@ ghost use Rattle.std.specs.Prelude.{◌≡◌, [], IsTrue};
 
 use super::files::{is_there, opened, to_make, to_read};
 use crate::lent::Lent;
-use crate::refusal::Refusal;
-use cfb::{CompoundFile, Error, Medium, ReadMedium};
-use std::fs::File;
-use std::rt::Files;
+use crate::output::Output;
+use crate::refusal::{About, Refusal, tell_cut};
+use crate::system::System;
+use cfb::{CompoundFile, Error, FileMedium, Medium, ReadMedium};
+use cfb_tool::cuts::{cut_of, stream_by_entry};
+use std::alloc::Global;
+use std::fs;
 
-/// `compact`. Something at the target is found before the file is opened.
-pub(super) fn compact<H: Files<File = File> + AllocGlobal>(
+/// `compact`. Something at the target is found before the file is opened, and where nothing comes of it
+/// nothing stays there.
+pub(super) fn compact<H: System, E: Output>(
     rt: &H,
-    path: &str,
-    target: &str,
+    about: About<'_>,
+    faults: &mut E,
 ) -> Result<(), Refusal> {
-    if is_there(rt, target) {
+    if is_there(rt, about.other.unwrap_or("")) {
         return Err(Refusal::TargetExists);
     }
-    let mut medium = to_read(rt, path)?;
-    let done = copy_to(rt, Lent(&mut medium), target);
+    let mut medium = to_read(rt, about.file)?;
+    let done = copy_to(rt, Lent(&mut medium), about, faults);
     done.map_err(|refusal| refusal.because(medium.last_error()))
 }
 
-/// Copies the file into one with this path.
-fn copy_to<H: Files<File = File> + AllocGlobal, F: ReadMedium>(
+/// Copies the file into the other one that was named.
+fn copy_to<H: System, F: ReadMedium, E: Output>(
     rt: &H,
     medium: F,
-    target: &str,
+    about: About<'_>,
+    faults: &mut E,
 ) -> Result<(), Refusal> {
-    let mut file = opened(rt.alloc(), medium)?;
-    let mut made = to_make(rt, target)?;
-    let copied = copy_into(&mut file, Lent(&mut made));
+    let mut file = opened(rt, medium)?;
+    let target = about.other.unwrap_or("");
+    let made = to_make(rt, target)?;
+    let copied = copy_in(rt.alloc(), &mut file, made, about.file, faults);
+    if copied.is_err() {
+        let _ = fs::remove_file(rt, target);
+    }
+    copied
+}
+
+/// Copies the file into one without bytes.
+fn copy_in<F: ReadMedium, E: Output>(
+    alloc: Global,
+    file: &mut CompoundFile<F>,
+    mut made: FileMedium,
+    name: &str,
+    faults: &mut E,
+) -> Result<(), Refusal> {
+    let copied = copy_into(file, Lent(&mut made));
     match (copied, made.last_error()) {
-        (Err(Refusal::Of(Error::Medium(_))), Some(e)) => Err(Refusal::of_other_system(e)),
-        (copied, _) => copied,
+        (Err(Error::Medium(_)), Some(e)) => Err(Refusal::of_other_system(e)),
+        (Err(Error::InvalidData(detail)), _) => {
+            let told = tell_not_whole(alloc, file, name, faults);
+            Err(told.unwrap_or(Refusal::Of(Error::InvalidData(detail))))
+        }
+        (copied, _) => copied.map_err(Refusal::Of),
     }
 }
 
-fn copy_into<F: ReadMedium, T: Medium>(file: &mut CompoundFile<F>, medium: T) -> Result<(), Refusal>
+fn copy_into<F: ReadMedium, T: Medium>(file: &mut CompoundFile<F>, medium: T) -> Result<(), Error>
     requires empty_medium { IsTrue T.tells → T.bytes medium ≡ [] }
 {
     let _copy = file.copy_to(medium)?;
     Ok(())
+}
+
+/// Tells of a stream that can't be read to its end, if one is found.
+fn tell_not_whole<F: ReadMedium, E: Output>(
+    alloc: Global,
+    file: &CompoundFile<F>,
+    name: &str,
+    faults: &mut E,
+) -> Option<Refusal> {
+    let cut = cut_of(&alloc, file).ok()??;
+    let entry = stream_by_entry(&alloc, file, cut.stream).ok()??;
+    let _ = tell_cut(name, entry.path(), cut.extent, faults);
+    Some(Refusal::Told)
 }

@@ -3,35 +3,33 @@ use super::files::{opened, to_read};
 use crate::lent::Lent;
 use crate::output::Output;
 use crate::refusal::{Refusal, tell_object};
+use crate::system::System;
 use cfb::{Error, ReadMedium};
 use cfb_tool::dump_error::DumpError;
 use cfb_tool::dumping;
-use std::alloc::Global;
-use std::fs::File;
-use std::rt::Files;
 
 /// `dump`. Lines go out as the file is read, so some are printed where a stream is refused later.
-pub(super) fn dump<H: Files<File = File> + AllocGlobal, W: Output, E: Output>(
+pub(super) fn dump<H: System, W: Output, E: Output>(
     rt: &H,
     path: &str,
     out: &mut W,
     faults: &mut E,
 ) -> Result<(), Refusal> {
     let mut medium = to_read(rt, path)?;
-    let done = dump_from(rt.alloc(), Lent(&mut medium), path, out, faults);
+    let done = dump_from(rt, Lent(&mut medium), path, out, faults);
     done.map_err(|refusal| refusal.because(medium.last_error()))
 }
 
 /// Opens the file in the medium, and prints the lines that make its tree.
-fn dump_from<F: ReadMedium, W: Output, E: Output>(
-    alloc: Global,
+fn dump_from<H: System, F: ReadMedium, W: Output, E: Output>(
+    rt: &H,
     medium: F,
     name: &str,
     out: &mut W,
     faults: &mut E,
 ) -> Result<(), Refusal> {
-    let mut file = opened(alloc, medium)?;
-    match dumping::dump(&alloc, &mut file, out) {
+    let mut file = opened(rt, medium)?;
+    match dumping::dump(&rt.alloc(), &mut file, out) {
         Ok(()) => out.flush().map_err(Refusal::of_output),
         Err(DumpError::File(e)) => Err(Refusal::Of(e)),
         Err(DumpError::Object(e, path)) => Err(tell_refused(name, path.as_str(), e, faults)),

@@ -4,6 +4,7 @@ use crate::lent::Lent;
 use crate::output::Output;
 use crate::refusal::{About, Refusal, tell_system};
 use crate::shown::Shown;
+use crate::system::System;
 use cfb::{CompoundFile, Error, ReadMedium};
 use cfb_extract::cut::Cut;
 use cfb_extract::error::ExtractError;
@@ -12,12 +13,10 @@ use cfb_extract::folder::FolderFault;
 use cfb_extract::system::SystemFolder;
 use cfb_text::meant::meant;
 use std::alloc::Global;
-use std::fs::File;
 use std::io::ErrorKind;
-use std::rt::Files;
 
 /// `extract`. Something at the folder's path was looked for before.
-pub(super) fn extract_to<H: Files<File = File> + AllocGlobal, E: Output>(
+pub(super) fn extract_to<H: System, E: Output>(
     rt: &H,
     about: About<'_>,
     faults: &mut E,
@@ -28,13 +27,13 @@ pub(super) fn extract_to<H: Files<File = File> + AllocGlobal, E: Output>(
 }
 
 /// Opens the file in the medium, and puts its streams into the folder.
-fn extract_from<H: Files<File = File> + AllocGlobal, F: ReadMedium, E: Output>(
+fn extract_from<H: System, F: ReadMedium, E: Output>(
     rt: &H,
     medium: F,
     about: About<'_>,
     faults: &mut E,
 ) -> Result<(), Refusal> {
-    let mut file = opened(rt.alloc(), medium)?;
+    let mut file = opened(rt, medium)?;
     match about.path {
         Some(given) => {
             let path = meant(rt.alloc(), given)?;
@@ -46,7 +45,7 @@ fn extract_from<H: Files<File = File> + AllocGlobal, F: ReadMedium, E: Output>(
 
 /// Puts all streams, or those from the object at this path on, into a new folder. A stream that is not
 /// whole is told on `faults`.
-fn extract<H: Files<File = File> + AllocGlobal, F: ReadMedium, E: Output>(
+fn extract<H: System, F: ReadMedium, E: Output>(
     rt: &H,
     file: &mut CompoundFile<F>,
     at: Option<&str>,
@@ -72,10 +71,7 @@ fn extract<H: Files<File = File> + AllocGlobal, F: ReadMedium, E: Output>(
 }
 
 /// The new folder of this path.
-fn new_folder<'a, H: Files<File = File> + AllocGlobal>(
-    rt: &'a H,
-    path: &str,
-) -> Result<SystemFolder<'a, H>, Refusal> {
+fn new_folder<'a, H: System>(rt: &'a H, path: &str) -> Result<SystemFolder<'a, H>, Refusal> {
     match SystemFolder::create(rt, rt.alloc(), path) {
         Ok(folder) => Ok(folder),
         Err(e) if e.kind() == ErrorKind::AlreadyExists => Err(Refusal::TargetExists),

@@ -4,8 +4,10 @@ ghost use Rattle.cfb_journal.specs.Disk.{IsOpened};
 
 use crate::lent::Lent;
 use crate::refusal::Refusal;
+use crate::system::System;
 use cfb::{
     CompoundFile, Error, FileMedium, FileReadMedium, Medium, MediumFault, ReadMedium, Version,
+    seeded_options,
 };
 use cfb_files::locking;
 use cfb_journal::disk::Disk;
@@ -21,10 +23,7 @@ use std::rt::Files;
 use std::{fs, io};
 
 /// FILE, to be read. A change that was interrupted is ended first.
-pub(super) fn to_read<H: Files<File = File> + AllocGlobal>(
-    rt: &H,
-    path: &str,
-) -> Result<FileReadMedium, Refusal> {
+pub(super) fn to_read<H: System>(rt: &H, path: &str) -> Result<FileReadMedium, Refusal> {
     match no_folder(rt, path) {
         Ok(file) => {
             recover_at(rt, path)?;
@@ -36,7 +35,7 @@ pub(super) fn to_read<H: Files<File = File> + AllocGlobal>(
 
 /// Ends a change of FILE that was interrupted, or takes it back, if its journal says that there was
 /// one.
-fn recover_at<H: Files<File = File> + AllocGlobal>(rt: &H, path: &str) -> Result<(), Refusal> {
+fn recover_at<H: System>(rt: &H, path: &str) -> Result<(), Refusal> {
     let Ok(place) = Place::of(rt, rt.alloc(), path) else {
         return Ok(());
     };
@@ -53,7 +52,7 @@ fn recover_at<H: Files<File = File> + AllocGlobal>(rt: &H, path: &str) -> Result
 }
 
 /// Removes what a change left behind that was interrupted, of a file that is made anew.
-fn forget_journal<H: Files<File = File> + AllocGlobal>(rt: &H, path: &str) {
+fn forget_journal<H: System>(rt: &H, path: &str) {
     if let Ok(place) = Place::of(rt, rt.alloc(), path) {
         let _ = fs::remove_file(rt, place.journal());
     }
@@ -72,10 +71,7 @@ fn no_folder<H: Files<File = File>>(rt: &H, path: &str) -> io::Result<File> {
 }
 
 /// FILE and its journal, to be changed. FILE is locked.
-pub(super) fn to_change<'a, H: Files<File = File> + AllocGlobal>(
-    rt: &'a H,
-    path: &str,
-) -> Result<FileDisk<'a, H>, Refusal> {
+pub(super) fn to_change<'a, H: System>(rt: &'a H, path: &str) -> Result<FileDisk<'a, H>, Refusal> {
     let place = Place::of(rt, rt.alloc(), path).map_err(Refusal::of_system)?;
     match FileDisk::open(rt, place) {
         Ok(disk) => Ok(disk),
@@ -124,7 +120,7 @@ pub(super) fn ended<H: Files<File = File>>(
 }
 
 /// FILE, empty. It was locked before it was emptied.
-fn to_fill<H: Files<File = File> + AllocGlobal>(rt: &H, path: &str) -> Result<FileMedium, Refusal> {
+fn to_fill<H: System>(rt: &H, path: &str) -> Result<FileMedium, Refusal> {
     let medium = locked(locking::create(rt, path))?;
     forget_journal(rt, path);
     Ok(medium)
@@ -139,10 +135,7 @@ fn locked(file: io::Result<File>) -> Result<FileMedium, Refusal> {
 }
 
 /// A new file beside FILE.
-pub(super) fn to_make<H: Files<File = File> + AllocGlobal>(
-    rt: &H,
-    path: &str,
-) -> Result<FileMedium, Refusal> {
+pub(super) fn to_make<H: System>(rt: &H, path: &str) -> Result<FileMedium, Refusal> {
     match locking::create_new(rt, path) {
         Ok(file) => {
             forget_journal(rt, path);
@@ -153,9 +146,14 @@ pub(super) fn to_make<H: Files<File = File> + AllocGlobal>(
     }
 }
 
-/// The compound file in it.
-pub(super) fn opened<F: ReadMedium>(alloc: Global, medium: F) -> Result<CompoundFile<F>, Refusal> {
-    CompoundFile::open(alloc, medium).map_err(Refusal::Opening)
+/// The compound file in it. Nobody knows its seed, so that names chosen to meet in an index cost nothing.
+pub(super) fn opened<H: System, F: ReadMedium>(
+    rt: &H,
+    medium: F,
+) -> Result<CompoundFile<F>, Refusal> {
+    seeded_options(rt)
+        .open_with(rt.alloc(), medium)
+        .map_err(Refusal::Opening)
 }
 
 /// Whether something is there, be it a link that leads nowhere.
@@ -164,19 +162,15 @@ pub(super) fn is_there<H: Files<File = File>>(rt: &H, path: &str) -> bool {
 }
 
 /// `create`.
-pub(super) fn create<H: Files<File = File> + AllocGlobal>(
-    rt: &H,
-    version: Version,
-    path: &str,
-) -> Result<(), Refusal> {
+pub(super) fn create<H: System>(rt: &H, version: Version, path: &str) -> Result<(), Refusal> {
     let mut medium = to_fill(rt, path)?;
-    let made = create_in(rt.alloc(), version, Lent(&mut medium));
+    let made = create_in(rt, version, Lent(&mut medium));
     made.map_err(|refusal| refusal.because(medium.last_error()))
 }
 
-fn create_in<F: Medium>(alloc: Global, version: Version, medium: F) -> Result<(), Refusal>
+fn create_in<H: System, F: Medium>(rt: &H, version: Version, medium: F) -> Result<(), Refusal>
     requires empty_medium { IsTrue F.tells → F.bytes medium ≡ [] }
 {
-    CompoundFile::create_with_version(alloc, version, medium)?;
+    seeded_options(rt).create_as(rt.alloc(), version, medium)?;
     Ok(())
 }

@@ -4,28 +4,22 @@ use super::print;
 use crate::lent::Lent;
 use crate::output::Output;
 use crate::refusal::Refusal;
-use cfb::{CompoundFile, Error, ReadMedium};
+use crate::system::System;
+use cfb::{Error, ReadMedium, seeded_options};
 use cfb_tool::reports::{About, report};
-use std::alloc::Global;
-use std::fs::File;
-use std::rt::Files;
 
 /// Where the minor version stands in the header (MS-CFB 2.2).
 const MINOR_AT: u64 = 24;
 
 /// Prints the report on FILE; refused with nothing more to tell where the file is not sound.
-pub(super) fn info<H: Files<File = File> + AllocGlobal, W: Output>(
-    rt: &H,
-    path: &str,
-    out: &mut W,
-) -> Result<(), Refusal> {
+pub(super) fn info<H: System, W: Output>(rt: &H, path: &str, out: &mut W) -> Result<(), Refusal> {
     let mut medium = to_read(rt, path)?;
-    let done = report_on(rt.alloc(), path, &mut medium, out);
+    let done = report_on(rt, path, &mut medium, out);
     done.map_err(|refusal| refusal.because(medium.last_error()))
 }
 
-fn report_on<F: ReadMedium, W: Output>(
-    alloc: Global,
+fn report_on<H: System, F: ReadMedium, W: Output>(
+    rt: &H,
     path: &str,
     medium: &mut F,
     out: &mut W,
@@ -33,10 +27,10 @@ fn report_on<F: ReadMedium, W: Output>(
     let about = About {
         name: path,
         minor: minor_of(medium)?,
-        strict: strict_error(alloc, Lent(medium))?,
+        strict: strict_error(rt, Lent(medium))?,
     };
-    let file = opened(alloc, Lent(medium))?;
-    let text = report(&alloc, &file, &about)?;
+    let file = opened(rt, Lent(medium))?;
+    let text = report(&rt.alloc(), &file, &about)?;
     print(text.as_bytes(), out)?;
     if file.is_sound() {
         Ok(())
@@ -57,8 +51,8 @@ fn minor_of<F: ReadMedium>(medium: &mut F) -> Result<u16, Error> {
 }
 
 /// Why strict opening refuses the bytes of a medium, if it does. `Medium`, `Memory`.
-fn strict_error<F: ReadMedium>(alloc: Global, medium: F) -> Result<Option<Error>, Error> {
-    match CompoundFile::open_strict(alloc, medium) {
+fn strict_error<H: System, F: ReadMedium>(rt: &H, medium: F) -> Result<Option<Error>, Error> {
+    match seeded_options(rt).strict().open_with(rt.alloc(), medium) {
         Ok(_) => Ok(None),
         Err(Error::InvalidData(detail)) => Ok(Some(Error::InvalidData(detail))),
         Err(e) => Err(e),

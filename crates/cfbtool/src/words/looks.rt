@@ -6,50 +6,53 @@ use super::tree::tree;
 use crate::lent::Lent;
 use crate::output::Output;
 use crate::refusal::{About, Refusal};
-use cfb::{CompoundFile, ReadMedium};
+use crate::system::System;
+use cfb::{CompoundFile, Error, ReadMedium, seeded_options};
 use cfb_text::meant::meant;
 use cfb_tool::asking::Asked;
+use cfb_tool::cuts::extent_at;
 use cfb_tool::listing::{listing, listing_at, shown_listing, shown_listing_at};
 use cfb_tool::reports::map;
 use cfb_tool::soundness::soundness_line;
 use std::alloc::Global;
-use std::fs::File;
-use std::rt::Files;
 
 /// Does what is asked of FILE.
-pub(super) fn look<H: Files<File = File> + AllocGlobal, W: Output>(
+pub(super) fn look<H: System, W: Output>(
     rt: &H,
     asked: Asked<'_>,
     out: &mut W,
 ) -> Result<(), Refusal> {
     let mut medium = to_read(rt, About::of(asked).file)?;
-    let done = look_into(rt.alloc(), asked, Lent(&mut medium), out);
+    let done = look_into(rt, asked, Lent(&mut medium), out);
     done.map_err(|refusal| refusal.because(medium.last_error()))
 }
 
 /// The compound file, as opening is asked to be.
-fn opened_for<F: ReadMedium>(
-    alloc: Global,
+fn opened_for<H: System, F: ReadMedium>(
+    rt: &H,
     asked: Asked<'_>,
     medium: F,
 ) -> Result<CompoundFile<F>, Refusal> {
     match asked {
         Asked::CheckStrict(_) => {
-            CompoundFile::open_strict(alloc, medium).map_err(Refusal::Opening)
+            let options = seeded_options(rt).strict();
+            options
+                .open_with(rt.alloc(), medium)
+                .map_err(Refusal::Opening)
         }
-        _ => opened(alloc, medium),
+        _ => opened(rt, medium),
     }
 }
 
 /// Opens the file in the medium, and shows what is asked of it.
-fn look_into<F: ReadMedium, W: Output>(
-    alloc: Global,
+fn look_into<H: System, F: ReadMedium, W: Output>(
+    rt: &H,
     asked: Asked<'_>,
     medium: F,
     out: &mut W,
 ) -> Result<(), Refusal> {
-    let mut file = opened_for(alloc, asked, medium)?;
-    look_at(alloc, asked, &mut file, out)
+    let mut file = opened_for(rt, asked, medium)?;
+    look_at(rt.alloc(), asked, &mut file, out)
 }
 
 /// Shows what is asked of a file, at the path that is meant.
@@ -110,11 +113,24 @@ fn cat<F: ReadMedium, W: Output>(
     stream: &str,
     out: &mut W,
 ) -> Result<(), Refusal> {
-    let bytes = cfb::read_stream(alloc, file, stream)?;
+    let bytes = match cfb::read_stream(alloc, file, stream) {
+        Ok(bytes) => bytes,
+        Err(e) => return Err(why_unread(file, stream, e)),
+    };
     if out.is_terminal() && !is_plain_text(bytes.as_slice()) {
         return Err(Refusal::NotText);
     }
     print(bytes.as_slice(), out)
+}
+
+/// Why a stream was not read: where it has too few bytes, how many of them can be read.
+fn why_unread<F: ReadMedium>(file: &CompoundFile<F>, stream: &str, e: Error) -> Refusal {
+    match (e, extent_at(file, stream)) {
+        (Error::InvalidData(_), Ok(extent)) if extent.readable < extent.len => {
+            Refusal::NotWhole(extent)
+        }
+        _ => Refusal::Of(e),
+    }
 }
 
 /// Whether a terminal shows these bytes as they are: characters, and of the controls tabs and ends of

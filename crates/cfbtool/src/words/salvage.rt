@@ -4,18 +4,20 @@ use super::print;
 use crate::lent::Lent;
 use crate::refusal::Refusal;
 use crate::shown::Shown;
-use cfb::{CompoundFile, Entry, Error, Extent, FileMedium, FileReadMedium, ReadMedium, Salvaged};
+use crate::system::System;
+use cfb::{
+    CompoundFile, Entry, Error, Extent, FileMedium, FileReadMedium, ReadMedium, Salvaged,
+    seeded_options,
+};
 use cfb_mending::mending::mended;
 use cfb_mending::patches::Mended;
 use std::alloc::Global;
 use std::fs;
-use std::fs::File;
 use std::io::Write;
-use std::rt::Files;
 
 /// `salvage`. Something at the target is found before the file is opened, and where nothing comes of it
 /// nothing stays there.
-pub(super) fn salvage<H: Files<File = File> + AllocGlobal, W: Write>(
+pub(super) fn salvage<H: System, W: Write>(
     rt: &H,
     path: &str,
     target: &str,
@@ -52,19 +54,19 @@ impl Report {
 
 /// A file that is not accepted is read once more as one that was cut short. What that lost can't be
 /// told, so not all of it is kept.
-fn salvaged<H: Files<File = File> + AllocGlobal>(
+fn salvaged<H: System>(
     rt: &H,
     medium: &mut FileReadMedium,
     target: &str,
 ) -> Result<Report, Refusal> {
-    let refused = match CompoundFile::open(rt.alloc(), Lent(medium)) {
+    let refused = match seeded_options(rt).open_with(rt.alloc(), Lent(medium)) {
         Ok(mut file) => return salvage_to(rt, &mut file, target),
         Err(refused) => refused,
     };
     if !is_of_bytes(refused) {
         return Err(Refusal::Opening(refused));
     }
-    match opened_cut(rt.alloc(), Lent(medium)) {
+    match opened_cut(rt, Lent(medium)) {
         Ok(mut file) => {
             let report = salvage_to(rt, &mut file, target)?;
             Ok(Report {
@@ -77,8 +79,11 @@ fn salvaged<H: Files<File = File> + AllocGlobal>(
     }
 }
 
-fn opened_cut<F: ReadMedium>(alloc: Global, medium: F) -> Result<CompoundFile<Mended<F>>, Error> {
-    CompoundFile::open(alloc, mended(alloc, medium)?)
+fn opened_cut<H: System, F: ReadMedium>(
+    rt: &H,
+    medium: F,
+) -> Result<CompoundFile<Mended<F>>, Error> {
+    seeded_options(rt).open_with(rt.alloc(), mended(rt.alloc(), medium)?)
 }
 
 /// Whether a file was refused for its bytes.
@@ -86,7 +91,7 @@ fn is_of_bytes(e: Error) -> bool {
     matches!(e, Error::InvalidData(_))
 }
 
-fn salvage_to<H: Files<File = File> + AllocGlobal, F: ReadMedium>(
+fn salvage_to<H: System, F: ReadMedium>(
     rt: &H,
     file: &mut CompoundFile<F>,
     target: &str,
