@@ -105,30 +105,42 @@ pub fn create_as<R: Files<File = File> + RandomSource, A: Heap + Clone>(
 
 /// Opens the compound file at this path of the system, to be read and changed as a whole or not at all: what is changed between two calls of
 /// `flush` is in the file all or not, whatever the disk does. Letting the file go without `flush` takes back what was changed since the last
-/// one. A journal stands beside the file meanwhile, at the same path with `-journal` behind it; what an interrupted change left there is
-/// ended or taken back first. The file is locked as long as it is open.
+/// one. A journal stands beside the file, at the same path with `-journal` behind it; what an interrupted change left there is ended or
+/// taken back first. A journal that is empty may be removed. The file is locked as long as it is open.
 ///
 /// # Errors
 ///
 /// `Medium(Open)` where the file is not opened, and where another has it open to be changed; `InvalidData` where the journal is none that an
 /// interrupted change leaves; else as `CompoundFile::open`.
-pub fn open_journaled<'a, R: Files<File = File> + RandomSource>(
-    rt: &'a R,
+pub fn open_journaled<R: Files<File = File> + RandomSource>(
+    rt: &R,
     alloc: Global,
     path: &str,
-) -> Result<CompoundFile<JournaledMedium<FileDisk<'a, R>>>, Error>
+) -> Result<CompoundFile<JournaledMedium<FileDisk>>, Error>
     ensures options { IfOk result (TakesOptions permissive_options) }
     ensures unfailed { IfOk result (λ file. is_failed file ≡ false) }
+    ensures kinds { IfErr result IsOfOpening }
+{
+    let medium = journaled(rt, alloc, path)?;
+    seeded_options(rt).open_with(alloc, medium)
+}
+
+/// The file at this path with its journal, in which no change is on the way.
+fn journaled<R: Files<File = File>>(
+    rt: &R,
+    alloc: Global,
+    path: &str,
+) -> Result<JournaledMedium<FileDisk>, Error>
     ensures kinds { IfErr result IsOfOpening }
 {
     let Ok(place) = Place::of(rt, alloc, path) else {
         return Err(Error::Medium(MediumFault::Open));
     };
-    let Ok(disk) = FileDisk::open(rt, place) else {
+    let Ok(disk) = FileDisk::open(rt, &place) else {
         return Err(Error::Medium(MediumFault::Open));
     };
     match JournaledMedium::open(alloc, disk) {
-        Ok(medium) => seeded_options(rt).open_with(alloc, medium),
+        Ok(medium) => Ok(medium),
         Err(RecoveryError::Medium(fault)) => Err(Error::Medium(fault)),
         Err(RecoveryError::Damaged) => Err(Error::InvalidData(Detail::text(
             "the journal beside the file is damaged",

@@ -14,16 +14,14 @@ use std::os::unix::fs::FileExt;
 use std::rt::Files;
 use std::{fs, io};
 
-/// A compound file, which is locked while this lives, and its journal. The journal is made at the
-/// first write to it: where nothing is changed, none is made.
+/// A compound file, which is locked while this lives, and its journal.
 #[derive(Drop)]
-pub struct FileDisk<'a, R: Files<File = File>> {
-    rt: &'a R,
-    place: Place,
+pub struct FileDisk {
     file: File,
+    /// None beside a device, which keeps nothing.
     journal: Option<File>,
-    /// The journal was made, and its name is not on the disk yet.
-    is_new: bool,
+    /// The folder that has both, until the journal's name is on the disk.
+    folder: Option<File>,
     /// The gate of a commit was opened: what goes wrong then is made good, and not taken back.
     is_committed: bool,
     failures: Failures,
@@ -43,30 +41,28 @@ pub enum Ending {
     Open,
 }
 
-impl<'a, R: Files<File = File>> FileDisk<'a, R> {
-    /// The file at this place, locked, and its journal, if there is one.
+impl FileDisk {
+    /// The file at this place, locked, and its journal, which is made if there is none.
     ///
     /// # Errors
     ///
     /// The system's, as where no file is there; `WouldBlock` where another holds the lock.
-    pub fn open(rt: &'a R, place: Place) -> io::Result<FileDisk<'a, R>> {
+    pub fn open<R: Files<File = File>>(rt: &R, place: &Place) -> io::Result<FileDisk> {
         let file = locking::open(rt, place.file())?;
-        let mut how = OpenOptions::new();
-        how.read(true).write(true);
-        let journal = match how.open(rt, place.journal()) {
-            Ok(journal) => Some(journal),
-            Err(error) if error.kind() == ErrorKind::NotFound => None,
-            Err(error) => return Err(error),
-        };
-        Ok(FileDisk {
-            rt,
-            place,
+        let mut disk = FileDisk {
             file,
-            journal,
-            is_new: false,
+            journal: None,
+            folder: None,
             is_committed: false,
             failures: Failures::new(),
-        })
+        };
+        if disk.file.metadata()?.is_file() {
+            let mut how = OpenOptions::new();
+            how.read(true).write(true).create(true);
+            disk.journal = Some(how.open(rt, place.journal())?);
+            disk.folder = Some(File::open(rt, place.folder())?);
+        }
+        Ok(disk)
     }
 
     /// Why the last of the failed calls failed, if there was one.
@@ -83,10 +79,9 @@ impl<'a, R: Files<File = File>> FileDisk<'a, R> {
     }
 
     /// Ends a change that was committed, or takes it back, after a call that failed.
-    pub fn settle(self, alloc: Global) -> Ending {
-        let mut disk = self;
-        let is_committed = disk.is_committed || disk.has_committed(alloc);
-        if recover(alloc, &mut disk).is_err() {
+    pub fn settle(&mut self, alloc: Global) -> Ending {
+        let is_committed = self.is_committed || self.has_committed(alloc);
+        if recover(alloc, self).is_err() {
             return Ending::Open;
         }
         if is_committed {
@@ -96,22 +91,21 @@ impl<'a, R: Files<File = File>> FileDisk<'a, R> {
         }
     }
 
-    /// The journal, made where there is none.
-    fn make_journal(&mut self) -> io::Result<()> {
-        if self.journal.is_some() {
-            return Ok(());
+    /// Removes the journal, if nothing is in it, and lets both files go. A journal that stays with
+    /// nothing in it says nothing.
+    pub fn close<R: Files<File = File>>(self, rt: &R, place: &Place) {
+        if let Some(journal) = &self.journal {
+            if let Ok(metadata) = journal.metadata() {
+                if metadata.len() == 0 {
+                    let _ = fs::remove_file(rt, place.journal());
+                }
+            }
         }
-        let mut how = OpenOptions::new();
-        how.read(true).write(true).create_new(true);
-        self.journal = Some(how.open(self.rt, self.place.journal())?);
-        self.is_new = true;
-        Ok(())
     }
 
     fn write_to_journal(&mut self, at: u64, from: &[u8]) -> io::Result<()> {
-        self.make_journal()?;
         let Some(journal) = &self.journal else {
-            return Err(io::Error::from(ErrorKind::NotFound));
+            return Err(io::Error::from(ErrorKind::InvalidInput));
         };
         journal.write_all_at(from, at)?;
         self.is_committed = self.is_committed || at == GATE && from.first() == Some(&1);
@@ -124,9 +118,11 @@ impl<'a, R: Files<File = File>> FileDisk<'a, R> {
             return Ok(());
         };
         journal.sync_all()?;
-        if self.is_new {
-            File::open(self.rt, self.place.folder())?.sync_all()?;
-            self.is_new = false;
+        if let Some(folder) = &self.folder {
+            if journal.metadata()?.len() > 0 {
+                folder.sync_all()?;
+                self.folder = None;
+            }
         }
         Ok(())
     }
@@ -143,16 +139,11 @@ impl<'a, R: Files<File = File>> FileDisk<'a, R> {
         Ok(bytes)
     }
 
-    /// Removes the journal, or empties it where it can't be removed.
-    fn emptied_journal(&mut self) -> io::Result<()> {
-        let Some(journal) = &self.journal else {
-            return Ok(());
-        };
-        if fs::remove_file(self.rt, self.place.journal()).is_err() {
-            return journal.set_len(0);
+    fn emptied_journal(&self) -> io::Result<()> {
+        match &self.journal {
+            Some(journal) => journal.set_len(0),
+            None => Ok(()),
         }
-        self.journal = None;
-        Ok(())
     }
 
     /// What came of a call, with its error kept.
@@ -167,7 +158,7 @@ impl<'a, R: Files<File = File>> FileDisk<'a, R> {
     }
 }
 
-impl<R: Files<File = File>> Disk for FileDisk<'_, R> {
+impl Disk for FileDisk {
     ghost tells = { false };
 
     ghost view = { λ _. record {

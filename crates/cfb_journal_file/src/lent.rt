@@ -5,14 +5,12 @@ use crate::disk::FileDisk;
 use cfb_format::medium::MediumFault;
 use cfb_journal::disk::Disk;
 use std::alloc::Global;
-use std::fs::File;
-use std::rt::Files;
 
 /// Hands each call on to the disk.
 #[derive(Drop)]
-pub struct LentDisk<'a, 'b, R: Files<File = File>>(pub &'a mut FileDisk<'b, R>);
+pub struct LentDisk<'a>(pub &'a mut FileDisk);
 
-impl<R: Files<File = File>> Disk for LentDisk<'_, '_, R> {
+impl Disk for LentDisk<'_> {
     ghost tells = { false };
 
     ghost view = { λ _. record {

@@ -3,7 +3,7 @@
 ghost use Rattle.std.specs.Prelude.{◌≡◌, ◌+◌, ◌*◌, ◌≤◌, [], IfOk, IsTrue, length, vec_capacity};
 ghost use Rattle.cfb_journal.specs.Disk.{IsOpened};
 
-use super::files::{begun, committed, ended, opened, to_change};
+use super::files::{begun, committed, ended, opened, place_of, to_change};
 use super::lines::{One, command_of, commands_of, explain, explained_commands_of};
 use super::print;
 use crate::lent::Lent;
@@ -54,9 +54,10 @@ pub(super) fn put_from<H: System>(
 
 fn put_bytes<H: System>(rt: &H, path: &str, stream: &str, bytes: &[u8]) -> Result<(), Refusal> {
     let object = meant(rt.alloc(), stream)?;
-    let mut disk = to_change(rt, path)?;
+    let place = place_of(rt, path)?;
+    let mut disk = to_change(rt, &place)?;
     let done = put_whole(rt, LentDisk(&mut disk), object.as_str(), bytes);
-    ended(rt.alloc(), disk, done)
+    ended(rt, &place, disk, done)
 }
 
 fn put_whole<H: System, D: Disk>(rt: &H, disk: D, stream: &str, bytes: &[u8]) -> Result<(), Refusal>
@@ -134,7 +135,8 @@ struct Told {
 fn run_commands<H: System>(rt: &H, path: &str, commands: &[Command]) -> Result<Told, Refusal> {
     let mut lines = room_for_lines(rt.alloc(), commands.len())?;
     let mut refusals = Vec::with_capacity(rt.alloc(), commands.len())?;
-    let mut disk = to_change(rt, path)?;
+    let place = place_of(rt, path)?;
+    let mut disk = to_change(rt, &place)?;
     let mut is_done = false;
     let done = play_whole(
         rt,
@@ -142,7 +144,7 @@ fn run_commands<H: System>(rt: &H, path: &str, commands: &[Command]) -> Result<T
         commands,
         (&mut lines, &mut refusals, &mut is_done),
     );
-    ended(rt.alloc(), disk, done)?;
+    ended(rt, &place, disk, done)?;
     Ok(Told {
         lines,
         refusals,

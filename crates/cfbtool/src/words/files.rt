@@ -43,12 +43,12 @@ fn recover_at<H: System>(rt: &H, path: &str) -> Result<(), Refusal> {
         Ok(metadata) if metadata.len() > 0 => {}
         _ => return Ok(()),
     }
-    let mut disk = to_change(rt, path)?;
+    let mut disk = to_change(rt, &place)?;
     let done = match begun(rt.alloc(), LentDisk(&mut disk)) {
         Ok(_) => Ok(()),
         Err(refusal) => Err(refusal),
     };
-    ended(rt.alloc(), disk, done)
+    ended(rt, &place, disk, done)
 }
 
 /// Removes what a change left behind that was interrupted, of a file that is made anew.
@@ -70,9 +70,13 @@ fn no_folder<H: Files<File = File>>(rt: &H, path: &str) -> io::Result<File> {
     Ok(file)
 }
 
+/// Where FILE and its journal are.
+pub(super) fn place_of<H: System>(rt: &H, path: &str) -> Result<Place, Refusal> {
+    Place::of(rt, rt.alloc(), path).map_err(Refusal::of_system)
+}
+
 /// FILE and its journal, to be changed. FILE is locked.
-pub(super) fn to_change<'a, H: System>(rt: &'a H, path: &str) -> Result<FileDisk<'a, H>, Refusal> {
-    let place = Place::of(rt, rt.alloc(), path).map_err(Refusal::of_system)?;
+pub(super) fn to_change<H: System>(rt: &H, place: &Place) -> Result<FileDisk, Refusal> {
     match FileDisk::open(rt, place) {
         Ok(disk) => Ok(disk),
         Err(e) if e.kind() == ErrorKind::WouldBlock => Err(Refusal::Busy),
@@ -102,15 +106,23 @@ pub(super) fn committed<D: Disk>(medium: Transaction<D>) -> Result<(), Refusal> 
     }
 }
 
-/// Ends what was done with FILE: a change that was not committed is taken back.
-pub(super) fn ended<H: Files<File = File>>(
-    alloc: Global,
-    disk: FileDisk<'_, H>,
+/// Ends what was done with FILE: a change that was not committed is taken back, and the journal goes.
+pub(super) fn ended<H: System>(
+    rt: &H,
+    place: &Place,
+    mut disk: FileDisk,
     done: Result<(), Refusal>,
 ) -> Result<(), Refusal> {
-    let Err(refusal) = done else {
-        return Ok(());
+    let ended = match done {
+        Ok(()) => Ok(()),
+        Err(refusal) => settled(rt.alloc(), &mut disk, refusal),
     };
+    disk.close(rt, place);
+    ended
+}
+
+/// What came of a change that was refused.
+fn settled(alloc: Global, disk: &mut FileDisk, refusal: Refusal) -> Result<(), Refusal> {
     let reason = disk.last_error();
     match (disk.settle(alloc), refusal.because(reason)) {
         (Ending::Done, Refusal::System(..)) => Ok(()),
