@@ -133,23 +133,16 @@ struct Told {
 }
 
 fn run_commands<H: System>(rt: &H, path: &str, commands: &[Command]) -> Result<Told, Refusal> {
-    let mut lines = room_for_lines(rt.alloc(), commands.len())?;
-    let mut refusals = Vec::with_capacity(rt.alloc(), commands.len())?;
+    let mut told = Told {
+        lines: room_for_lines(rt.alloc(), commands.len())?,
+        refusals: Vec::with_capacity(rt.alloc(), commands.len())?,
+        is_done: false,
+    };
     let place = place_of(rt, path)?;
     let mut disk = to_change(rt, &place)?;
-    let mut is_done = false;
-    let done = play_whole(
-        rt,
-        LentDisk(&mut disk),
-        commands,
-        (&mut lines, &mut refusals, &mut is_done),
-    );
+    let done = play_whole(rt, LentDisk(&mut disk), commands, &mut told);
     ended(rt, &place, disk, done)?;
-    Ok(Told {
-        lines,
-        refusals,
-        is_done,
-    })
+    Ok(told)
 }
 
 /// Plays the commands, and makes their changes on the disk, unless one of them left the file failed:
@@ -158,16 +151,17 @@ fn play_whole<H: System, D: Disk>(
     rt: &H,
     disk: D,
     commands: &[Command],
-    told: (&mut Vec<u8>, &mut Vec<(usize, Error)>, &mut bool),
+    told: &mut Told,
 ) -> Result<(), Refusal>
     requires opened { IsTrue D.tells → IsOpened D.opened (D.view disk) }
-    requires room { length told.old.0.items + 3 * length commands.now ≤ vec_capacity told.old.0 }
-    requires kept { length commands.now ≤ vec_capacity told.old.1 }
-    requires empty { told.old.1.items ≡ [] }
+    requires room { length told.old.lines.items + 3 * length commands.now ≤ vec_capacity told.old.lines }
+    requires kept { length commands.now ≤ vec_capacity told.old.refusals }
+    requires empty { told.old.refusals.items ≡ [] }
 {
-    let (lines, refusals, is_done) = told;
     let mut medium = begun(rt.alloc(), disk)?;
-    *is_done = play_in(rt, Lent(&mut medium), commands, lines, refusals)?;
+    let file = Lent(&mut medium);
+    let lines = &mut told.lines;
+    told.is_done = play_in(rt, file, commands, lines, &mut told.refusals)?;
     committed(medium)
 }
 
