@@ -96,10 +96,7 @@ fn tell_cut<E: Output>(name: &str, (asked, is_stream): (&str, bool), cut: &Cut, 
 }
 
 /// The line on what the system refused.
-fn tell_fault<H: Files<File = File>, E: Output>(
-    folder: &SystemFolder<'_, H>,
-    faults: &mut E,
-) -> Refusal {
+fn tell_fault<H: System, E: Output>(folder: &SystemFolder<'_, H>, faults: &mut E) -> Refusal {
     if let Some((path, reason)) = folder.last_error() {
         let _ = tell_system(path, &reason, faults);
     }
