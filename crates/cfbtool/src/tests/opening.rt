@@ -52,7 +52,8 @@ const STORAGES: &[Run<'static>] = &[
 #[rattlefmt::skip]
 static BY_JOURNAL: &[Step<'static>] = &[
     Runs(&[(&["create", "4", "@f"], b"", 0, b"", b"")]), Comes(Kept("/kept")), Runs(STORAGES),
-    Comes(LetGo("/gone")), Runs(STORAGES), At("@f-journal"), Absent,
+    Comes(LetGo("/gone")), Runs(STORAGES), Runs(&[(&["rmdir", "@f", "/kept"], b"", 0, b"", b"")]),
+    At("@f-journal"), Absent,
 ];
 
 /// With a journal, what was flushed is in the file, and what was not is taken back.
