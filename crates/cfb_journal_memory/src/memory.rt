@@ -1,9 +1,9 @@
 //! A compound file and its journal in memory, as one disk.
-ghost use Rattle.std.specs.Prelude.{◌≡◌, ◌+◌, ◌≤◌, length, take, true, OnOk, OnErr};
-ghost use Rattle.cfb_format.specs.Medium.{part, written};
+ghost use Rattle.std.specs.Prelude.{◌≡◌, ◌+◌, ◌≤◌, [], length, true, OnOk, OnErr};
+ghost use Rattle.cfb_format.specs.Medium.{written};
 ghost use Rattle.cfb_journal.specs.Disk.{IsOpened};
 ghost use Rattle.cfb_journal_memory.specs.Steps.{nothing, seen_after, view_after};
-ghost use Rattle.cfb_journal_memory.proofs.Views.{counts_now, only_now, seen_may_stay};
+ghost use Rattle.cfb_journal_memory.specs.Laws.{counts_now, only_now, seen_may_stay};
 
 use crate::past::Past;
 use cfb_format::medium::MediumFault;
