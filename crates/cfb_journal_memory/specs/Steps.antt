@@ -91,3 +91,17 @@ view_after first steps =
 -- two empty files
 abbrev pub nothing : Image
 nothing = record { file = []; journal = [] }
+
+-- ---- a crash may leave all that the contract of a disk allows
+
+-- of a call that changes a file
+abbrev pub LeavesAll : (Image → Image → Type 0) → View → View → Type 0
+LeavesAll step old new = (c : Image) → After step old.may_leave c → new.may_leave c
+
+-- of a call that brings a file to the disk
+abbrev pub LeavesSynced : (Image → Image → Type 0) → View → View → Type 0
+LeavesSynced synced old new = (c : Image) → old.may_leave c → synced old.seen c → new.may_leave c
+
+-- of a call that changes nothing
+abbrev pub LeavesAsBefore : View → View → Type 0
+LeavesAsBefore old new = (c : Image) → old.may_leave c → new.may_leave c
