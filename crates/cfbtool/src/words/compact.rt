@@ -9,10 +9,8 @@ use crate::system::System;
 use cfb::{CompoundFile, Error, FileMedium, Medium, ReadMedium};
 use cfb_tool::cuts::{cut_of, stream_by_entry};
 use std::alloc::Global;
-use std::fs;
 
-/// `compact`. Something at the target is found before the file is opened, and where nothing comes of it
-/// nothing stays there.
+/// `compact`. Something at the target is found before the file is opened.
 pub(super) fn compact<H: System, E: Output>(
     rt: &H,
     about: About<'_>,
@@ -36,11 +34,7 @@ fn copy_to<H: System, F: ReadMedium, E: Output>(
     let mut file = opened(rt, medium)?;
     let target = about.other.unwrap_or("");
     let made = to_make(rt, target)?;
-    let copied = copy_in(rt.alloc(), &mut file, made, about.file, faults);
-    if copied.is_err() {
-        let _ = fs::remove_file(rt, target);
-    }
-    copied
+    copy_in(rt.alloc(), &mut file, made, about.file, faults)
 }
 
 /// Copies the file into one without bytes.

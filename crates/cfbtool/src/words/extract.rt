@@ -2,14 +2,14 @@
 use super::files::{opened, to_read};
 use crate::lent::Lent;
 use crate::output::Output;
-use crate::refusal::{About, Refusal, tell_system};
+use crate::refusal::{About, Refusal, tell, tell_system};
 use crate::shown::Shown;
 use crate::system::System;
-use cfb::{CompoundFile, Error, ReadMedium};
+use cfb::{CompoundFile, Error, MediumFault, ReadMedium};
 use cfb_extract::cut::Cut;
 use cfb_extract::error::ExtractError;
 use cfb_extract::extracting;
-use cfb_extract::folder::FolderFault;
+use cfb_extract::folder::{Folder, FolderFault};
 use cfb_extract::system::SystemFolder;
 use cfb_text::meant::meant;
 use std::alloc::Global;
@@ -55,28 +55,65 @@ fn extract<H: System, F: ReadMedium, E: Output>(
     let path = at.unwrap_or("/");
     // what is refused for the path is refused before the folder is made
     let is_stream = file.entry(path)?.is_stream();
-    let mut folder = new_folder(rt, about.other.unwrap_or(""))?;
-    let mut cuts = Vec::new(rt.alloc());
-    let done = extracting::extract(&rt.alloc(), file, path, &mut folder, &mut cuts);
+    let mut folder = match SystemFolder::create(rt, rt.alloc(), about.other.unwrap_or("")) {
+        Ok(folder) => folder,
+        Err(e) if e.kind() == ErrorKind::AlreadyExists => return Err(Refusal::TargetExists),
+        Err(e) => return Err(Refusal::of_other_system(e)),
+    };
+    match extract_into(
+        rt.alloc(),
+        file,
+        (path, is_stream),
+        about,
+        &mut folder,
+        faults,
+    ) {
+        Ended::Done => Ok(()),
+        Ended::Told => Err(Refusal::Told),
+        Ended::Medium => Err(Refusal::Of(Error::Medium(MediumFault::Read))),
+        Ended::Folder => Err(tell_fault(&folder, faults)),
+    }
+}
+
+/// How it ended.
+enum Ended {
+    /// All streams are whole.
+    Done,
+    /// Standard error has been told.
+    Told,
+    /// The medium failed: its owner knows why.
+    Medium,
+    /// The system refused a call in the folder.
+    Folder,
+}
+
+fn extract_into<F: ReadMedium, D: Folder, E: Output>(
+    alloc: Global,
+    file: &mut CompoundFile<F>,
+    (path, is_stream): (&str, bool),
+    about: About<'_>,
+    folder: &mut D,
+    faults: &mut E,
+) -> Ended {
+    let mut cuts = Vec::new(alloc);
+    let done = extracting::extract(&alloc, file, path, folder, &mut cuts);
     for cut in &cuts {
         tell_cut(about.file, (path, is_stream), cut, faults);
     }
     match done {
-        Ok(()) if cuts.is_empty() => Ok(()),
-        Ok(()) => Err(Refusal::Told),
-        Err(ExtractError::File(e)) => Err(Refusal::Of(e)),
-        Err(ExtractError::Folder(FolderFault::Memory)) => Err(Refusal::Of(Error::Memory)),
-        Err(ExtractError::Folder(FolderFault::System)) => Err(tell_fault(&folder, faults)),
+        Ok(()) if cuts.is_empty() => Ended::Done,
+        Ok(()) => Ended::Told,
+        Err(ExtractError::Folder(FolderFault::System)) => Ended::Folder,
+        Err(ExtractError::Folder(FolderFault::Memory)) => told(Error::Memory, about, faults),
+        Err(ExtractError::File(Error::Medium(_))) => Ended::Medium,
+        Err(ExtractError::File(e)) => told(e, about, faults),
     }
 }
 
-/// The new folder of this path.
-fn new_folder<'a, H: System>(rt: &'a H, path: &str) -> Result<SystemFolder<'a, H>, Refusal> {
-    match SystemFolder::create(rt, rt.alloc(), path) {
-        Ok(folder) => Ok(folder),
-        Err(e) if e.kind() == ErrorKind::AlreadyExists => Err(Refusal::TargetExists),
-        Err(e) => Err(Refusal::of_other_system(e)),
-    }
+/// Tells why the file refused.
+fn told<E: Output>(e: Error, about: About<'_>, faults: &mut E) -> Ended {
+    tell(Refusal::Of(e), about, faults);
+    Ended::Told
 }
 
 /// The line on a stream that is not whole: the path that was asked for, and where that is no stream's

@@ -14,23 +14,31 @@ const MINOR_AT: u64 = 24;
 /// Prints the report on FILE; refused with nothing more to tell where the file is not sound.
 pub(super) fn info<H: System, W: Output>(rt: &H, path: &str, out: &mut W) -> Result<(), Refusal> {
     let mut medium = to_read(rt, path)?;
-    let done = report_on(rt, path, &mut medium, out);
+    let minor = match minor_of(&mut medium) {
+        Ok(minor) => minor,
+        Err(e) => return Err(Refusal::Of(e).because(medium.last_error())),
+    };
+    let strict = match strict_error(rt, Lent(&mut medium)) {
+        Ok(strict) => strict,
+        Err(e) => return Err(Refusal::Of(e).because(medium.last_error())),
+    };
+    let about = About {
+        name: path,
+        minor,
+        strict,
+    };
+    let done = print_report(rt, Lent(&mut medium), &about, out);
     done.map_err(|refusal| refusal.because(medium.last_error()))
 }
 
-fn report_on<H: System, F: ReadMedium, W: Output>(
+fn print_report<H: System, F: ReadMedium, W: Output>(
     rt: &H,
-    path: &str,
-    medium: &mut F,
+    medium: F,
+    about: &About<'_>,
     out: &mut W,
 ) -> Result<(), Refusal> {
-    let about = About {
-        name: path,
-        minor: minor_of(medium)?,
-        strict: strict_error(rt, Lent(medium))?,
-    };
-    let file = opened(rt, Lent(medium))?;
-    let text = report(&rt.alloc(), &file, &about)?;
+    let file = opened(rt, medium)?;
+    let text = report(&rt.alloc(), &file, about)?;
     print(text.as_bytes(), out)?;
     if file.is_sound() {
         Ok(())
@@ -54,7 +62,7 @@ fn minor_of<F: ReadMedium>(medium: &mut F) -> Result<u16, Error> {
 fn strict_error<H: System, F: ReadMedium>(rt: &H, medium: F) -> Result<Option<Error>, Error> {
     match seeded_options(rt).strict().open_with(rt.alloc(), medium) {
         Ok(_) => Ok(None),
-        Err(Error::InvalidData(detail)) => Ok(Some(Error::InvalidData(detail))),
+        Err(e) if matches!(e, Error::InvalidData(_)) => Ok(Some(e)),
         Err(e) => Err(e),
     }
 }

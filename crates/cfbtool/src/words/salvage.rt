@@ -1,4 +1,6 @@
 //! `salvage`.
+ghost use Rattle.std.specs.Prelude.{◌≡◌, [], IsTrue};
+
 use super::files::{is_there, to_make, to_read};
 use super::print;
 use crate::lent::Lent;
@@ -6,14 +8,12 @@ use crate::refusal::Refusal;
 use crate::shown::Shown;
 use crate::system::System;
 use cfb::{
-    CompoundFile, Entry, Error, Extent, FileMedium, FileReadMedium, ReadMedium, Salvaged,
-    seeded_options,
+    CompoundFile, Entry, Error, Extent, FileMedium, Medium, ReadMedium, Salvaged, seeded_options,
 };
 use cfb_mending::mending::mended;
-use cfb_mending::patches::Mended;
 use std::alloc::Global;
-use std::fs;
 use std::io::Write;
+use std::{fs, io};
 
 /// `salvage`. Something at the target is found before the file is opened, and where nothing comes of it
 /// nothing stays there.
@@ -27,9 +27,29 @@ pub(super) fn salvage<H: System, W: Write>(
         return Err(Refusal::TargetExists);
     }
     let mut medium = to_read(rt, path)?;
-    match salvaged(rt, &mut medium, target) {
+    let refused = match salvage_as_it_is(rt, Lent(&mut medium), target) {
+        Ok(told) => return print_told(told, medium.last_error(), out),
+        Err(refused) => refused,
+    };
+    if !is_of_bytes(refused) {
+        return Err(Refusal::Opening(refused).because(medium.last_error()));
+    }
+    // what a file that was cut short lost can't be told, so not all of it is kept
+    match salvage_cut(rt, Lent(&mut medium), target) {
+        Ok(told) => print_told(told, medium.last_error(), out),
+        Err(e) if is_of_bytes(e) => Err(Refusal::Opening(refused)),
+        Err(e) => Err(Refusal::Opening(e).because(medium.last_error())),
+    }
+}
+
+fn print_told<W: Write>(
+    told: Result<Report, Refusal>,
+    reason: Option<io::Error>,
+    out: &mut W,
+) -> Result<(), Refusal> {
+    match told {
         Ok(report) => report.print(out),
-        Err(refusal) => Err(refusal.because(medium.last_error())),
+        Err(refusal) => Err(refusal.because(reason)),
     }
 }
 
@@ -52,38 +72,36 @@ impl Report {
     }
 }
 
-/// A file that is not accepted is read once more as one that was cut short. What that lost can't be
-/// told, so not all of it is kept.
-fn salvaged<H: System>(
+/// What is told of the file in the medium, or why it is not accepted.
+fn salvage_as_it_is<H: System, F: ReadMedium>(
     rt: &H,
-    medium: &mut FileReadMedium,
+    medium: F,
     target: &str,
-) -> Result<Report, Refusal> {
-    let refused = match seeded_options(rt).open_with(rt.alloc(), Lent(medium)) {
-        Ok(mut file) => return salvage_to(rt, &mut file, target),
-        Err(refused) => refused,
-    };
-    if !is_of_bytes(refused) {
-        return Err(Refusal::Opening(refused));
-    }
-    match opened_cut(rt, Lent(medium)) {
-        Ok(mut file) => {
-            let report = salvage_to(rt, &mut file, target)?;
-            Ok(Report {
-                is_whole: false,
-                ..report
-            })
-        }
-        Err(e) if is_of_bytes(e) => Err(Refusal::Opening(refused)),
-        Err(e) => Err(Refusal::Opening(e)),
+) -> Result<Result<Report, Refusal>, Error> {
+    let mut file = seeded_options(rt).open_with(rt.alloc(), medium)?;
+    Ok(salvage_to(rt, &mut file, target))
+}
+
+/// The same of the file as one that was cut short.
+fn salvage_cut<H: System, F: ReadMedium>(
+    rt: &H,
+    medium: F,
+    target: &str,
+) -> Result<Result<Report, Refusal>, Error> {
+    let whole = mended(rt.alloc(), medium)?;
+    let mut file = seeded_options(rt).open_with(rt.alloc(), whole)?;
+    match salvage_to(rt, &mut file, target) {
+        Ok(report) => Ok(Ok(not_whole(report))),
+        Err(refusal) => Ok(Err(refusal)),
     }
 }
 
-fn opened_cut<H: System, F: ReadMedium>(
-    rt: &H,
-    medium: F,
-) -> Result<CompoundFile<Mended<F>>, Error> {
-    seeded_options(rt).open_with(rt.alloc(), mended(rt.alloc(), medium)?)
+fn not_whole(report: Report) -> Report {
+    let Report { lines, is_whole: _ } = report;
+    Report {
+        lines,
+        is_whole: false,
+    }
 }
 
 /// Whether a file was refused for its bytes.
@@ -118,11 +136,13 @@ fn salvage_into<F: ReadMedium>(
 }
 
 /// Fills the new file, and lets it go.
-fn extents_of<F: ReadMedium>(
+fn extents_of<F: ReadMedium, T: Medium>(
     file: &mut CompoundFile<F>,
-    made: Lent<'_, FileMedium>,
-) -> Result<Vec<Extent>, Error> {
-    let Salvaged { file: _, extents } = file.salvage_to(made)?;
+    medium: T,
+) -> Result<Vec<Extent>, Error>
+    requires empty_medium { IsTrue T.tells → T.bytes medium ≡ [] }
+{
+    let Salvaged { file: _, extents } = file.salvage_to(medium)?;
     Ok(extents)
 }
 
