@@ -1,5 +1,5 @@
 -- A compound file and its journal on one disk: what a read returns, and what a crash may leave of both.
-use Rattle.std.specs.Prelude.{◌≡◌, ◌⊎◌, ℕ, ◌+◌, ◌<◌, ◌≤◌, ⊤, max, List, length, take, Result, MatchResult}
+use Rattle.std.specs.Prelude.{◌≡◌, ◌⊎◌, ℕ, ◌+◌, ◌<◌, ◌≤◌, ⊤, max, min, List, length, take, Result, MatchResult}
 use Rattle.cfb_format.specs.Medium.{written, ChangesOnlyBytes}
 use Rattle.cfb_format.specs.declared.medium.MediumFault.{MediumFault}
 
@@ -28,9 +28,9 @@ pub record Torn (at n : ℕ) (old new : List ℕ) : Type 0 where
   pub others : ChangesOnlyBytes at n old new
   pub no_longer : length new ≤ max (length old) (at + n)
 
--- a cut to n bytes: some length between
+-- a cut to n bytes: some length between; what is shorter already stays
 pub record Cut (n : ℕ) (old new : List ℕ) : Type 0 where
-  pub no_shorter : n ≤ length new
+  pub no_shorter : min n (length old) ≤ length new
   pub no_longer : length new ≤ length old
   pub front : new ≡ take (length new) old
 

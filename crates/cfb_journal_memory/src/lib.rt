@@ -1,0 +1,5 @@
+//! A disk in memory that keeps the whole contract of a disk, and a change that is made on it.
+#![tactic(auto)]
+
+pub mod memory;
+mod past;

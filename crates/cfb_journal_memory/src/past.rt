@@ -1,0 +1,32 @@
+//! What a disk went through. It takes no memory: only clauses read it.
+ghost use Rattle.std.specs.Prelude.{◌≡◌, List, [], ◌∷◌};
+ghost use Rattle.std.specs.Borrow.{ftrue};
+ghost use Rattle.cfb_journal_memory.specs.Steps.{Step, step_of};
+
+use std::marker::{Model, PhantomData};
+
+/// The steps since the disk was opened, the newest first.
+#[derive(Drop)]
+pub struct Past {
+    marker: PhantomData<u8>,
+    pub ghost steps: { List Step },
+}
+
+impl Model for Past {
+    ghost also_owns = { λ _. ftrue };
+}
+
+impl Past {
+    pub(crate) fn new() -> Past
+        ensures { result.steps ≡ [] }
+    {
+        Past {
+            marker: PhantomData,
+        }
+    }
+
+    /// Notes a step: its kind and an offset, and the bytes of a write.
+    pub(crate) fn note(&mut self, _numbers: &[u64], _bytes: &[u8])
+        ensures { self.new.steps ≡ step_of _numbers.now _bytes.now ∷ self.old.steps }
+    {}
+}
