@@ -3,3 +3,4 @@
 
 pub mod memory;
 mod past;
+pub mod whole;
