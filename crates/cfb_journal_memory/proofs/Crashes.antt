@@ -1,5 +1,5 @@
 -- What crashes since the opening of two empty files leave.
-use Rattle.std.proofs.Common.{◌≡◌, refl, inl, inr, ⊎_elim, ◌⊎◌, ℕ, List, [], ◌∷◌, ◌++◌, length, ap, arith, ◌∙◌, sym, subst, Option, None, Some, ◌+◌, append-nil}
+use Rattle.std.proofs.Common.{◌≡◌, refl, inl, inr, ◌⊎◌, ℕ, List, [], ◌∷◌, ◌++◌, length, ap, arith, ◌∙◌, sym, subst, Option, None, Some, ◌+◌, append-nil}
 use Rattle.std.proofs.lemmas.List.{drop_all}
 use Rattle.cfb_format.specs.Medium.{written}
 use Rattle.cfb_journal.specs.Disk.{Image, View}

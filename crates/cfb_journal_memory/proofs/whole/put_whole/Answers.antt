@@ -1,4 +1,4 @@
-use Rattle.std.proofs.Common.{rules, ◌≡◌, refl, subst, ap, [], List, ℕ, OnOk}
+use Rattle.std.proofs.Common.{rules, ◌≡◌, refl, subst, [], List, ℕ, OnOk}
 use Rattle.cfb_journal.specs.Sound.{IsAllOrNothing}
 use Rattle.cfb_journal_memory.specs.Memory.{shown}
 use Rattle.cfb_journal_memory.specs.Steps.{nothing, view_after}
