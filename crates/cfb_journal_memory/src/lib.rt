@@ -3,3 +3,6 @@
 
 pub mod memory;
 mod past;
+#[cfg(test)]
+mod tests;
+pub mod whole;

@@ -11,6 +11,7 @@ use cfb_format::medium::MediumFault;
 use cfb_journal::disk::Disk;
 use std::alloc::{AllocError, Global};
 
+// The kinds of steps, as `step_of` of specs/Steps.antt reads them.
 const WROTE_FILE: u64 = 0;
 
 const WROTE_JOURNAL: u64 = 1;

@@ -1,4 +1,5 @@
-//! What a disk went through. It takes no memory: only clauses read it.
+//! What a disk went through. Only clauses read it. It takes no memory, for a count of failed calls in
+//! memory would have an end, and a note of one could itself be refused.
 ghost use Rattle.std.specs.Prelude.{◌≡◌, List, [], ◌∷◌};
 ghost use Rattle.std.specs.Borrow.{ftrue};
 ghost use Rattle.cfb_journal_memory.specs.Steps.{Step, step_of};
