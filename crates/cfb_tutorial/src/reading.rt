@@ -1,7 +1,7 @@
 //! Files are listed and streams are read.
 use cfb::{CompoundFile, Error, ReadMedium};
 use std::alloc::Global;
-use std::io::{self, BufRead};
+use std::io;
 
 /// Prints the length and the path of each storage and stream.
 pub fn list(rt: &HostRuntime, path: &str) -> io::Result<()> {
@@ -17,14 +17,12 @@ pub fn today<F: ReadMedium>(alloc: Global, file: &mut CompoundFile<F>) -> Result
     cfb::read_stream(alloc, file, "/notes/today")
 }
 
-/// Reads the first line of a stream.
-pub fn first_line<F: ReadMedium>(
-    alloc: Global,
+/// Reads the first bytes of a stream into the buffer, and returns how many.
+pub fn first_bytes<F: ReadMedium>(
     file: &mut CompoundFile<F>,
     path: &str,
-) -> io::Result<String> {
-    let mut line = String::new(alloc);
+    buffer: &mut [u8],
+) -> Result<usize, Error> {
     let mut stream = file.open_read_stream(path)?;
-    stream.read_line(&mut line)?;
-    Ok(line)
+    stream.read(buffer)
 }
