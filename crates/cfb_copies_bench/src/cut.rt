@@ -74,8 +74,8 @@ fn is_right_at_all_cuts(alloc: Global, version: Version) -> Result<bool, Fail> {
     let bytes = filled(alloc, version, &STREAMS)?;
     let numbers = numbered(alloc, 150_000)?;
     let step = bytes.len() / 8 + 3;
-    let mut len = bytes.len();
-    while len > step {
+    for cuts in 0usize..8 {
+        let len = bytes.len().saturating_sub(cuts.saturating_mul(step));
         let Some(first) = bytes.get(..len) else {
             return Ok(false);
         };
@@ -83,7 +83,6 @@ fn is_right_at_all_cuts(alloc: Global, version: Version) -> Result<bool, Fail> {
         if !is_right || found.streams > STREAMS.len() || found.whole > found.streams {
             return Ok(false);
         }
-        len = len - step;
     }
     Ok(true)
 }
