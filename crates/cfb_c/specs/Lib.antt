@@ -6,3 +6,4 @@ pub mod Lists
 pub mod Opened
 pub mod Streams
 pub mod Files
+pub mod Pieces

@@ -39,8 +39,8 @@ fn tell_version(kept: &Kept, version: &mut u32) -> Result<(), Refusal>
     Ok(())
 }
 
-/// Whether a file is sound: no sector has two uses, and every stream can be read to its end. One that
-/// is not sound can be read and copied.
+/// Whether a file is sound: no sector has two uses, and every stream can be read to its end. One
+/// that is not sound can be read and copied.
 #[unsafe(no_mangle)]
 pub extern "C" fn cfb_is_sound(alloc: Global, file: &mut Handle, is_so: &mut bool) -> u8
     ensures { Calls (OnFile (Tells (λ file. is_so.new ≡ file.is_sound)))
@@ -65,8 +65,8 @@ fn tell_soundness(kept: &Kept, is_so: &mut bool) -> Result<(), Refusal>
     Ok(())
 }
 
-/// Whether an earlier change of a file broke off: every call but those that ask is refused from then
-/// on.
+/// Whether an earlier change of a file broke off: every call but those that ask is refused from
+/// then on.
 #[unsafe(no_mangle)]
 pub extern "C" fn cfb_is_failed(alloc: Global, file: &mut Handle, is_so: &mut bool) -> u8
     ensures { Calls (OnFile (Tells (λ file. is_so.new ≡ is_failed file)))

@@ -7,7 +7,7 @@ ghost use Rattle.cfb_c.specs.Files.{Appends, CopiesInto, LeavesBytes, OpensHeld}
 ghost use Rattle.cfb_c.specs.Given.{IsGiven, IsPartOf};
 ghost use Rattle.cfb_c.specs.Numbers.{IsLibraryAnd};
 
-use crate::giving::give;
+use crate::giving::{give, give_part};
 use crate::handle::Handle;
 use crate::held::Kept;
 use crate::opening::opened_over;
@@ -122,8 +122,8 @@ fn leave_bytes(kept: &mut Kept, len: &mut usize) -> Result<(), Refusal>
     }
 }
 
-/// The bytes that the handle holds, at the beginning of the room; or how many there are, where it is
-/// too small.
+/// The bytes that the handle holds, at the beginning of the room; or how many there are, where it
+/// is too small.
 #[unsafe(no_mangle)]
 pub extern "C" fn cfb_bytes(
     alloc: Global,
@@ -153,8 +153,8 @@ fn give_bytes(kept: &Kept, into: &mut [u8], len: &mut usize) -> Result<(), Refus
     give(bytes, into, len)
 }
 
-/// Copies a file, without its free sectors, to a file in memory, which `copy` holds then in place of
-/// what it held before.
+/// Copies a file, without its free sectors, to a file in memory, which `copy` holds then in place
+/// of what it held before.
 ///
 /// # Errors
 ///

@@ -54,8 +54,8 @@ fn create_storage(kept: &mut Kept, path: &[u8], moment: u64) -> Result<(), Refus
     Ok(())
 }
 
-/// Makes a storage at this path and all that are missing on the way to it. Storages that are there are
-/// passed.
+/// Makes a storage at this path and all that are missing on the way to it. Storages that are there
+/// are passed.
 ///
 /// # Errors
 ///
@@ -67,8 +67,9 @@ pub extern "C" fn cfb_create_storage_all_n(
     path: &[u8],
     moment: u64,
 ) -> u8
-    ensures { Calls (OnFile (AtPath path.now (λ path old outcome new. CallAnswersInTurn is_refused_growth
-        old (calls.create_storage_all path moment) outcome new)))
+    ensures { Calls (OnFile (AtPath path.now (λ path old outcome new.
+        CallAnswersInTurn is_refused_growth old (calls.create_storage_all path moment) outcome
+        new)))
         file.old.value result file.new.value }
 {
     let Some(mut held) = file.take(alloc) else {
@@ -180,7 +181,8 @@ fn remove_stream(kept: &mut Kept, path: &[u8]) -> Result<(), Refusal>
     Ok(())
 }
 
-/// Gives the storage at this path, or the root, this class id, in the order in which its text is read.
+/// Gives the storage at this path, or the root, this class id, in the order in which its text is
+/// read.
 ///
 /// # Errors
 ///

@@ -72,7 +72,8 @@ impl Handle {
 
     /// Takes out what is held, if anything is.
     pub fn take(&mut self, alloc: Global) -> Option<Box<Held>>
-        ensures held { MatchOption result (self.old.value ≡ None) (λ b. self.old.value ≡ Some b.value) }
+        ensures held { MatchOption result
+            (self.old.value ≡ None) (λ b. self.old.value ≡ Some b.value) }
         ensures nothing { self.new.value ≡ None }
     {
         mem::replace(self, Handle::closed()).into_held(alloc)
@@ -108,7 +109,8 @@ impl Handle {
     pub fn done(&mut self, alloc: Global, held: Box<Held>, outcome: Result<(), Refusal>) -> u8
         ensures number { result ≡ number_told outcome }
         ensures holds { self.new.value ≡ Some (record held.value {
-            refusal = reason_after outcome held.value.refusal }) }
+          refusal = reason_after outcome held.value.refusal;
+        }) }
     {
         let mut held = held;
         if let Err(refusal) = &outcome {

@@ -15,8 +15,8 @@ use crate::refusal::{NOT_OPEN, Refusal, text, wrong};
 use cfb::{Entries, Entry, Error, MemoryMedium};
 use std::alloc::Global;
 
-/// How many bytes a name has room for. A stored name has at most 31 UTF-16 units, of at most 3 bytes
-/// each.
+/// How many bytes a name has room for. A stored name has at most 31 UTF-16 units, of at most 3
+/// bytes each.
 const NAME_ROOM: usize = 96;
 
 /// The kind of a storage.
@@ -143,12 +143,7 @@ pub extern "C" fn cfb_list_n(
     file.done(alloc, held, outcome)
 }
 
-fn list(
-    alloc: Global,
-    kept: &Kept,
-    path: &[u8],
-    entries: &mut Handle,
-) -> Result<(), Refusal>
+fn list(alloc: Global, kept: &Kept, path: &[u8], entries: &mut Handle) -> Result<(), Refusal>
     ensures { OnFile (AtPath path.now (λ path.
         Asks (HoldsList (calls.read_storage path) entries.new.value)
         (IsNotListed (calls.read_storage path)))) kept.now result kept.now }
@@ -188,12 +183,7 @@ pub extern "C" fn cfb_walk_n(
     file.done(alloc, held, outcome)
 }
 
-fn walk(
-    alloc: Global,
-    kept: &Kept,
-    path: &[u8],
-    entries: &mut Handle,
-) -> Result<(), Refusal>
+fn walk(alloc: Global, kept: &Kept, path: &[u8], entries: &mut Handle) -> Result<(), Refusal>
     ensures { OnFile (AtPath path.now (λ path.
         Asks (HoldsList (calls.walk_storage path) entries.new.value)
         (IsNotListed (calls.walk_storage path)))) kept.now result kept.now }
@@ -303,7 +293,8 @@ pub extern "C" fn cfb_entries_path(
     into: &mut [u8],
     len: &mut usize,
 ) -> u8
-    ensures { Calls (OnList (λ list outcome. TellsPath list number into.old outcome into.new len.new))
+    ensures { Calls (OnList (λ list outcome.
+        TellsPath list number into.old outcome into.new len.new))
         entries.old.value result entries.new.value }
 {
     *len = 0;

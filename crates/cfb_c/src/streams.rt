@@ -1,15 +1,21 @@
 //! The bytes of streams. Places and lengths are in bytes.
-ghost use Rattle.std.specs.Prelude.{◌≡◌, ◌≤◌, IfOk, chars, length, ⊤};
-ghost use Rattle.cfb_commands.specs.cfb_compound_file.ReadStreams.{file_of as read_file_of};
+ghost use Rattle.std.specs.Prelude.{◌≡◌, IfOk, chars, ⊤};
+ghost use Rattle.cfb_commands.specs.cfb_compound_file.ReadStreams.{file_of as read_file_of, open_of};
+ghost use Rattle.cfb_commands.specs.cfb_compound_file.Stored.{kept_of};
+ghost use Rattle.cfb_commands.specs.cfb_compound_file.StreamAnswers.{stream_in};
 ghost use Rattle.cfb_commands.specs.cfb_compound_file.Streams.{file_of};
+ghost use Rattle.cfb_whole_streams.specs.Content.{IsOnlyRead};
 ghost use Rattle.cfb_c.specs.Calls.{AtPath, Calls, FromFile, FromPath, OnFile};
+ghost use Rattle.cfb_c.specs.Pieces.{ReadsFrom, ReadsPart, ReadsPiece};
 ghost use Rattle.cfb_c.specs.Streams.{GetsWhole, PutsEmpty, PutsWhole};
 
 use crate::giving::give;
 use crate::handle::Handle;
 use crate::held::Kept;
 use crate::refusal::{NOT_OPEN, Refusal, text};
-use cfb::{CompoundFile, Detail, Error, MemoryMedium, ReadStream, Stream, read_stream, write_stream};
+use cfb::{
+    CompoundFile, Detail, Error, MemoryMedium, ReadStream, Stream, read_stream, write_stream,
+};
 use std::alloc::Global;
 use std::io::SeekFrom;
 
@@ -116,11 +122,7 @@ fn create_stream(kept: &mut Kept, path: &[u8], is_new: bool) -> Result<(), Refus
     Ok(())
 }
 
-fn put_empty(
-    file: &mut CompoundFile<MemoryMedium>,
-    path: &str,
-    is_new: bool,
-) -> Result<(), Error>
+fn put_empty(file: &mut CompoundFile<MemoryMedium>, path: &str, is_new: bool) -> Result<(), Error>
     ensures { PutsEmpty is_new (chars path.now) file.old result file.new }
 {
     if is_new && !file.is_failed() && file.is_stream(path) {
@@ -144,9 +146,8 @@ pub extern "C" fn cfb_read_n(
     into: &mut [u8],
     len: &mut usize,
 ) -> u8
-    ensures calls { Calls (OnFile (AtPath path.now (λ path old outcome new. ⊤)))
+    ensures { Calls (OnFile (AtPath path.now (ReadsFrom at into.new len.new)))
         file.old.value result file.new.value }
-    ensures most { len.new ≤ length into.new }
 {
     *len = 0;
     let Some(mut held) = file.take(alloc) else {
@@ -163,9 +164,7 @@ fn read(
     into: &mut [u8],
     len: &mut usize,
 ) -> Result<(), Refusal>
-    ensures calls { OnFile (AtPath path.now (λ path old outcome new. ⊤))
-        kept.old result kept.new }
-    ensures most { len.old ≤ length into.old → len.new ≤ length into.new }
+    ensures { OnFile (AtPath path.now (ReadsFrom at into.new len.new)) kept.old result kept.new }
 {
     let Kept::File(file) = kept else {
         return Err(Refusal::NotOpen);
@@ -180,8 +179,8 @@ fn read_at(
     at: u64,
     into: &mut [u8],
 ) -> Result<usize, Error>
-    ensures most { IfOk result (λ n. n ≤ length into.new) }
-    ensures room { length into.new ≡ length into.old }
+    ensures kept { IsOnlyRead file.old file.new }
+    ensures reads { IfOk result (ReadsPiece file.old (chars path.now) at into.new) }
 {
     let mut stream = file.open_read_stream(path)?;
     let read = fill_from(&mut stream, at, into);
@@ -197,9 +196,10 @@ fn fill_from(
     at: u64,
     into: &mut [u8],
 ) -> Result<usize, Error>
-    ensures same_file { (read_file_of stream.new).ghost_name ≡ (read_file_of stream.old).ghost_name }
-    ensures most { IfOk result (λ n. n ≤ length into.new) }
-    ensures room { length into.new ≡ length into.old }
+    ensures same_file { (read_file_of stream.new).ghost_name
+        ≡ (read_file_of stream.old).ghost_name }
+    ensures kept { kept_of (read_file_of stream.new).now ≡ kept_of (read_file_of stream.old).now }
+    ensures reads { IfOk result (ReadsPart (stream_in (open_of stream.old)) at into.new) }
 {
     if stream.len() <= at {
         return Ok(0);
@@ -209,15 +209,15 @@ fn fill_from(
     while count < into.len() {
         let more = stream.read(&mut into[count..])?;
         if more == 0 {
-            break;
+            return Ok(count);
         }
         count += more;
     }
     Ok(count)
 }
 
-/// Writes all of these bytes into the stream at this path, from the place `at` on, which is not past
-/// its end. The stream grows where they reach past it.
+/// Writes all of these bytes into the stream at this path, from the place `at` on, which is not
+/// past its end. The stream grows where they reach past it.
 ///
 /// # Errors
 ///

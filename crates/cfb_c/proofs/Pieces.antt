@@ -1,0 +1,124 @@
+-- What one piece of a stream is that is read at a place, by the rules of calls.
+use Rattle.std.proofs.Common.{◌≡◌, ◌∙◌, ◌≤◌, ◌<◌, ℕ, Bool, true, false, List, [], ◌∷◌, refl, sym, ap, subst, arith, inl, inr, length, drop, take, ◌+◌, ◌++◌}
+use Rattle.std.proofs.lemmas.List.{drop-drop, length-drop, length-take-le}
+use Rattle.std.proofs.Math.Seq.{take-add, take-append-add}
+use Rattle.std.specs.Prelude.{◌⊎◌, ◌||◌, ◌==◌, MatchBool, MatchOption, Option, Some, None, nat_lt, nat_le, ⊤, if◌then◌else◌}
+use Rattle.cfb_commands.specs.cfb_rules.Refusal.{Refusal, failed_earlier, invalid_data, invalid_input}
+use Rattle.cfb_commands.specs.cfb_rules.Runs.{Causes, IsStreamBroken, StreamCallRuns, StreamOnFailed, StreamRun}
+use Rattle.cfb_commands.specs.cfb_rules.StreamCalls.{Moves, Read, Seek, Serves, Refuses, StreamReply, StreamSetting, StreamState, StreamStep, from_start, got, not_done, offset, place_within, read, seek, sought}
+use Rattle.cfb_format.specs.Medium.{part}
+use Rattle.cfb_c.specs.Pieces.{HasRead, StandsIn}
+
+got_not_done : (bytes : List ℕ) (r : Refusal) → got bytes ≡ not_done r → ⊥
+got_not_done bytes r e = cc
+
+offset_not_done : (n : ℕ) (r : Refusal) → offset n ≡ not_done r → ⊥
+offset_not_done n r e = cc
+
+abbrev bytes_in : StreamReply → List ℕ
+bytes_in (got bytes) = bytes
+bytes_in reply = []
+
+-- a piece was read at the position, of which nothing is only where nothing was wanted or at the end
+pub record IsPiece (s : StreamState) (wanted : ℕ) (bytes : List ℕ) (next : StreamState) : Type 0 where
+  pub stands : StandsIn s (s.position + length bytes) next
+  pub bytes_of_it : bytes ≡ take (length bytes) (drop s.position s.content)
+  pub inside : (length bytes ≡ 0) ⊎ (s.position + length bytes ≤ length s.content)
+  pub end : length bytes ≡ 0 → (wanted ≡ 0) ⊎ (s.position ≡ s.len)
+
+module _ (causes : Causes) (setting : StreamSetting) (old new : StreamRun) where
+  pub sought_there : (at n : ℕ) → StreamCallRuns causes setting old (seek (from_start at)) (offset n) new → StandsIn old.stream at new.stream
+  sought_there at n = go old.failed
+    where
+      found : (o : Option ℕ) → place_within old.stream.len at ≡ o → MatchOption o (Refuses invalid_input old.stream (offset n) new.stream)
+          (λ p. (offset n ≡ offset p) × Moves old.stream new.stream p 0) → StandsIn old.stream at new.stream
+      found None e h = absurd (offset_not_done n invalid_input h.0)
+      found (Some p) e h = record { len = h.1.len; content = h.1.content; position = h.1.position ∙ is_at (nat_le at old.stream.len) e }
+        where
+          is_at : (b : Bool) → (if b then Some at else None) ≡ Some p → p ≡ at
+          is_at true is = cc
+          is_at false is = absurd (let w : None ≡ Some p = is in cc)
+
+      go : (b : Bool) → MatchBool b (StreamOnFailed (seek (from_start at)) (offset n) new)
+          ((StreamStep setting old.stream (seek (from_start at)) (offset n) new.stream × (new.failed ≡ false)) ⊎ IsStreamBroken causes setting old.stream (seek (from_start at)) (offset n) new)
+          → StandsIn old.stream at new.stream
+      go true h = absurd (offset_not_done n failed_earlier h.1)
+      go false (inl h) = found (place_within old.stream.len at) refl h.0
+      go false (inr (r, may, is, off, allowed)) = absurd (offset_not_done n r is)
+
+  pub piece_read : (wanted : ℕ) (bytes : List ℕ) → StreamCallRuns causes setting old (read wanted) (got bytes) new → IsPiece old.stream wanted bytes new.stream
+  piece_read wanted bytes = go old.failed
+    where
+      s : StreamState
+      s = old.stream
+
+      nothing : (wanted ≡ 0) ⊎ (s.position ≡ s.len) → got bytes ≡ got [] → Moves s new.stream s.position 0 → IsPiece s wanted bytes new.stream
+      nothing why is moves =
+          let none : bytes ≡ [] = ap bytes_in is in
+          let zero : length bytes ≡ 0 = ap (λ (bs : List ℕ). length bs) none in
+          record {
+            stands = record { len = moves.len; content = moves.content; position = omega (arith, moves.position, zero) };
+            bytes_of_it = none ∙ sym (ap (λ (n : ℕ). take n (drop s.position s.content)) zero);
+            inside = inl zero;
+            end = λ _. why;
+          }
+
+      served : (n : ℕ) → 1 ≤ n → s.position + n ≤ length s.content → got bytes ≡ got (part s.content s.position n) → Moves s new.stream (s.position + n) 0 → IsPiece s wanted bytes new.stream
+      served n least inside is moves =
+          let same : bytes ≡ take n (drop s.position s.content) = ap bytes_in is in
+          let count : length bytes ≡ n = ap (λ (bs : List ℕ). length bs) same
+          ∙ length-take-le n (drop s.position s.content) (omega (arith, length-drop s.position s.content, inside)) in
+          record {
+            stands = record { len = moves.len; content = moves.content; position = moves.position ∙ ap (λ (k : ℕ). s.position + k) (sym count) };
+            bytes_of_it = same ∙ ap (λ (k : ℕ). take k (drop s.position s.content)) (sym count);
+            inside = inr (omega (arith, count, inside));
+            end = λ none. absurd (omega (arith, none, count, least));
+          }
+
+      why_nothing : (a b : Bool) → (wanted == 0) ≡ a → (s.position == s.len) ≡ b → (a || b) ≡ true → (wanted ≡ 0) ⊎ (s.position ≡ s.len)
+      why_nothing true b e f t = inl (grind (arith, e))
+      why_nothing false true e f t = inr (grind (arith, f))
+      why_nothing false false e f t = absurd (let w : false ≡ true = t in cc)
+
+      some : (b : Bool) → nat_lt s.position (length s.content) ≡ b → MatchBool b (Serves (λ n. s.position + n) (λ n. 0) wanted s (got bytes) new.stream) (Refuses invalid_data s (got bytes) new.stream)
+          → IsPiece s wanted bytes new.stream
+      some true e (n, least, most, inside, is, moves) = served n least inside is moves
+      some false e h = absurd (got_not_done bytes invalid_data h.0)
+
+      step : (b : Bool) → ((wanted == 0) || (s.position == s.len)) ≡ b → MatchBool b ((got bytes ≡ got []) × Moves s new.stream s.position 0)
+          (MatchBool (nat_lt s.position (length s.content)) (Serves (λ n. s.position + n) (λ n. 0) wanted s (got bytes) new.stream) (Refuses invalid_data s (got bytes) new.stream))
+          → IsPiece s wanted bytes new.stream
+      step true e h = nothing (why_nothing (wanted == 0) (s.position == s.len) refl refl e) h.0 h.1
+      step false e h = some (nat_lt s.position (length s.content)) refl h
+
+      go : (b : Bool) → MatchBool b (StreamOnFailed (read wanted) (got bytes) new)
+          ((StreamStep setting old.stream (read wanted) (got bytes) new.stream × (new.failed ≡ false)) ⊎ IsStreamBroken causes setting old.stream (read wanted) (got bytes) new)
+          → IsPiece s wanted bytes new.stream
+      go true h = absurd (got_not_done bytes failed_earlier h.1)
+      go false (inl h) = step ((wanted == 0) || (s.position == s.len)) refl h.0
+      go false (inr (r, may, is, off, allowed)) = absurd (got_not_done bytes r is)
+
+-- ---- piece by piece
+
+pub begun : (s : StreamState) (at : ℕ) (into : List ℕ) → HasRead s at 0 into
+begun s at into = record { bytes = refl; inside = inl refl }
+
+-- one more piece was read behind them
+module _ (s : StreamState) (at count n : ℕ) (into slice : List ℕ) (so_far : HasRead s at count into) (most : count ≤ length into) (bytes : take n slice ≡ take n (drop (at + count) s.content))
+    (fits : n ≤ length slice) (inside : (n ≡ 0) ⊎ (at + count + n ≤ length s.content)) where
+  put : take (count + n) (take count into ++ slice) ≡ take count into ++ take n slice
+  put = ap (λ (k : ℕ). take (k + n) (take count into ++ slice)) (sym (length-take-le count into most)) ∙ take-append-add (take count into) slice n
+
+  there : take (count + n) (drop at s.content) ≡ take count (drop at s.content) ++ take n (drop (at + count) s.content)
+  there = take-add count n (drop at s.content) ∙ ap (λ (bs : List ℕ). take count (drop at s.content) ++ take n bs) (drop-drop count at s.content)
+
+  still : (count ≡ 0) ⊎ (at + count ≤ length s.content) → (n ≡ 0) ⊎ (at + count + n ≤ length s.content) → (count + n ≡ 0) ⊎ (at + (count + n) ≤ length s.content)
+  still a (inr b) = inr (omega (arith, b))
+  still (inl a) (inl b) = inl (omega (arith, a, b))
+  still (inr a) (inl b) = inr (omega (arith, a, b))
+
+  pub reads_on : HasRead s at (count + n) (take count into ++ slice)
+  reads_on = record {
+    bytes = put ∙ ap (λ (bs : List ℕ). bs ++ take n slice) so_far.bytes ∙ ap (λ (bs : List ℕ). take count (drop at s.content) ++ bs) bytes ∙ sym there;
+    inside = still so_far.inside inside;
+  }
