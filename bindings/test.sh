@@ -30,4 +30,5 @@ if command -v cargo >/dev/null; then
     cp -r "$here/rust" rust
     CFB_LIB_DIR="$here/out/lib" CARGO_TARGET_DIR="$room/target" cargo test -q --offline --manifest-path rust/Cargo.toml
 fi
+"$python" "$here/documented"
 echo "bindings: all well"

@@ -7,6 +7,9 @@ use Rattle.cfb_commands.specs.cfb_rules.Refusal.{Refusal, failed_earlier, invali
 use Rattle.cfb_commands.specs.cfb_rules.Runs.{Causes, IsStreamBroken, StreamCallRuns, StreamOnFailed, StreamRun}
 use Rattle.cfb_commands.specs.cfb_rules.StreamCalls.{Moves, Read, Seek, Serves, Refuses, StreamReply, StreamSetting, StreamState, StreamStep, from_start, got, not_done, offset, place_within, read, seek, sought}
 use Rattle.cfb_format.specs.Medium.{part}
+use Rattle.cfb_commands.specs.cfb_stream_buffer.Contents.{stream_setting_of}
+use Rattle.cfb_commands.specs.cfb_stream_window.Windows.{Runs}
+use Rattle.cfb_commands.specs.cfb_compound_file.StreamAnswers.{OpenStream, StreamRunsBy, run_in, stored_in, stream_in}
 use Rattle.cfb_c.specs.Pieces.{HasRead, StandsIn}
 
 got_not_done : (bytes : List ℕ) (r : Refusal) → got bytes ≡ not_done r → ⊥
@@ -122,3 +125,44 @@ module _ (s : StreamState) (at count n : ℕ) (into slice : List ℕ) (so_far : 
     bytes = put ∙ ap (λ (bs : List ℕ). bs ++ take n slice) so_far.bytes ∙ ap (λ (bs : List ℕ). take count (drop at s.content) ++ bs) bytes ∙ sym there;
     inside = still so_far.inside inside;
   }
+
+-- one piece more, of a stream that stands behind those before it
+module _ (first s next : StreamState) (at count wanted n : ℕ) (into slice : List ℕ) (stands : StandsIn first (at + count) s) (piece : IsPiece s wanted (take n slice) next) (fits : n ≤ length slice) where
+  counted : length (take n slice) ≡ n
+  counted = length-take-le n slice fits
+
+  pub stands_on : StandsIn first (at + (count + n)) next
+  stands_on = record {
+    len = piece.stands.len ∙ stands.len;
+    content = piece.stands.content ∙ stands.content;
+    position = omega (arith, piece.stands.position, stands.position, counted);
+  }
+
+  same_bytes : take n slice ≡ take n (drop (at + count) first.content)
+  same_bytes = piece.bytes_of_it ∙ ap (λ (k : ℕ). take k (drop s.position s.content)) counted
+      ∙ ap (λ (k : ℕ). take n (drop k s.content)) stands.position ∙ ap (λ (bs : List ℕ). take n (drop (at + count) bs)) stands.content
+
+  same_inside : (length (take n slice) ≡ 0) ⊎ (s.position + length (take n slice) ≤ length s.content) → (n ≡ 0) ⊎ (at + count + n ≤ length first.content)
+  same_inside (inl none) = inl (omega (arith, none, counted))
+  same_inside (inr inside) = inr (omega (arith, inside, counted, stands.position, ap (λ (bs : List ℕ). length bs) stands.content))
+
+  pub one_more : HasRead first at count into → count ≤ length into → HasRead first at (count + n) (take count into ++ slice)
+  one_more so_far most = reads_on first at count n into slice so_far most same_bytes fits (same_inside piece.inside)
+
+  pub ends_there : n ≡ 0 → 0 < wanted → first.len ≤ at + count
+  ends_there none more = go (piece.end (omega (arith, counted, none)))
+    where
+      go : (wanted ≡ 0) ⊎ (s.position ≡ s.len) → first.len ≤ at + count
+      go (inl zero) = absurd (omega (arith, zero, more))
+      go (inr end) = omega (arith, end, stands.len, stands.position)
+
+-- ---- of an open stream
+
+module _ (causes : Causes) (s next : OpenStream) where
+  pub sought_in : (at n : ℕ) → StreamRunsBy causes s (seek (from_start at)) (offset n) next → StandsIn (stream_in s) at (stream_in next)
+  unfolding Runs
+  sought_in at n runs = sought_there causes (stream_setting_of (stored_in s)) (run_in s) (run_in next) at n runs
+
+  pub piece_in : (wanted : ℕ) (bytes : List ℕ) → StreamRunsBy causes s (read wanted) (got bytes) next → IsPiece (stream_in s) wanted bytes (stream_in next)
+  unfolding Runs
+  piece_in wanted bytes runs = piece_read causes (stream_setting_of (stored_in s)) (run_in s) (run_in next) wanted bytes runs

@@ -1,5 +1,5 @@
 -- What is told of objects and of lists of them.
-use Rattle.std.specs.Prelude.{ℕ, ◌≡◌, ◌<◌, ◌≤◌, ◌⊎◌, List, Option, None, Some, MatchResult, Result, chars, length, slice_index}
+use Rattle.std.specs.Prelude.{ℕ, ◌≡◌, ◌⊎◌, List, Option, None, Some, IsErrAnd, IsOk, MatchOption, Result, chars, slice_get}
 use Rattle.cfb_format.specs.declared.error.Error.{Error}
 use Rattle.cfb_format.specs.declared.objtype.ObjType.{ObjType}
 use Rattle.cfb_format.specs.declared.objtype.ObjType.TheVariants.{Unallocated, Storage, Stream, Root}
@@ -50,14 +50,16 @@ HoldsList call (Some held) file = IsListAnd (λ list. Answers file call (entries
 abbrev pub IsNotListed : Call → FileState → Error → Type 0
 IsNotListed call file e = AnswersNot file call e ⊎ IsMemory e
 
--- the path of the object of this number was told so
-pub record HasPath (list : List EntryInfo) (number : ℕ) (room : List ℕ) (outcome : Result (Unit {0}) Refusal) (filled : List ℕ) (len : ℕ) : Type 0 where
-  pub there : number < length list
+-- of the object of this number, if the list has so many, this is told; else an argument is wrong
+abbrev pub TellsAt : {T : Type 0} → (EntryInfo → Result T Refusal → Type 0) → List EntryInfo → (number : ℕ) → Result T Refusal → Type 0
+TellsAt told list number outcome = MatchOption (slice_get list number) (IsErrAnd outcome IsWrong) (λ entry. told entry outcome)
+
+-- its path, in UTF-8
+pub record GivesPath {T : Type 0} (room filled : List ℕ) (len : ℕ) (entry : EntryInfo) (outcome : Result T Refusal) : Type 0 where
   pub path : List ℕ
-  pub is : chars path ≡ (slice_index list number).path
+  pub is : chars path ≡ entry.path
   pub given : IsGiven path room outcome filled len
 
--- or the list has fewer objects, and then an argument is wrong
-abbrev pub TellsPath : List EntryInfo → (number : ℕ) → (room : List ℕ) → Result (Unit {0}) Refusal → (filled : List ℕ) → (len : ℕ) → Type 0
-TellsPath list number room outcome filled len =
-    HasPath list number room outcome filled len ⊎ ((length list ≤ number) × MatchResult outcome (λ _. ⊥) IsWrong)
+-- what a list tells of it
+abbrev pub GivesInfo : {T : Type 0} → ObjectInfo → EntryInfo → Result T Refusal → Type 0
+GivesInfo info entry outcome = IsOk outcome × IsInfoOf entry info

@@ -1,12 +1,11 @@
 //! What is told of objects.
-ghost use Rattle.std.specs.Prelude.{◌≡◌, ◌<◌, ◌≤◌, MatchResult, length, slice_index};
+ghost use Rattle.std.specs.Prelude.{◌≡◌, MatchResult, length};
 ghost use Rattle.cfb_format.specs.Refused.{IsMemory};
 ghost use Rattle.cfb_commands.specs.cfb_path_changes.Answers.{AnswersNot};
 ghost use Rattle.cfb_commands.specs.cfb_rules.Calls as calls;
 ghost use Rattle.cfb_listing.specs.Left.{entries_left};
 ghost use Rattle.cfb_c.specs.Calls.{Asks, AtPath, Calls, OnFile, OnList};
-ghost use Rattle.cfb_c.specs.Lists.{HoldsList, IsInfoOf, IsNotListed, KeepsList, TellsOne, TellsPath, kind_byte};
-ghost use Rattle.cfb_c.specs.Numbers.{IsWrong};
+ghost use Rattle.cfb_c.specs.Lists.{GivesInfo, GivesPath, HoldsList, IsInfoOf, IsNotListed, KeepsList, TellsAt, TellsOne, kind_byte};
 
 use crate::giving::give;
 use crate::handle::Handle;
@@ -197,7 +196,7 @@ fn walk(alloc: Global, kept: &Kept, path: &[u8], entries: &mut Handle) -> Result
 }
 
 fn collected(alloc: Global, entries: Entries<'_, MemoryMedium>) -> Result<Vec<Entry>, Error>
-    ensures { MatchResult result (λ list. list.items ≡ entries_left entries) IsMemory }
+    ensures { MatchResult result (λ list. list.items ≡ entries_left entries.entry) IsMemory }
 {
     match entries.collect(alloc) {
         Ok(list) => Ok(list),
@@ -252,9 +251,8 @@ pub extern "C" fn cfb_entries_get(
     number: usize,
     info: &mut ObjectInfo,
 ) -> u8
-    ensures { Calls (OnList (λ list outcome. MatchResult outcome
-        (λ _. (number < length list) × IsInfoOf (slice_index list number) info.new)
-        (λ refusal. IsWrong refusal × (length list ≤ number))))
+    ensures { Calls (OnList (λ list outcome.
+        TellsAt (GivesInfo info.new) list number outcome))
         entries.old.value result entries.new.value }
 {
     let Some(held) = entries.take(alloc) else {
@@ -265,9 +263,8 @@ pub extern "C" fn cfb_entries_get(
 }
 
 fn tell_listed(kept: &Kept, number: usize, info: &mut ObjectInfo) -> Result<(), Refusal>
-    ensures { OnList (λ list outcome. MatchResult outcome
-        (λ _. (number < length list) × IsInfoOf (slice_index list number) info.new)
-        (λ refusal. IsWrong refusal × (length list ≤ number))) kept.now result kept.now }
+    ensures { OnList (λ list outcome.
+        TellsAt (GivesInfo info.new) list number outcome) kept.now result kept.now }
 {
     let Kept::Entries(list) = kept else {
         return Err(Refusal::NotOpen);
@@ -294,7 +291,7 @@ pub extern "C" fn cfb_entries_path(
     len: &mut usize,
 ) -> u8
     ensures { Calls (OnList (λ list outcome.
-        TellsPath list number into.old outcome into.new len.new))
+        TellsAt (GivesPath into.old into.new len.new) list number outcome))
         entries.old.value result entries.new.value }
 {
     *len = 0;
@@ -306,7 +303,8 @@ pub extern "C" fn cfb_entries_path(
 }
 
 fn tell_path(kept: &Kept, number: usize, into: &mut [u8], len: &mut usize) -> Result<(), Refusal>
-    ensures { OnList (λ list outcome. TellsPath list number into.old outcome into.new len.new)
+    ensures { OnList (λ list outcome.
+        TellsAt (GivesPath into.old into.new len.new) list number outcome)
         kept.now result kept.now }
 {
     let Kept::Entries(list) = kept else {
