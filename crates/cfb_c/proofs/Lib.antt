@@ -1,3 +1,4 @@
 pub mod Values
 pub mod Closed
 pub mod Pieces
+pub mod Told

@@ -7,3 +7,4 @@ pub mod Opened
 pub mod Streams
 pub mod Files
 pub mod Pieces
+pub mod Answered

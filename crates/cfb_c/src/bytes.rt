@@ -170,6 +170,7 @@ pub extern "C" fn cfb_copy_bytes(alloc: Global, file: &mut Handle, copy: &mut Ha
     file.done(alloc, held, outcome)
 }
 
+#[tactic(auto, using(crate::proofs::Told::holds_copy))]
 fn copy_into(alloc: Global, kept: &mut Kept, copy: &mut Handle) -> Result<(), Refusal>
     ensures { OnFile (CopiesInto copy.new.value) kept.old result kept.new }
 {

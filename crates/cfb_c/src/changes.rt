@@ -1,14 +1,15 @@
 //! Changes of a file by paths. A moment is in units of 100 nanoseconds since the beginning of 1601.
-ghost use Rattle.std.specs.Prelude.{◌≡◌};
+ghost use Rattle.std.specs.Prelude.{◌≡◌, chars};
 ghost use Rattle.cfb_format.specs.Memory.{is_refused_growth};
-ghost use Rattle.cfb_commands.specs.cfb_path_changes.Calls.{CallAnswers, CallAnswersInTurn};
+ghost use Rattle.cfb_commands.specs.cfb_path_changes.Calls.{CallAnswers};
 ghost use Rattle.cfb_commands.specs.cfb_rules.Calls as calls;
+ghost use Rattle.cfb_c.specs.Answered.{IsAnswered, IsAnsweredInTurn};
 ghost use Rattle.cfb_c.specs.Calls.{AtPath, Calls, OnFile};
 
 use crate::handle::Handle;
 use crate::held::Kept;
 use crate::refusal::{NOT_OPEN, Refusal, text};
-use cfb::Timestamp;
+use cfb::{CompoundFile, Error, MemoryMedium, Timestamp};
 use std::alloc::Global;
 use uuid::Uuid;
 
@@ -67,9 +68,8 @@ pub extern "C" fn cfb_create_storage_all_n(
     path: &[u8],
     moment: u64,
 ) -> u8
-    ensures { Calls (OnFile (AtPath path.now (λ path old outcome new.
-        CallAnswersInTurn is_refused_growth old (calls.create_storage_all path moment) outcome
-        new)))
+    ensures { Calls (OnFile (AtPath path.now (λ path.
+        IsAnsweredInTurn (calls.create_storage_all path moment))))
         file.old.value result file.new.value }
 {
     let Some(mut held) = file.take(alloc) else {
@@ -80,14 +80,14 @@ pub extern "C" fn cfb_create_storage_all_n(
 }
 
 fn create_storage_all(kept: &mut Kept, path: &[u8], moment: u64) -> Result<(), Refusal>
-    ensures { OnFile (AtPath path.now (λ path old outcome new. CallAnswersInTurn is_refused_growth
-        old (calls.create_storage_all path moment) outcome new))
+    ensures { OnFile (AtPath path.now (λ path.
+        IsAnsweredInTurn (calls.create_storage_all path moment)))
         kept.old result kept.new }
 {
     let Kept::File(file) = kept else {
         return Err(Refusal::NotOpen);
     };
-    file.create_storage_all(text(path)?, moment_of_units(moment))?;
+    create_storage_all_at(file, text(path)?, moment_of_units(moment))?;
     Ok(())
 }
 
@@ -128,8 +128,8 @@ fn remove_storage(kept: &mut Kept, path: &[u8]) -> Result<(), Refusal>
 /// As `CompoundFile::remove_storage_all`.
 #[unsafe(no_mangle)]
 pub extern "C" fn cfb_remove_storage_all_n(alloc: Global, file: &mut Handle, path: &[u8]) -> u8
-    ensures { Calls (OnFile (AtPath path.now (λ path old outcome new. CallAnswers is_refused_growth
-        old (calls.remove_storage_all path) outcome new)))
+    ensures { Calls (OnFile (AtPath path.now (λ path.
+        IsAnswered (calls.remove_storage_all path))))
         file.old.value result file.new.value }
 {
     let Some(mut held) = file.take(alloc) else {
@@ -140,14 +140,14 @@ pub extern "C" fn cfb_remove_storage_all_n(alloc: Global, file: &mut Handle, pat
 }
 
 fn remove_storage_all(kept: &mut Kept, path: &[u8]) -> Result<(), Refusal>
-    ensures { OnFile (AtPath path.now (λ path old outcome new. CallAnswers is_refused_growth
-        old (calls.remove_storage_all path) outcome new))
+    ensures { OnFile (AtPath path.now (λ path.
+        IsAnswered (calls.remove_storage_all path)))
         kept.old result kept.new }
 {
     let Kept::File(file) = kept else {
         return Err(Refusal::NotOpen);
     };
-    file.remove_storage_all(text(path)?)?;
+    remove_storage_all_at(file, text(path)?)?;
     Ok(())
 }
 
@@ -158,8 +158,8 @@ fn remove_storage_all(kept: &mut Kept, path: &[u8]) -> Result<(), Refusal>
 /// As `CompoundFile::remove_stream`.
 #[unsafe(no_mangle)]
 pub extern "C" fn cfb_remove_stream_n(alloc: Global, file: &mut Handle, path: &[u8]) -> u8
-    ensures { Calls (OnFile (AtPath path.now (λ path old outcome new. CallAnswers is_refused_growth
-        old (calls.remove_stream path) outcome new)))
+    ensures { Calls (OnFile (AtPath path.now (λ path.
+        IsAnswered (calls.remove_stream path))))
         file.old.value result file.new.value }
 {
     let Some(mut held) = file.take(alloc) else {
@@ -170,14 +170,14 @@ pub extern "C" fn cfb_remove_stream_n(alloc: Global, file: &mut Handle, path: &[
 }
 
 fn remove_stream(kept: &mut Kept, path: &[u8]) -> Result<(), Refusal>
-    ensures { OnFile (AtPath path.now (λ path old outcome new. CallAnswers is_refused_growth
-        old (calls.remove_stream path) outcome new))
+    ensures { OnFile (AtPath path.now (λ path.
+        IsAnswered (calls.remove_stream path)))
         kept.old result kept.new }
 {
     let Kept::File(file) = kept else {
         return Err(Refusal::NotOpen);
     };
-    file.remove_stream(text(path)?)?;
+    remove_stream_at(file, text(path)?)?;
     Ok(())
 }
 
@@ -320,4 +320,26 @@ fn set_modified_time(kept: &mut Kept, path: &[u8], moment: u64) -> Result<(), Re
     };
     file.set_modified_time(text(path)?, moment_of_units(moment))?;
     Ok(())
+}
+
+fn create_storage_all_at(
+    file: &mut CompoundFile<MemoryMedium>,
+    path: &str,
+    moment: Timestamp,
+) -> Result<(), Error>
+    ensures { IsAnsweredInTurn (calls.create_storage_all (chars path.now) moment) file.old result file.new }
+{
+    file.create_storage_all(path, moment)
+}
+
+fn remove_storage_all_at(file: &mut CompoundFile<MemoryMedium>, path: &str) -> Result<(), Error>
+    ensures { IsAnswered (calls.remove_storage_all (chars path.now)) file.old result file.new }
+{
+    file.remove_storage_all(path)
+}
+
+fn remove_stream_at(file: &mut CompoundFile<MemoryMedium>, path: &str) -> Result<(), Error>
+    ensures { IsAnswered (calls.remove_stream (chars path.now)) file.old result file.new }
+{
+    file.remove_stream(path)
 }

@@ -1,9 +1,11 @@
 //! How files are opened and made.
-ghost use Rattle.std.specs.Prelude.{MatchResult};
+ghost use Rattle.std.specs.Prelude.{◌≡◌, MatchResult};
+ghost use Rattle.cfb_format.specs.Bytes.{version_number};
 ghost use Rattle.cfb_c.specs.Calls.{IsFileAnd, Makes};
 ghost use Rattle.cfb_c.specs.Numbers.{IsLibraryAnd};
-ghost use Rattle.cfb_c.specs.Opened.{IsCreatedAs, IsNotCreated, IsNotOpened, options_of};
-ghost use Rattle.cfb_commands.specs.cfb_compound_file.Opening.{IsOpenedWith};
+ghost use Rattle.cfb_c.specs.Answered.{IsNotMade};
+ghost use Rattle.cfb_c.specs.Opened.{IsCreatedAs, IsNotOpened, options_of};
+ghost use Rattle.cfb_commands.specs.cfb_compound_file.Opening.{IsCreatedWith, IsOpenedWith, permissive_options};
 
 use crate::handle::Handle;
 use crate::held::Kept;
@@ -51,12 +53,21 @@ pub fn opened_over(alloc: Global, bytes: Vec<u8>, is_strict: bool) -> Result<Kep
         (IsLibraryAnd (IsNotOpened is_strict bytes.items)) }
 {
     let medium = MemoryMedium::from_bytes(bytes);
-    let file = if is_strict {
-        OpenOptions::new().strict().open_with(alloc, medium)?
+    match options(is_strict).open_with(alloc, medium) {
+        Ok(file) => Ok(Kept::File(file)),
+        Err(e) => Err(Refusal::Library(e)),
+    }
+}
+
+/// How a file is opened, strictly or not.
+fn options(is_strict: bool) -> OpenOptions
+    ensures { result ≡ options_of is_strict }
+{
+    if is_strict {
+        OpenOptions::new().strict()
     } else {
-        OpenOptions::new().open_with(alloc, medium)?
-    };
-    Ok(Kept::File(file))
+        OpenOptions::new()
+    }
 }
 
 /// Makes an empty file of version 3 or 4 in memory.
@@ -67,21 +78,29 @@ pub fn opened_over(alloc: Global, bytes: Vec<u8>, is_strict: bool) -> Result<Kep
 #[unsafe(no_mangle)]
 pub extern "C" fn cfb_create_bytes(alloc: Global, file: &mut Handle, version: u32) -> u8
     ensures { Makes (IsFileAnd (IsCreatedAs version))
-        (IsLibraryAnd (IsNotCreated version)) result file.new.value }
+        (IsLibraryAnd (IsNotMade version)) result file.new.value }
 {
     file.hold(alloc, created(alloc, version))
 }
 
 fn created(alloc: Global, version: u32) -> Result<Kept, Refusal>
     ensures { MatchResult result (IsFileAnd (IsCreatedAs version))
-        (IsLibraryAnd (IsNotCreated version)) }
+        (IsLibraryAnd (IsNotMade version)) }
 {
-    let version = match version {
-        3 => Version::V3,
-        4 => Version::V4,
-        _ => return Err(wrong("a version is 3 or 4")),
-    };
+    match version {
+        3 => created_as(alloc, Version::V3),
+        4 => created_as(alloc, Version::V4),
+        _ => Err(wrong("a version is 3 or 4")),
+    }
+}
+
+fn created_as(alloc: Global, version: Version) -> Result<Kept, Refusal>
+    ensures { MatchResult result (IsFileAnd (IsCreatedWith version permissive_options 0))
+        (IsLibraryAnd (IsNotMade (version_number version))) }
+{
     let medium = MemoryMedium::new(alloc);
-    let file = CompoundFile::create_with_version(alloc, version, medium)?;
-    Ok(Kept::File(file))
+    match CompoundFile::create_with_version(alloc, version, medium) {
+        Ok(file) => Ok(Kept::File(file)),
+        Err(e) => Err(Refusal::Library(e)),
+    }
 }

@@ -85,8 +85,14 @@ fn put(kept: &mut Kept, path: &[u8], bytes: &[u8]) -> Result<(), Refusal>
     let Kept::File(file) = kept else {
         return Err(Refusal::NotOpen);
     };
-    write_stream(file, text(path)?, bytes)?;
+    put_all(file, text(path)?, bytes)?;
     Ok(())
+}
+
+fn put_all(file: &mut CompoundFile<MemoryMedium>, path: &str, bytes: &[u8]) -> Result<(), Error>
+    ensures { PutsWhole bytes.now (chars path.now) file.old result file.new }
+{
+    write_stream(file, path, bytes)
 }
 
 /// Makes an empty stream at this path. One that is there is emptied, or refused as `AlreadyExists`
