@@ -1,6 +1,7 @@
 -- What one piece of a stream is that is read at a place, by the rules of calls.
 use Rattle.std.proofs.Common.{◌≡◌, ◌∙◌, ◌≤◌, ◌<◌, ℕ, Bool, true, false, List, [], ◌∷◌, refl, sym, ap, subst, arith, inl, inr, length, drop, take, ◌+◌, ◌++◌}
-use Rattle.std.proofs.lemmas.List.{drop-drop, length-drop, length-take-le}
+use borrow.Rule.Slice.PartMut.{post_of, put_mid}
+use Rattle.std.proofs.lemmas.List.{drop-drop, length-append, length-drop, length-take-le, take-append-le}
 use Rattle.std.proofs.Math.Seq.{take-add, take-append-add}
 use Rattle.std.specs.Prelude.{◌⊎◌, ◌||◌, ◌==◌, MatchBool, MatchOption, Option, Some, None, nat_lt, nat_le, ⊤, if◌then◌else◌}
 use Rattle.cfb_commands.specs.cfb_rules.Refusal.{Refusal, failed_earlier, invalid_data, invalid_input}
@@ -148,6 +149,18 @@ module _ (first s next : StreamState) (at count wanted n : ℕ) (into slice : Li
 
   pub one_more : HasRead first at count into → count ≤ length into → HasRead first at (count + n) (take count into ++ slice)
   one_more so_far most = reads_on first at count n into slice so_far most same_bytes fits (same_inside piece.inside)
+
+  -- in the room, of which the piece was a part
+  pub put_behind : (k : ℕ) → HasRead first at count into → count ≤ length into → HasRead first at (count + n) (put_mid count k into slice)
+  put_behind k so_far most =
+      let rest = post_of count k into in
+      let same : take n (slice ++ rest) ≡ take n slice = take-append-le n slice rest fits in
+      reads_on first at count n into (slice ++ rest) so_far most (same ∙ same_bytes) (omega (arith, fits, length-append slice rest)) (same_inside piece.inside)
+
+  pub room_behind : (k : ℕ) → count ≤ length into → count + n ≤ length (put_mid count k into slice)
+  room_behind k most =
+      let rest = post_of count k into in
+      omega (arith, fits, length-append (take count into) (slice ++ rest), length-append slice rest, length-take-le count into most)
 
   pub ends_there : n ≡ 0 → 0 < wanted → first.len ≤ at + count
   ends_there none more = go (piece.end (omega (arith, counted, none)))
