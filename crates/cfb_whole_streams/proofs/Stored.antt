@@ -1,21 +1,21 @@
 -- What stands at a path where a stream was written to its end.
-use Rattle.std.proofs.Common.{◌≡◌, ◌∙◌, ◌≤◌, ◌+◌, ◌==◌, ℕ, Bool, true, false, List, [], ◌∷◌, ◌++◌, ap, append-nil, append_assoc, arith, drop, inl, inr, length, length-append, max, refl, subst, sym, take}
+use Rattle.std.proofs.Common.{◌≡◌, ◌∙◌, ◌≤◌, ◌+◌, ◌==◌, ℕ, Bool, true, false, List, [], ◌∷◌, ◌++◌, ap, append-nil, append_assoc, arith, drop, inl, inr, length, length-append, refl, subst, sym, take}
 use Rattle.std.proofs.lemmas.List.{drop_all, length-take-le, take-append-drop, take_all}
-use Rattle.std.proofs.lemmas.Bool.{eqb-true, le-leb}
-use Rattle.std.specs.Prelude.{◌⊎◌, if◌then◌else◌, MatchBool, MatchOption, Option, Some, None, IsTrue, nat_le, pos, option_and_then, unwrap_or}
+use Rattle.std.proofs.lemmas.Bool.{le-leb}
+use Rattle.std.specs.Prelude.{◌⊎◌, if◌then◌else◌, MatchBool, MatchOption, Option, Some, None, nat_le, pos, option_and_then, unwrap_or}
 use Rattle.std.specs.Option.{option_map_or}
 use Rattle.cfb_format.specs.Names.{Cases}
 use Rattle.cfb_format.specs.Path.{names_of_path}
-use Rattle.cfb_format.specs.Tree.{Object, StreamInfo, Tree, a_stream}
-use Rattle.cfb_rules.specs.Calls.{Call, Reply, create_stream, done, open_stream, refused}
+use Rattle.cfb_format.specs.Tree.{Object, Tree, a_stream}
+use Rattle.cfb_rules.specs.Calls.{create_stream, done, open_stream, refused}
 use Rattle.cfb_rules.specs.CallChanges.{new_stream, tree_after}
-use Rattle.cfb_rules.specs.CallRefusals.{creation_refusal, is_a_stream, path_refusal, refusal_of, unless}
+use Rattle.cfb_rules.specs.CallRefusals.{creation_refusal, is_a_stream, path_refusal, refusal_of}
 use Rattle.cfb_rules.specs.CallReplies.{reply_of}
 use Rattle.cfb_rules.specs.Finding.{object_at}
 use Rattle.cfb_rules.specs.Laws.{IsClosed, IsDone}
-use Rattle.cfb_rules.specs.Lists.{ClosingStep, Command, CommandReply, CommandRuns, Deed, FileView, IsLegalRun, StreamCallStep, StreamCallsRun, StreamedRun, causes_between, creates, names_at, on_stream, opens, replied, streamed}
-use Rattle.cfb_rules.specs.Refusal.{Refusal, failed_earlier, invalid_input, medium_failed, not_sound, out_of_memory}
-use Rattle.cfb_rules.specs.Runs.{BlamesOneOf, CallRuns, Causes, ClosedTree, Closes, FollowsRules, IsBroken, IsStreamBroken, Setting, StreamCallRuns, StreamOnFailed, StreamRun, TreeState, is_served, opened_by_path, stream_fields}
+use Rattle.cfb_rules.specs.Lists.{CommandReply, CommandRuns, Deed, FileView, StreamCallStep, StreamCallsRun, StreamedRun, causes_between, creates, names_at, on_stream, opens, replied, streamed}
+use Rattle.cfb_rules.specs.Refusal.{Refusal, failed_earlier, invalid_input, not_sound}
+use Rattle.cfb_rules.specs.Runs.{CallRuns, Causes, ClosedTree, Closes, FollowsRules, IsBroken, IsStreamBroken, Setting, StreamCallRuns, StreamOnFailed, StreamRun, TreeState, opened_by_path, stream_fields}
 use Rattle.cfb_rules.specs.Steps.{Step, outcome, unsound_refusal}
 use Rattle.cfb_rules.specs.StreamCalls.{Moves, StreamCall, StreamReply, StreamSetting, StreamState, StreamStep, Write, Wrote, answered, count, from_end, got, not_done, offset, opened, ready, seek, sought, write}
 use Rattle.cfb_rules.proofs.ClosedFound.{closed_found, unsound_stays}

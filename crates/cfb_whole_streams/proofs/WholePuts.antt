@@ -1,5 +1,5 @@
 -- What is put is stored.
-use Rattle.std.proofs.Common.{ℕ, Bool, List, [], ◌∷◌, refl, sym, subst}
+use Rattle.std.proofs.Common.{◌≡◌, ℕ, Bool, List, [], ◌∷◌, refl, sym, subst}
 use Rattle.std.specs.Prelude.{None, OnOk, Result, Ok, Err}
 use Rattle.cfb_format.specs.declared.error.Error.{Error}
 use Rattle.cfb_format.specs.declared.medium.MediumFault.{MediumFault}
@@ -14,7 +14,7 @@ use Rattle.cfb_commands.specs.Promised.{promised}
 use Rattle.cfb_commands.specs.Seen.{seen_as, standing_at}
 use Rattle.cfb_commands.proofs.Made.{run_stays}
 use Rattle.cfb_commands.specs.Commands.{refusal_of_result}
-use Rattle.cfb_whole_streams.specs.Content.{HasStream, HoldsStream, IsPut}
+use Rattle.cfb_whole_streams.specs.Content.{HasStream, HoldsStream, IsPut, IsPutNot}
 use Rattle.cfb_whole_streams.proofs.Stored.{written_is_stored}
 use Rattle.cfb_whole_streams.proofs.cfb_volume.Settings.{setting-same}
 use Rattle.cfb_commands.proofs.Runs.{some_tree}
@@ -33,3 +33,13 @@ module _ (can_give : MediumFault → Bool) (old new : FileState) (path bytes : L
   pub put_holds : {T : Type 0} (result : Result T Error) → Agrees old → IsPut can_give old path bytes (refusal_of_result result) new → OnOk result (HoldsStream new path bytes)
   put_holds (Ok x) agrees put = record { holds = stored agrees put }
   put_holds (Err e) agrees put = tt
+
+-- what was had, but not put
+pub not_put : {T : Type 0} (can_give : MediumFault → Bool) (from : FileState) (from_path : List ℕ) (old new : FileState) (path bytes : List ℕ)
+    (result : Result T Error) (e : Error) → result ≡ Err e → HoldsStream from from_path bytes → IsPut can_give old path bytes (refusal_of_result result) new
+    → IsPutNot can_give from from_path old path new e
+not_put {T = T} can_give from from_path old new path bytes result e was had put = record {
+  bytes = bytes;
+  had = had;
+  put = subst (λ (r : Result T Error). IsPut can_give old path bytes (refusal_of_result r) new) was put;
+}

@@ -1,7 +1,7 @@
 -- What is read of a stream from its start to its end.
-use Rattle.std.proofs.Common.{◌≡◌, ◌∙◌, ◌≤◌, ◌<◌, ℕ, Bool, true, false, List, [], refl, sym, ap, subst, arith, inl, inr, length, drop}
+use Rattle.std.proofs.Common.{◌≡◌, ◌∙◌, ◌≤◌, ℕ, Bool, true, false, List, [], refl, sym, ap, subst, arith, inl, inr, length, drop}
 use Rattle.std.proofs.lemmas.Bool.{ltb-false}
-use Rattle.std.specs.Prelude.{◌⊎◌, ◌&&◌, Err, IsTrue, MatchBool, MatchOption, Option, Result, Some, None, nat_lt, option_and_then, unwrap_or, ⊤}
+use Rattle.std.specs.Prelude.{◌⊎◌, ◌&&◌, Err, IsTrue, MatchBool, Option, Result, Some, None, nat_lt, option_and_then, unwrap_or, ⊤}
 use Rattle.std.specs.Option.{option_map_or}
 use Rattle.cfb_format.specs.declared.error.Error.{Error}
 use Rattle.cfb_format.specs.declared.error.Error.TheVariants.{NotFound, AlreadyExists, InvalidInput, InvalidData, Medium, Memory, Full, Unsound, Failed}
@@ -12,7 +12,7 @@ use Rattle.cfb_format.specs.Path.{names_of_path}
 use Rattle.cfb_format.specs.Tree.{Object, StreamInfo, Tree, a_storage, a_stream}
 use Rattle.cfb_rules.specs.Calls.{done, open_read_stream, refused}
 use Rattle.cfb_rules.specs.CallChanges.{new_stream}
-use Rattle.cfb_rules.specs.CallRefusals.{is_a_stream, object_refusal, path_refusal}
+use Rattle.cfb_rules.specs.CallRefusals.{is_a_stream, object_refusal}
 use Rattle.cfb_rules.specs.Finding.{object_at}
 use Rattle.cfb_rules.specs.Refusal.{Refusal, failed_earlier, invalid_data, invalid_input}
 use Rattle.cfb_rules.specs.Runs.{BlamesOneOf, CallRuns, Causes, Closes, FollowsRules, IsBroken, IsStreamBroken, Setting, StreamCallRuns, StreamOnFailed, StreamRun, TreeState, opened_by_path, stream_fields}

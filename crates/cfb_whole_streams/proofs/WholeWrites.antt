@@ -5,7 +5,7 @@ use Rattle.cfb_format.specs.declared.error.Error.{Error}
 use Rattle.cfb_format.specs.declared.error.Error.TheVariants.{Medium}
 use Rattle.cfb_format.specs.declared.medium.MediumFault.{MediumFault}
 use Rattle.cfb_format.specs.Tree.{Tree}
-use Rattle.cfb_rules.specs.Lists.{CommandReply, creates, on_stream, replied, streamed}
+use Rattle.cfb_rules.specs.Lists.{creates, replied, streamed}
 use Rattle.cfb_rules.specs.Calls.{create_stream, refused}
 use Rattle.cfb_rules.specs.Refusal.{Refusal, invalid_input, not_sound}
 use Rattle.cfb_rules.specs.Runs.{Causes, IsStreamBroken, StreamCallRuns, StreamOnFailed, StreamRun, is_served}
@@ -18,7 +18,7 @@ use Rattle.cfb_whole_streams.specs.cfb_stream_window.Windows.{Runs}
 use Rattle.cfb_whole_streams.specs.cfb_path_changes.Answers.{IsRefusedBy, causes_of}
 use Rattle.cfb_whole_streams.specs.cfb_compound_file.StreamAnswers.{OpenStream, StreamRunsOn, run_in, stored_in}
 use Rattle.cfb_commands.specs.Promised.{CallKeeps, IsClosedOf, IsOpenSince, IsWorkedOn}
-use Rattle.cfb_commands.specs.Working.{AnswersCommand, IsOpenedBy, LendsNothing, Works}
+use Rattle.cfb_commands.specs.Working.{IsOpenedBy, LendsNothing, Works}
 use Rattle.cfb_commands.proofs.Openings.{done_so, refused_so}
 use Rattle.cfb_commands.proofs.Working.{works_none, works_on}
 use Rattle.cfb_whole_streams.specs.Content.{IsPut, IsWrittenWhole, WritesAll}

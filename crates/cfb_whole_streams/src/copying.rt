@@ -9,11 +9,12 @@ use cfb_format::medium::{Medium, ReadMedium};
 use std::alloc::Allocator as Heap;
 
 /// Copies all bytes of the stream at `from_path` to the stream at `to_path` of another file, which is made, or has them in place of its own,
-/// and answers how many there are. Memory of `alloc` holds them in between; of the first file nothing changes but the count of failures.
+/// and answers how many there are. All of them are in memory of `alloc` at once, so that the second file is touched only once the first is
+/// read to the stream's end. Of the first file nothing changes but the count of failures.
 ///
 /// # Errors
 ///
-/// As `read_stream`, before the second file is touched; then as `write_stream`.
+/// As `read_stream`, before the second file is touched; then as `write_stream`. The stream may be there then, with a beginning of the bytes.
 pub fn copy_stream<F: ReadMedium, A: Heap + Clone, G: Medium, B: Heap + Clone>(
     alloc: A,
     from: &mut CompoundFile<F, A>,
