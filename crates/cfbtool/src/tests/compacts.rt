@@ -1,5 +1,5 @@
 //! Copies made by the program's words.
-use super::Step::{self, Absent, At, Content, Damage, Len, Longer, Note, Runs, Stays};
+use super::Step::{self, At, Content, Damage, Len, Longer, Note, Runs, Stays};
 use super::play;
 use super::runs::{CONTENT, NEW_WITH_CONTENT, Run, TARGET_EXISTS};
 use std::test::Fail;
@@ -71,10 +71,9 @@ const NOT_COPIED: &[Run<'static>] = &[
 #[rattlefmt::skip]
 static CUT: &[Step<'static>] = &[
     Content(5000), Runs(WITH_STORAGE), Len(11776), Damage(&[], 11600), Note, Runs(NOT_COPIED), Stays,
-    At("@g"), Absent,
 ];
 
-/// The stream that is not whole is named, and nothing stays at the target.
+/// The stream that is not whole is named.
 #[test]
 fn streams_that_are_not_whole_are_not_copied(rt: HostRuntime) -> Result<(), Fail> {
     play(&rt, CUT)
