@@ -4,7 +4,7 @@
 
 use cfb::{CompoundFile, FileMedium, Medium, ReadMedium, SliceMedium, Timestamp};
 use std::alloc::Global;
-use std::io::{self, BufRead, Write};
+use std::io::{self, Write};
 use uuid::Uuid;
 
 /// Opens a file of the system, and prints the length and the path of each of its objects.
@@ -77,7 +77,15 @@ fn root_streams(file: &CompoundFile<SliceMedium<'_>>) -> io::Result<usize> {
 /// Reads the first line of a stream.
 fn first_line(alloc: Global, file: &mut CompoundFile<SliceMedium<'_>>) -> io::Result<String> {
     let mut line = String::new(alloc);
-    BufRead::read_line(&mut file.open_read_stream("/s/x")?, &mut line)?;
+    let mut stream = file.open_read_stream("/s/x")?;
+    let mut byte = [0];
+    for _place in 0..stream.len() {
+        stream.read(&mut byte)?;
+        line.push(char::from(byte[0]))?;
+        if byte[0] == b'\n' {
+            break;
+        }
+    }
     Ok(line)
 }
 
