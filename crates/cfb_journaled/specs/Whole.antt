@@ -1,11 +1,12 @@
 -- Commands on a file with a journal: what is on the disk afterwards, and what a crash may have left meanwhile.
 use Rattle.std.specs.Prelude.{◌≡◌, ◌⊎◌, List, ℕ, Result, MatchResult, ⊤}
 use Rattle.cfb_format.specs.declared.error.Error.{Error}
+use Rattle.cfb_format.specs.declared.error.Error.TheVariants.{Failed}
 use Rattle.cfb_format.specs.declared.version.Version.{Version}
 use Rattle.cfb_format.specs.Names.{Cases}
 use Rattle.cfb_rules.specs.Lists.{Command, CommandReply}
 use Rattle.cfb_promise.specs.Files.{File}
-use Rattle.cfb_promise.specs.Promise.{IsGivenBack}
+use Rattle.cfb_promise.specs.Promise.{BreaksOff, IsGivenBack}
 use Rattle.cfb_journal.specs.Disk.{View}
 use Rattle.cfb_journal.specs.Sound.{IsAllOrNothing, IsTakenBack}
 use Rattle.cfb_journal.specs.States.{IsQuiet}
@@ -22,8 +23,14 @@ pub record HasEnded (cases : Cases) (version : Version) (first : File) (commands
   pub on_disk : after.seen.file ≡ ends.bytes
   pub quiet : IsQuiet after
 
--- Done, the disk has what the commands make. Refused, a crash leaves that or what was there; or what was there alone
+-- A command left the file failed, which some reply tells, and all is as it was
+pub record WasTakenBack (cases : Cases) (version : Version) (first : File) (commands : List Command) (replies : List CommandReply) (opened after : View) (e : Error) : Type 0 where
+  pub error : e ≡ Failed
+  pub broke : BreaksOff cases version first commands replies
+  pub back : IsTakenBack opened after
+
+-- Done, the disk has what the commands make. Refused, a crash leaves that or what was there; or the commands broke off, and it is what was there
 abbrev pub EndsWhole : Cases → Version → File → List Command → List CommandReply → (opened : View) → Result ⊤ Error → (after : View) → Type 0
 EndsWhole cases version first commands replies opened result after = MatchResult result
     (λ _. HasEnded cases version first commands replies opened after)
-    (λ e. MayEndAs cases version first commands replies opened after ⊎ IsTakenBack opened after)
+    (λ e. MayEndAs cases version first commands replies opened after ⊎ WasTakenBack cases version first commands replies opened after e)

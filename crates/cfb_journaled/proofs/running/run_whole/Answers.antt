@@ -2,7 +2,7 @@ use Rattle.std.proofs.Common.{◌≡◌, ◌∙◌, ℕ, List, inl, inr, refl, s
 use Rattle.std.specs.Prelude.{Result, Ok, OnOk}
 use Rattle.cfb_mini_sectors.specs.State.{bytes_of}
 use Rattle.cfb_journal.specs.Sound.{IsAllOrNothing}
-use Rattle.cfb_promise.proofs.Worked.{given_back}
+use Rattle.cfb_promise.proofs.Worked.{broke_off, given_back}
 use Rattle.cfb_journaled.proofs.running.run_whole.Goals as goal
 
 -- what holds at `Ok` holds where it is that
@@ -10,7 +10,12 @@ at-ok : {T E P : Type 0} (r : Result T E) (x : T) → r ≡ Ok x → OnOk r P �
 at-ok {T} {E} {P} r x is holds = subst (λ (s : Result T E). OnOk s P) is holds
 
 pub returns-then-is_failed-clause-whole : goal.returns-then-is_failed-clause-whole
-returns-then-is_failed-clause-whole g c = λ tells cases version first opens. inr (c.roll_back.ensures.taken_back tells)
+returns-then-is_failed-clause-whole g c = λ tells cases version first opens. inr (record {
+  error = refl;
+  broke = broke_off cases version _ c.args.file first opens (c.is_failed-is_failed.ensures.agrees tells) c.run.new.file _ _ (c.run.ensures.runs tells) (c.run.ensures.order tells)
+      (sym c.is_failed-is_failed-2.ensures.value ∙ c.if-is_failed.true);
+  back = c.roll_back.ensures.taken_back tells;
+})
 
 pub returns-in-Ok-clause-whole : goal.returns-in-Ok-clause-whole
 returns-in-Ok-clause-whole g c = λ tells cases version first opens.
