@@ -1,20 +1,43 @@
 //! Compound files ([MS-CFB]), the container of `.doc`, `.xls`, `.msg` and `.msi`: a tree of storages and streams in one file. A storage has
 //! storages and streams below it, a stream has bytes, and a path like `/storage/stream` leads to an object.
 //!
-//! **Where to start.** `open`, `open_rw`, `create` take a path of the system; `CompoundFile::{open, create}` any medium, as a `MemoryMedium`
-//! or a `SliceMedium`. `read_stream`, `write_stream` and `copy_stream` do a stream whole; `open_read_stream` and `create_stream` give one with
-//! std's `Read`, `BufRead`, `Seek` and `Write`. `walk`, `entry` and `read_storage` tell what is there. The crate `cfb_tasks` has ten short
-//! examples, and `cfb_example` one that goes there and back.
+//! **Where to start.**
 //!
-//! **Errors.** A call answers `Error`, which `?` turns into an `io::Error`. What was refused by the rules has changed nothing; where the
-//! medium, memory or numbers refuse in the midst of a change, `is_failed` tells whether the file takes no more changes.
+//! - A path of the system: [`open`] to read, [`open_rw`] to change in place, [`open_journaled`] to change as a whole, [`create`] for a new
+//!   file.
+//! - Any other medium, as a [`MemoryMedium`], a [`SliceMedium`] or a [`SeekMedium`]: [`CompoundFile::open`] and [`CompoundFile::create`];
+//!   with options [`OpenOptions`].
+//! - A whole stream: [`read_stream`], [`write_stream`], [`copy_stream`].
+//! - A stream with std's `Read`, `BufRead`, `Seek` and `Write`: [`CompoundFile::open_read_stream`] gives a [`ReadStream`],
+//!   [`CompoundFile::open_stream`] and [`CompoundFile::create_stream`] a [`Stream`].
+//! - What is there: [`CompoundFile::walk`], [`CompoundFile::read_storage`] and [`CompoundFile::entry`] give each [`Entry`].
+//! - A whole file: [`CompoundFile::copy_to`] packs it, [`CompoundFile::salvage_to`] copies what can be read of a damaged one.
+//! - Many calls at once: [`run`] does a list of [`Command`].
 //!
-//! **What is proved** stands in the clauses of each function (`docs/GUARANTEES.md`), and `laws` has what follows from them. Sizes, lengths and
-//! places are in bytes, moments in units of 100 ns since 1601.
+//! The crate `cfb_tasks` has ten short examples, and `cfb_example` one that goes there and back.
 //!
-//! The modules `laws` and `internal` are public for proofs and tests; `internal` may change in any version.
+//! **Errors.** A call returns [`Error`], which `?` turns into an `io::Error` ([`std_error`]). A call that fails by the rules has changed
+//! nothing. After `Medium`, `Memory` or `Full` in the midst of a change, [`CompoundFile::is_failed`] tells whether the file takes no more
+//! changes. What to do:
 //!
-//! This crate has no code of its own, but gives the public names of all crates of the library.
+//! - [`Error::NotFound`], [`Error::AlreadyExists`], [`Error::InvalidInput`]: the path or another argument is wrong.
+//!   [`CompoundFile::exists`], [`CompoundFile::is_stream`] and [`CompoundFile::is_storage`] tell before a call what is there.
+//! - [`Error::InvalidData`] at opening: the bytes are no valid file. If only the order of names differs, [`OpenOptions::case_mapper`]
+//!   helps. Later: a stream cannot be read to its end; [`CompoundFile::salvage_to`] copies what can be read.
+//! - [`Error::Medium`]: [`MediumFault`] says which operation failed, and [`FileMedium::last_error`] of [`CompoundFile::medium`] why.
+//! - [`Error::Memory`]: give the allocator more memory, and call again if the file has not failed.
+//! - [`Error::Full`]: raise [`OpenOptions::max_sectors`] if you set it, or remove what is no longer needed.
+//! - [`Error::Unsound`]: the file can only be read. [`CompoundFile::flaws`] tells why; a copy by [`CompoundFile::copy_to`] can be changed.
+//! - [`Error::Failed`]: open the medium again to see what it holds. A file of [`open_journaled`] then has all changes since the
+//!   last commit, or none.
+//!
+//! **What is proved** stands in the clauses of each function (`docs/GUARANTEES.md`), and [`laws`] has what follows from them. Sizes,
+//! lengths and offsets are in bytes, timestamps in units of 100 ns since 1601.
+//!
+//! The modules [`laws`] and [`internal`] are public for proofs and tests; [`internal`] may change in any version.
+//!
+//! This crate has no code of its own, but gives the public names of all crates of the library. Links in the comments of these crates name
+//! items as this crate re-exports them.
 //!
 //! [MS-CFB]: https://learn.microsoft.com/openspecs/windows_protocols/ms-cfb
 #![tactic(auto)]
@@ -47,7 +70,7 @@ pub use cfb_std_streams::kinds::{std_error, std_kind};
 pub use cfb_whole_streams::content::{read_stream, write_stream};
 pub use cfb_whole_streams::copying::copy_stream;
 
-/// Why a file is not sound, and what its sectors are used for: what `CompoundFile::flaws` and `sector_owners` tell.
+/// Why a file is not sound, and what its sectors are used for: what [`CompoundFile::flaws`] and [`CompoundFile::sector_owners`] tell.
 pub mod flaws {
     pub use cfb_flaws::flaw::{Break, Flaw};
     pub use cfb_flaws::owner::{Owner, Table};

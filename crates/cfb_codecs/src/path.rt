@@ -1,5 +1,5 @@
 //! Names of storages and streams, and paths to them (MS-CFB 2.6.1 and 2.6.4).
-ghost use Rattle.std.specs.Prelude.{◌≡◌, ◌≤◌, ◌+◌, ◌*◌, ◌<◌, ℕ, not, true, false, map, length, [], ◌∷◌, List, Some, None, IfOk, IfErr, OnOk, IfSome, IfNone, is_some, string_bytes};
+ghost use Rattle.std.specs.Prelude.{◌≡◌, ◌≤◌, ◌+◌, ◌*◌, ◌<◌, ◌||◌, ℕ, not, true, false, map, length, [], ◌∷◌, List, Some, None, IfOk, IfErr, OnOk, IfSome, IfNone, is_some, string_bytes};
 ghost use Rattle.std.specs.Cmp.Lexicographic.{slice_cmp};
 ghost use Rattle.std.specs.Ordering.{nat_cmp, ordering_then};
 ghost use Rattle.std.specs.Char.{IsScalar, to_ascii_uppercase};
@@ -10,6 +10,7 @@ ghost use Rattle.std.specs.BTreeMap.{get};
 ghost use Rattle.cfb_format.specs.Names.{Cases, default_cases, paired, upper_case, has_ascii_letter, utf16_units, key_of_name, name_cmp, is_forbidden_character, is_valid_name};
 ghost use Rattle.cfb_format.specs.Path.{part_says_nothing, part_says_parent, names_with, names_of_path, names_along, names_left, path_of_names, Leaves, Gives};
 ghost use Rattle.cfb_format.specs.Refused.{IsMemory, RefusesInput};
+ghost use Rattle.cfb_codecs.specs.Parents.{has_parents};
 ghost use Rattle.cfb_codecs.specs.SimpleUpper.{simple_upper};
 
 use crate::unicode::unicode_pairs;
@@ -59,12 +60,9 @@ const DEFAULT_PAIRS: [(char, char); 32] = [
     ('\u{b5}', '\u{39c}'),
 ];
 
-/// What stands for upper case where names are compared (MS-CFB 2.6.4): `a` to `z` become `A` to
-/// `Z` always, the letters of a table become what it says, and any other character stands for
-/// itself.
-///
-/// A letter past ASCII is looked up in a tree of the table's letters. With the letters goes the
-/// number by which the indexes of names are mixed: it changes no answer.
+/// A case mapping: which character is the upper case of which, where names are compared (MS-CFB 2.6.4). `a` to `z` always map to `A` to
+/// `Z`, the letters of the table to what it says, and any other character to itself. It also carries the seed of the hash table of names,
+/// which changes no result.
 #[derive(Drop)]
 pub struct CaseMapper<A: Allocator = Global> {
     pairs: Vec<(char, char), A>,
@@ -138,8 +136,7 @@ fn uppers_of<A: Allocator + Clone>(
 }
 
 impl<A: Allocator> CaseMapper<A> {
-    /// The same letters, with the number by which the indexes of names are mixed, so that whoever
-    /// does not know it can choose no names that meet in them.
+    /// The same mapping with this seed of the hash table of names. With a random seed nobody can choose names that make it slow.
     pub fn with_seed(self, seed: u64) -> CaseMapper<A>
         ensures { result ≡ self }
     {
@@ -155,16 +152,18 @@ impl<A: Allocator> CaseMapper<A> {
         }
     }
 
-    /// The number by which the indexes of names are mixed.
+    /// The seed of the hash table of names.
     pub fn seed(&self) -> u64 {
         self.seed
     }
 }
 
 impl<A: Allocator + Clone> CaseMapper<A> {
-    /// The default table, for the letters of Latin-1 and two more.
+    /// The default mapping: Latin-1 and two more letters.
     ///
-    /// It answers `Memory` where memory for the table is refused, and no other error.
+    /// # Errors
+    ///
+    /// Only `Memory`.
     pub fn new(alloc: A) -> Result<CaseMapper<A>, Error>
         ensures ok { IfOk result (λ cases. cases ≡ default_cases) }
         ensures refused { IfErr result IsMemory }
@@ -172,10 +171,12 @@ impl<A: Allocator + Clone> CaseMapper<A> {
         Ok(indexed(alloc, &DEFAULT_PAIRS)?)
     }
 
-    /// The letters past ASCII of Unicode's first 65,536 characters that have an upper case of one
-    /// character, as those of Greek and Cyrillic.
+    /// A mapping of all letters among Unicode's first 65,536 characters whose upper case is one character, such as those of Greek and
+    /// Cyrillic.
     ///
-    /// It answers `Memory` where memory for the table is refused, and no other error.
+    /// # Errors
+    ///
+    /// Only `Memory`.
     pub fn unicode(alloc: A) -> Result<CaseMapper<A>, Error>
         ensures letters { IfOk result (λ cases. (c : ℕ) → IsScalar c → 0x80 ≤ c → c < 0x10000
             → upper_case cases c ≡ simple_upper c) }
@@ -186,10 +187,11 @@ impl<A: Allocator + Clone> CaseMapper<A> {
         Ok(indexed(alloc, &pairs)?)
     }
 
-    /// A table of these letters, each with its upper case. The last pair for a letter counts.
+    /// A mapping of these letters, each with its upper case. The last pair for a letter counts.
     ///
-    /// It answers `InvalidInput` exactly where a first letter is ASCII, and else `Memory` where
-    /// memory for the table is refused.
+    /// # Errors
+    ///
+    /// `InvalidInput` exactly if the first letter of a pair is ASCII; otherwise only `Memory`.
     pub fn from_pairs(alloc: A, letters: &[(char, char)]) -> Result<CaseMapper<A>, Error>
         ensures table { IfOk result (λ cases. cases ≡ letters.now) }
         ensures past_ascii { OnOk result (has_ascii_letter letters.now ≡ false) }
@@ -426,6 +428,59 @@ pub fn next_name(path: &str) -> Option<(&str, &str)>
     None
 }
 
+/// Whether a `..` stands in a path. It takes no memory.
+pub fn says_parents(path: &str) -> bool
+    ensures { result ≡ has_parents (chars path.now) }
+{
+    let mut left = path;
+    while !left.is_empty() {
+        let (part, rest) = first_part(left);
+        if says_parent(part) {
+            return true;
+        }
+        left = rest;
+    }
+    false
+}
+
+/// What `next_name` answers, where it is known of the path whether a `..` may stand in it. Where
+/// none does, nothing is looked at past the name, so a walk by names is linear.
+pub fn next_part(path: &str, parents: bool) -> Option<(&str, &str)>
+    requires known { parents ≡ false → has_parents (chars path.now) ≡ false }
+    ensures some { IfSome result (λ r. names_left (chars path.now)
+        ≡ chars r.0.now ∷ names_left (chars r.1.now)) }
+    ensures none { IfNone result (names_left (chars path.now) ≡ []) }
+    ensures shorter { IfSome result (λ r. length r.1.now < length path.now) }
+    ensures known { parents ≡ false → IfSome result (λ r. has_parents (chars r.1.now) ≡ false) }
+{
+    if parents {
+        next_name(path)
+    } else {
+        next_plain(path)
+    }
+}
+
+/// The first name of a path in which no `..` stands, and a path of the names after it, or none
+/// where the path has no names.
+fn next_plain(path: &str) -> Option<(&str, &str)>
+    requires { has_parents (chars path.now) ≡ false }
+    ensures some { IfSome result (λ r. names_left (chars path.now)
+        ≡ chars r.0.now ∷ names_left (chars r.1.now)) }
+    ensures none { IfNone result (names_left (chars path.now) ≡ []) }
+    ensures shorter { IfSome result (λ r. length r.1.now < length path.now) }
+    ensures plain { IfSome result (λ r. has_parents (chars r.1.now) ≡ false) }
+{
+    let mut left = path;
+    while !left.is_empty() {
+        let (part, rest) = first_part(left);
+        if !says_nothing(part) {
+            return Some((part, rest));
+        }
+        left = rest;
+    }
+    None
+}
+
 /// What stands after the first `..` that takes away a name from before this path.
 fn after_parent(path: &str) -> Option<&str>
     ensures leaves { IfSome result (λ rest. Leaves (chars path.now) (chars rest.now)) }
@@ -453,6 +508,8 @@ fn after_parent(path: &str) -> Option<&str>
 fn first_part(path: &str) -> (&str, &str)
     ensures step { (names : List (List ℕ)) → names_along (chars path.now) (Some names)
         ≡ names_along (chars result.1.now) (names_with (chars result.0.now) names) }
+    ensures parents { has_parents (chars path.now)
+        ≡ (part_says_parent (chars result.0.now) || has_parents (chars result.1.now)) }
     ensures shorter { 0 < length path.now → length result.1.now < length path.now }
 {
     match path.split_once('/') {

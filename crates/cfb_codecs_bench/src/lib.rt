@@ -7,6 +7,8 @@ mod bytes;
 #[cfg(test)]
 mod checked;
 #[cfg(test)]
+mod dates;
+#[cfg(test)]
 mod entries;
 #[cfg(test)]
 mod files;
@@ -18,6 +20,8 @@ mod moments;
 mod names;
 #[cfg(test)]
 mod refusals;
+#[cfg(test)]
+mod shown;
 #[cfg(test)]
 mod texts;
 #[cfg(test)]

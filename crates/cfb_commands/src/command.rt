@@ -6,35 +6,35 @@ use std::alloc::{AllocError, Allocator as Heap, Global};
 use std::io::SeekFrom;
 use uuid::Uuid;
 
-/// How the stream of a command is opened.
+/// How a [`Command::Stream`] opens its stream.
 #[derive(Clone, Copy, Debug, PartialEq, Eq)]
 pub enum Opening {
-    /// One that is there, by `open_stream`.
+    /// One that is there, by [`CompoundFile::open_stream`].
     Open,
-    /// A new one, or the one that is there, emptied, by `create_stream`.
+    /// A new one, or the one that is there, emptied, by [`CompoundFile::create_stream`].
     Create,
-    /// A new one, by `create_new_stream`.
+    /// A new one, by [`CompoundFile::create_new_stream`].
     CreateNew,
 }
 
-/// What is done with an open stream. Lengths and places are in bytes.
+/// An operation on the open stream of a [`Command::Stream`]; its result is a [`StreamReply`]. Lengths and offsets are in bytes.
 #[derive(Debug, PartialEq, Drop)]
 pub enum StreamOp<A: Heap = Global> {
-    /// At most so many bytes are read from the position on.
+    /// [`Stream::read`]: reads at most this many bytes at the position.
     Read(usize),
-    /// The bytes from the position to the end are read.
+    /// [`Stream::read_to_end`]: reads the bytes from the position to the end.
     ReadToEnd,
-    /// A beginning of these bytes is written at the position.
+    /// [`Stream::write`]: writes the first of these bytes at the position.
     Write(Vec<u8, A>),
-    /// The position is moved there.
+    /// [`Stream::seek`]: moves the position.
     Seek(SeekFrom),
-    /// The stream is cut to this length, or padded with zeros.
+    /// [`Stream::set_len`]: cuts the stream to this length, or appends zeros.
     SetLen(u64),
-    /// What is kept back is written out.
+    /// [`Stream::flush`]: writes what is buffered, and flushes the medium.
     Flush,
-    /// The position is asked for.
+    /// [`Stream::position`].
     Position,
-    /// The length is asked for.
+    /// [`Stream::len`].
     Len,
 }
 
@@ -44,7 +44,7 @@ impl<A: Heap + Clone> Clone for StreamOp<A> {
 
     ghost is_clone = { λ old new. stream_call_of new ≡ stream_call_of old };
 
-    /// The same operation, with memory of its own.
+    /// The same operation, with memory of its own. `AllocError` if there is none.
     #[tactic(auto, using(crate::proofs::Cloned::same_bytes))]
     fn clone(&self) -> Result<StreamOp<A>, AllocError> {
         match self {
@@ -60,42 +60,43 @@ impl<A: Heap + Clone> Clone for StreamOp<A> {
     }
 }
 
-/// A call of `CompoundFile`, by its name and with its arguments; or what is done with one stream, from its opening to its closing.
+/// A call of [`CompoundFile`] with its arguments; or what is done with one stream, from its opening to its closing. [`run`] runs a list of
+/// them; the result of each is a [`Reply`].
 #[derive(Debug, PartialEq, Drop)]
 pub enum Command<A: Heap = Global> {
-    /// `create_storage`: the path, and the new storage's moment.
+    /// [`CompoundFile::create_storage`]: the path, and the new storage's timestamps.
     CreateStorage(String<A>, Timestamp),
-    /// `create_storage_all`: the path, and the moment of each new storage.
+    /// [`CompoundFile::create_storage_all`]: the path, and the timestamps of each new storage.
     CreateStorageAll(String<A>, Timestamp),
-    /// `remove_storage`.
+    /// [`CompoundFile::remove_storage`]: the path.
     RemoveStorage(String<A>),
-    /// `remove_storage_all`.
+    /// [`CompoundFile::remove_storage_all`]: the path.
     RemoveStorageAll(String<A>),
-    /// `remove_stream`.
+    /// [`CompoundFile::remove_stream`]: the path.
     RemoveStream(String<A>),
-    /// `set_storage_clsid`.
+    /// [`CompoundFile::set_storage_clsid`]: the path, and the class ID.
     SetStorageClsid(String<A>, Uuid),
-    /// `set_state_bits`.
+    /// [`CompoundFile::set_state_bits`]: the path, and the state bits.
     SetStateBits(String<A>, u32),
-    /// `set_created_time`.
+    /// [`CompoundFile::set_created_time`]: the path, and the timestamp.
     SetCreatedTime(String<A>, Timestamp),
-    /// `set_modified_time`.
+    /// [`CompoundFile::set_modified_time`]: the path, and the timestamp.
     SetModifiedTime(String<A>, Timestamp),
-    /// `touch`: the path, and the moment.
+    /// [`CompoundFile::touch`]: the path, and the timestamp.
     Touch(String<A>, Timestamp),
-    /// `flush`.
+    /// [`CompoundFile::flush`].
     Flush,
-    /// `exists`.
+    /// [`CompoundFile::exists`]: the path.
     Exists(String<A>),
-    /// `is_stream`.
+    /// [`CompoundFile::is_stream`]: the path.
     IsStream(String<A>),
-    /// `is_storage`.
+    /// [`CompoundFile::is_storage`]: the path.
     IsStorage(String<A>),
-    /// `entry`.
+    /// [`CompoundFile::entry`]: the path.
     Entry(String<A>),
-    /// `read_storage`.
+    /// [`CompoundFile::read_storage`]: the path.
     ReadStorage(String<A>),
-    /// `walk_storage`.
+    /// [`CompoundFile::walk_storage`]: the path.
     WalkStorage(String<A>),
     /// How a stream is opened, its path, and what is done with it before it is closed.
     Stream(Opening, String<A>, Vec<StreamOp<A>, A>),
@@ -107,7 +108,7 @@ impl<A: Heap + Clone> Clone for Command<A> {
 
     ghost is_clone = { λ old new. command_of new ≡ command_of old };
 
-    /// The same command, with memory of its own.
+    /// The same command, with memory of its own. `AllocError` if there is none.
     #[tactic(auto, using(crate::proofs::Cloned::same_calls))]
     fn clone(&self) -> Result<Command<A>, AllocError> {
         match self {
@@ -152,30 +153,30 @@ impl<A: Heap + Clone> Clone for Command<A> {
     }
 }
 
-/// What one operation on an open stream answers.
+/// The result of one [`StreamOp`] on an open stream. Its errors are those of the call.
 #[derive(Debug, PartialEq, Drop)]
 pub enum StreamReply<A: Heap = Global> {
-    /// To `Read` and `ReadToEnd`: the bytes.
+    /// To [`StreamOp::Read`] and [`StreamOp::ReadToEnd`]: the bytes.
     Bytes(Result<Vec<u8, A>, Error>),
-    /// To `Write`: how many of the bytes were written.
+    /// To [`StreamOp::Write`]: how many of the bytes were written.
     Count(Result<usize, Error>),
-    /// To `Seek` and `Position` the position, and to `Len` the length.
+    /// To [`StreamOp::Seek`] and [`StreamOp::Position`] the position, and to [`StreamOp::Len`] the length.
     Place(Result<u64, Error>),
-    /// To `SetLen` and `Flush`.
+    /// To [`StreamOp::SetLen`] and [`StreamOp::Flush`].
     Done(Result<(), Error>),
 }
 
-/// What one command answers.
+/// The result of one [`Command`]. Its errors are those of the call.
 #[derive(Debug, PartialEq, Drop)]
 pub enum Reply<A: Heap = Global> {
-    /// To a call that changes the file, and to `Flush`.
+    /// To a call that changes the file, and to [`Command::Flush`].
     Done(Result<(), Error>),
-    /// To `Exists`, `IsStream` and `IsStorage`.
+    /// To [`Command::Exists`], [`Command::IsStream`] and [`Command::IsStorage`].
     Flag(bool),
-    /// To `Entry`: what is told of the object.
+    /// To [`Command::Entry`]: the entry.
     Entry(Result<Told<A>, Error>),
-    /// To `ReadStorage` and `WalkStorage`: what is told of each object, in order.
+    /// To [`Command::ReadStorage`] and [`Command::WalkStorage`]: the entries, in order.
     Entries(Result<Vec<Told<A>, A>, Error>),
-    /// To `Stream`: what each operation answered, and what closing did; or why no stream was opened.
+    /// To [`Command::Stream`]: the result of each operation, and of closing; or why the stream was not opened.
     Stream(Result<(Vec<StreamReply<A>, A>, Result<(), Error>), Error>),
 }

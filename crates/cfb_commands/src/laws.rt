@@ -1,4 +1,4 @@
-//! Each call on a file is a step of a run of commands. None of these functions does anything: each has a law as its contract.
+//! Each call on a file is a step of a run of commands ([`run`]). None of these functions does anything: each has a law as its contract.
 ghost use Rattle.cfb_commands.specs.Laws.{CallsAreSteps, ClosingsAreSteps, RunsStayIdle, RunsStayLow, RunsStayMade, StreamCallsAreSteps};
 
 /// A call by path is a step.

@@ -1,5 +1,5 @@
 //! Lists of commands on a compound file: each is a call by its name and arguments, or what is done with one stream from its opening to its
-//! closing, and is answered by one reply.
+//! closing, and is answered by one reply. Start at [`Command`] and [`run`]. The names that it passes on from the crates below are internal.
 #![tactic(auto)]
 
 pub mod command;

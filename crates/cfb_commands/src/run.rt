@@ -62,19 +62,20 @@ fn run_one<F: Medium, A: Heap + Clone>(
     }
 }
 
-/// Does these commands in their order, whether or not one is refused, and appends one reply a command, of the command's kind; `replies` has
-/// room for them. A fault that a reply tells is one that the medium can give.
+/// Runs the commands in their order, also after one that fails, and appends one [`Reply`] for each to `replies`, which must have the
+/// capacity. Each reply is of its [`Command`]'s kind.
 ///
-/// Each command is answered as its call is. A stream command on a failed file is answered by `Failed`; else room is had for its replies
-/// (`Memory`), the stream is opened, its operations are done in their order, whether or not one is refused, and it is closed. `Read` has
-/// room for no more bytes than are left (`Memory`), and `ReadStorage` and `WalkStorage` for a list (`Memory`).
+/// A [`Command::Stream`] opens its stream, does the operations in their order, also after one that fails, and closes it. If memory for its
+/// replies is missing, it returns `Memory` and does not open the stream. [`StreamOp::Read`] allocates no more than what is left of the
+/// stream.
 ///
-/// Over any medium, where a command was refused all that memory has is as before but the count of failures, or the file has failed; and a
-/// failed file stays as it is.
+/// # Errors
 ///
-/// On a failed file each command but those that only look is answered by `Failed`, and nothing changes. So it goes behind the first reply
-/// that tells that the file has failed: by `Failed`, by a refused flush of the file, or by a refused closing. What only looks is refused as
-/// `InvalidInput`, `NotFound` or `Memory` alone, on a failed file too.
+/// They stand in the replies. On a failed file every command that is not a query returns [`Error::Failed`], and nothing changes. This also
+/// holds after the first reply that shows a failure: `Failed`, or an error of [`Command::Flush`] or of closing. Queries return only
+/// `InvalidInput`, `NotFound` and `Memory`.
+///
+/// Over every medium: after each command that failed, memory is as it was, or the file has failed ([`CompoundFile::is_failed`]).
 pub fn run<F: Medium, A: Heap + Clone>(
     file: &mut CompoundFile<F, A>,
     commands: &[Command<A>],

@@ -21,7 +21,7 @@ use Rattle.cfb_compound_file.proofs.cfb_tables.Counts.{in-tally, tally-in}
 use Rattle.cfb_compound_file.specs.cfb_rules.StreamCalls.{resized}
 use Rattle.cfb_compound_file.specs.cfb_entries.EntryList.{AreInOrder}
 use Rattle.cfb_compound_file.specs.cfb_mini_sectors.State.{MiniState, bytes_of, cases_of, entries_of, table_of, tables_in}
-use Rattle.cfb_compound_file.specs.cfb_content.Contents.{IsStreamOf, len_of}
+use Rattle.cfb_compound_file.specs.cfb_content.Contents.{IsStreamOf, IsTooLongFor, len_of}
 use Rattle.cfb_compound_file.proofs.cfb_content.Apart.{same-reached}
 use Rattle.cfb_compound_file.proofs.cfb_content.Readable.{whole-of}
 use Rattle.cfb_compound_file.proofs.cfb_content.StreamEntry.{stream-inside as entry-inside}
@@ -264,6 +264,15 @@ write_same_len old new i at count (Err e) inside most long = tt
 
 pub write_inside : (at count len : ℕ) → at + count ≤ len → (at < len) ⊎ (count ≡ 0)
 write_inside at count len inside = elim (cases_lt 0 count) [ inl some ↦ inl (omega (arith, inside, some)) | inr none ↦ inr (omega (arith, none)) ]
+
+-- and where nothing but the file has changed a length is too long if it was
+pub inside_too_long : (old new : MiniState) (i len : ℕ) → new ≡ record old { directory = record old.directory { table = record (table_of old) { file = (table_of new).file } } }
+    → IsTooLongFor new i len → IsTooLongFor old i len
+inside_too_long old new i len same long = subst (λ (s : MiniState). IsTooLongFor s i len) same long
+
+pub done_always : {T P : Type 0} (r : Result T Error) → P → OnOk r P
+done_always (Ok x) p = p
+done_always (Err e) p = tt
 
 -- all of the bytes were put behind the end
 pub append_done : {T : Type 0} (old new : FileState) (i : ℕ) (bytes : List ℕ) (r : Result T Error) → SameSetting old new → Holds old → old.is_sound ≡ true → IsStreamOf old.base i → is_failed old ≡ false

@@ -57,13 +57,25 @@ impl<F: Medium, A: Heap + Clone> CompoundFile<F, A> {
 impl<F: Medium, A: Heap + Clone> CompoundFile<F, A> {
     ghost use Rattle.cfb_compound_file.specs.Streams.{file_of, file_rests, open_of};
 
-    /// Makes an empty stream at this path, or empties the one that is there, which keeps its name and its state bits; and opens it to be read
-    /// and written, at its start.
+    /// Creates an empty stream at this path and opens it for reading and writing, at its start. A stream that is there is emptied; it keeps
+    /// its name and its state bits (MS-CFB 2.6.1). The [`Stream`] must be closed: [`Stream::close`].
     ///
-    /// `Failed` on a failed file. By the rules of calls: `InvalidInput` where the path leaves the root, its last name is not valid or the
-    /// parent is a stream; `AlreadyExists` for the root and for a storage; `NotFound` where there is no parent; and then `Unsound` in a file
-    /// that is not sound; `Full` where no entry can be had; `Memory`. Nothing has changed then. `Medium` where the medium fails: all but the
-    /// count of failures is as before, or the file has failed.
+    /// If a stream that is there must stay, use [`CompoundFile::create_new_stream`]; to change its bytes, [`CompoundFile::open_stream`].
+    /// [`write_stream`] writes a whole stream by one call.
+    ///
+    /// # Errors
+    ///
+    /// These change nothing:
+    ///
+    /// - `InvalidInput`: the path leaves the root, its last name is invalid, or its parent is a stream.
+    /// - `AlreadyExists`: a storage or the root is at the path.
+    /// - `NotFound`: the parent storage is missing; [`CompoundFile::create_storage_all`] creates it.
+    /// - [`Error::Unsound`]: the file is inconsistent; [`CompoundFile::flaws`] tells why.
+    /// - [`Error::Full`]: no directory entry can be allocated.
+    /// - `Memory`: out of memory.
+    /// - [`Error::Failed`]: an earlier change failed midway ([`CompoundFile::is_failed`]).
+    ///
+    /// After `Medium` the file is unchanged, or it has failed ([`CompoundFile::is_failed`]).
     pub fn create_stream(&mut self, path: &str) -> Result<Stream<'_, F, A>, Error>
         ensures lent { IfOk result (λ s. (file_of s).ghost_name ≡ self.entry.ghost_name) }
         ensures created { IfOk result (λ s. IsCreatedBy F.tells self.old
@@ -81,9 +93,12 @@ impl<F: Medium, A: Heap + Clone> CompoundFile<F, A> {
         })
     }
 
-    /// Makes an empty stream at this path, where nothing is, and opens it to be read and written, at its start.
+    /// Creates an empty stream at this path, where nothing is, and opens it for reading and writing, at its start. The [`Stream`] must be
+    /// closed: [`Stream::close`]. [`CompoundFile::create_stream`] also empties a stream that is there.
     ///
-    /// It is refused as `create_stream` is; and with `AlreadyExists` where a stream is there too.
+    /// # Errors
+    ///
+    /// As [`CompoundFile::create_stream`]; also `AlreadyExists` if a stream is at the path, which stays as it is.
     pub fn create_new_stream(&mut self, path: &str) -> Result<Stream<'_, F, A>, Error>
         ensures lent { IfOk result (λ s. (file_of s).ghost_name ≡ self.entry.ghost_name) }
         ensures created { IfOk result (λ s. IsCreatedBy F.tells self.old

@@ -15,12 +15,22 @@ use std::alloc::Allocator as Heap;
 use uuid::Uuid;
 
 impl<F: Medium, A: Heap + Clone> CompoundFile<F, A> {
-    /// Makes a storage at this path, where nothing is, with `moment` for both of its moments.
+    /// Creates an empty storage at this path (MS-CFB 2.6.3). `moment` is its creation time and its modification time.
+    /// [`CompoundFile::create_storage_all`] also creates the storages above it; [`CompoundFile::create_stream`] creates a stream.
     ///
-    /// `Failed` on a failed file. By the rules of calls: `InvalidInput` where the path leaves the root, its last name is not valid or the
-    /// parent is a stream; `AlreadyExists` where something is there, as for the root; `NotFound` where there is no parent; and then
-    /// `Unsound` in a file that is not sound; `Full` where no entry can be had; `Memory`. Nothing has changed then. `Medium` where the
-    /// medium fails: all but the count of failures is as before, or the file has failed.
+    /// # Errors
+    ///
+    /// These change nothing:
+    ///
+    /// - `InvalidInput`: the path leaves the root, its last name is invalid, or its parent is a stream.
+    /// - `AlreadyExists`: a storage, a stream or the root is at the path.
+    /// - `NotFound`: the parent storage is missing; [`CompoundFile::create_storage_all`] creates it.
+    /// - [`Error::Unsound`]: the file is inconsistent; [`CompoundFile::flaws`] tells why.
+    /// - [`Error::Full`]: no directory entry can be allocated.
+    /// - `Memory`: out of memory.
+    /// - [`Error::Failed`]: an earlier change failed midway ([`CompoundFile::is_failed`]).
+    ///
+    /// After `Medium` the file is unchanged, or it has failed ([`CompoundFile::is_failed`]).
     pub fn create_storage(&mut self, path: &str, moment: Timestamp) -> Result<(), Error>
         ensures any { HeedsFlags self.old result self.new }
         ensures does { IsTrue F.tells → CallAnswers (λ f. F.read_faults f || F.write_faults f)
@@ -29,14 +39,21 @@ impl<F: Medium, A: Heap + Clone> CompoundFile<F, A> {
         creating::create_storage(&mut self.volume, path, moment)
     }
 
-    /// Makes a storage at this path and all that are missing on the way to it, each with `moment` for both of its moments. Storages that
-    /// are there are passed; where all are there nothing changes, as for the root.
+    /// Creates a storage at this path, and all storages above it that are missing. `moment` is their creation time and their modification
+    /// time. Storages that exist stay as they are. [`CompoundFile::create_storage`] creates one storage alone.
     ///
-    /// `Failed` on a failed file. By the rules of calls: `InvalidInput` where the path leaves the root or one of its names is not valid;
-    /// `AlreadyExists` where a stream is on the way or at its end; and then `Unsound` in a file that is not sound. Nothing has changed
-    /// then. `Full` where no entry can be had, `Memory`, and `Medium` where the medium fails: all but the count of failures is as before,
-    /// or the file has failed. Where not one entry could be had nothing has changed after `Full`; and else `Full` comes only where the
-    /// storages before have taken the last entry that could be had.
+    /// # Errors
+    ///
+    /// These change nothing:
+    ///
+    /// - `InvalidInput`: the path leaves the root, or one of its names is invalid.
+    /// - `AlreadyExists`: a stream is at the path or above it.
+    /// - [`Error::Unsound`]: the file is inconsistent; [`CompoundFile::flaws`] tells why.
+    /// - [`Error::Failed`]: an earlier change failed midway ([`CompoundFile::is_failed`]).
+    ///
+    /// After `Memory` or `Medium` the file is unchanged, or it has failed ([`CompoundFile::is_failed`]). After [`Error::Full`] too: it is
+    /// unchanged if no directory entry could be allocated for the first storage; otherwise the storages that were created stay, and the
+    /// file has failed.
     pub fn create_storage_all(&mut self, path: &str, moment: Timestamp) -> Result<(), Error>
         ensures any { HeedsFlags self.old result self.new }
         ensures does { IsTrue F.tells → CallAnswersInTurn (λ f. F.read_faults f || F.write_faults f)
@@ -47,11 +64,20 @@ impl<F: Medium, A: Heap + Clone> CompoundFile<F, A> {
         creating::create_storage_all(&mut self.volume, path, moment)
     }
 
-    /// Removes the storage at this path, in which nothing is.
+    /// Removes the empty storage at this path. [`CompoundFile::remove_storage_all`] also removes what is in it; for a stream use
+    /// [`CompoundFile::remove_stream`].
     ///
-    /// `Failed` on a failed file. By the rules of calls: `InvalidInput` where the path leaves the root or leads to it, to a stream or to a
-    /// storage that is not empty; `NotFound` where nothing is there; and then `Unsound` in a file that is not sound; `Memory`. Nothing has
-    /// changed then. `Medium` where the medium fails: all but the count of failures is as before, or the file has failed.
+    /// # Errors
+    ///
+    /// These change nothing:
+    ///
+    /// - `InvalidInput`: the path leaves the root, or a stream, the root or a storage that is not empty is there.
+    /// - `NotFound`: nothing is at the path.
+    /// - [`Error::Unsound`]: the file is inconsistent; [`CompoundFile::flaws`] tells why.
+    /// - `Memory`: out of memory.
+    /// - [`Error::Failed`]: an earlier change failed midway ([`CompoundFile::is_failed`]).
+    ///
+    /// After `Medium` the file is unchanged, or it has failed ([`CompoundFile::is_failed`]).
     pub fn remove_storage(&mut self, path: &str) -> Result<(), Error>
         ensures any { HeedsFlags self.old result self.new }
         ensures does { IsTrue F.tells → CallAnswers (λ f. F.read_faults f || F.write_faults f)
@@ -60,12 +86,19 @@ impl<F: Medium, A: Heap + Clone> CompoundFile<F, A> {
         removing::remove_storage(&mut self.volume, path)
     }
 
-    /// Removes what stands at this path with all that is in it, a stream too; of the root all that is in it. It goes by entries, so that a
-    /// name which no path says does not stop it.
+    /// Removes the storage or stream at this path with everything in it. Of the root it removes everything in it. It also removes objects
+    /// that no path reaches, because it walks the directory entries. [`CompoundFile::remove_storage`] only removes an empty storage.
     ///
-    /// `Failed` on a failed file. By the rules of calls: `InvalidInput` where the path leaves the root; `NotFound` where nothing is there;
-    /// and then `Unsound` in a file that is not sound. Nothing has changed then. `Memory`, and `Medium` where the medium fails: all but the
-    /// count of failures is as before, or the file has failed.
+    /// # Errors
+    ///
+    /// These change nothing:
+    ///
+    /// - `InvalidInput`: the path leaves the root.
+    /// - `NotFound`: nothing is at the path.
+    /// - [`Error::Unsound`]: the file is inconsistent; [`CompoundFile::flaws`] tells why.
+    /// - [`Error::Failed`]: an earlier change failed midway ([`CompoundFile::is_failed`]).
+    ///
+    /// After `Memory` or `Medium` the file is unchanged, or it has failed ([`CompoundFile::is_failed`]).
     pub fn remove_storage_all(&mut self, path: &str) -> Result<(), Error>
         ensures any { HeedsFlags self.old result self.new }
         ensures does { IsTrue F.tells → CallAnswers (λ f. F.read_faults f || F.write_faults f)
@@ -74,11 +107,19 @@ impl<F: Medium, A: Heap + Clone> CompoundFile<F, A> {
         removing::remove_storage_all(&mut self.volume, path)
     }
 
-    /// Removes the stream at this path and gives its bytes back. Where its mini sectors stood the file has zeros.
+    /// Removes the stream at this path and frees its sectors. Where its mini sectors stood the file has zeros. The file gets no shorter; a
+    /// copy by [`CompoundFile::copy_to`] has no free sectors.
     ///
-    /// `Failed` on a failed file. By the rules of calls: `InvalidInput` where the path leaves the root or leads to a storage; `NotFound`
-    /// where nothing is there; and then `Unsound` in a file that is not sound. Nothing has changed then. `Memory`, and `Medium` where the
-    /// medium fails: all but the count of failures is as before, or the file has failed.
+    /// # Errors
+    ///
+    /// These change nothing:
+    ///
+    /// - `InvalidInput`: the path leaves the root, or a storage is there ([`CompoundFile::remove_storage`]).
+    /// - `NotFound`: nothing is at the path.
+    /// - [`Error::Unsound`]: the file is inconsistent; [`CompoundFile::flaws`] tells why.
+    /// - [`Error::Failed`]: an earlier change failed midway ([`CompoundFile::is_failed`]).
+    ///
+    /// After `Memory` or `Medium` the file is unchanged, or it has failed ([`CompoundFile::is_failed`]).
     pub fn remove_stream(&mut self, path: &str) -> Result<(), Error>
         ensures any { HeedsFlags self.old result self.new }
         ensures does { IsTrue F.tells → CallAnswers (λ f. F.read_faults f || F.write_faults f)
@@ -89,11 +130,20 @@ impl<F: Medium, A: Heap + Clone> CompoundFile<F, A> {
         removing::remove_stream(&mut self.volume, path)
     }
 
-    /// Gives the storage at this path, or the root, this class id.
+    /// Sets the class ID of the storage at this path, or of the root (MS-CFB 2.6.1). [`Entry::clsid`] has it.
     ///
-    /// `Failed` on a failed file. By the rules of calls: `InvalidInput` where the path leaves the root or leads to a stream; `NotFound`
-    /// where nothing is there; and then `Unsound` in a file that is not sound, even where nothing would change; `Memory`. Nothing has
-    /// changed then. `Medium` where the medium fails: all but the count of failures is as before, or the file has failed.
+    /// # Errors
+    ///
+    /// These change nothing:
+    ///
+    /// - `InvalidInput`: the path leaves the root, or a stream is there.
+    /// - `NotFound`: nothing is at the path.
+    /// - [`Error::Unsound`]: the file is inconsistent; [`CompoundFile::flaws`] tells why. This holds even if the class ID would stay the
+    ///   same.
+    /// - `Memory`: out of memory.
+    /// - [`Error::Failed`]: an earlier change failed midway ([`CompoundFile::is_failed`]).
+    ///
+    /// After `Medium` the file is unchanged, or it has failed ([`CompoundFile::is_failed`]).
     pub fn set_storage_clsid(&mut self, path: &str, clsid: Uuid) -> Result<(), Error>
         ensures any { HeedsFlags self.old result self.new }
         ensures does { IsTrue F.tells → CallAnswers (λ f. F.read_faults f || F.write_faults f)
@@ -102,11 +152,20 @@ impl<F: Medium, A: Heap + Clone> CompoundFile<F, A> {
         set_field(&mut self.volume, path, NewField::ClassId(clsid))
     }
 
-    /// Gives the object at this path these state bits.
+    /// Sets the state bits of the storage or stream at this path: a number that the program chooses (MS-CFB 2.6.1). [`Entry::state_bits`]
+    /// has it.
     ///
-    /// `Failed` on a failed file. By the rules of calls: `InvalidInput` where the path leaves the root; `NotFound` where nothing is there;
-    /// and then `Unsound` in a file that is not sound, even where nothing would change; `Memory`. Nothing has changed then. `Medium` where
-    /// the medium fails: all but the count of failures is as before, or the file has failed.
+    /// # Errors
+    ///
+    /// These change nothing:
+    ///
+    /// - `InvalidInput`: the path leaves the root.
+    /// - `NotFound`: nothing is at the path.
+    /// - [`Error::Unsound`]: the file is inconsistent; [`CompoundFile::flaws`] tells why. This holds even if the bits would stay the same.
+    /// - `Memory`: out of memory.
+    /// - [`Error::Failed`]: an earlier change failed midway ([`CompoundFile::is_failed`]).
+    ///
+    /// After `Medium` the file is unchanged, or it has failed ([`CompoundFile::is_failed`]).
     pub fn set_state_bits(&mut self, path: &str, bits: u32) -> Result<(), Error>
         ensures any { HeedsFlags self.old result self.new }
         ensures does { IsTrue F.tells → CallAnswers (λ f. F.read_faults f || F.write_faults f)
@@ -115,11 +174,12 @@ impl<F: Medium, A: Heap + Clone> CompoundFile<F, A> {
         set_field(&mut self.volume, path, NewField::StateBits(bits))
     }
 
-    /// Says when the storage at this path, or the root, was made. A stream has no such moment, and stays as it is.
+    /// Sets the creation time of the storage at this path, or of the root. A stream has no timestamps and stays as it is (MS-CFB 2.6.1).
+    /// [`Entry::created`] has it; [`Timestamp::from_unix`] makes a timestamp.
     ///
-    /// `Failed` on a failed file. By the rules of calls: `InvalidInput` where the path leaves the root; `NotFound` where nothing is there;
-    /// and then `Unsound` in a file that is not sound, even where nothing would change; `Memory`. Nothing has changed then. `Medium` where
-    /// the medium fails: all but the count of failures is as before, or the file has failed.
+    /// # Errors
+    ///
+    /// As [`CompoundFile::set_state_bits`].
     pub fn set_created_time(&mut self, path: &str, moment: Timestamp) -> Result<(), Error>
         ensures any { HeedsFlags self.old result self.new }
         ensures does { IsTrue F.tells → CallAnswers (λ f. F.read_faults f || F.write_faults f)
@@ -128,11 +188,12 @@ impl<F: Medium, A: Heap + Clone> CompoundFile<F, A> {
         set_field(&mut self.volume, path, NewField::CreatedTime(moment))
     }
 
-    /// Says when the storage at this path, or the root, was changed last. A stream has no such moment, and stays as it is.
+    /// Sets the modification time of the storage at this path, or of the root. A stream has no timestamps and stays as it is (MS-CFB
+    /// 2.6.1). [`Entry::modified`] has it; [`CompoundFile::touch`] leaves the root as it is.
     ///
-    /// `Failed` on a failed file. By the rules of calls: `InvalidInput` where the path leaves the root; `NotFound` where nothing is there;
-    /// and then `Unsound` in a file that is not sound, even where nothing would change; `Memory`. Nothing has changed then. `Medium` where
-    /// the medium fails: all but the count of failures is as before, or the file has failed.
+    /// # Errors
+    ///
+    /// As [`CompoundFile::set_state_bits`].
     pub fn set_modified_time(&mut self, path: &str, moment: Timestamp) -> Result<(), Error>
         ensures any { HeedsFlags self.old result self.new }
         ensures does { IsTrue F.tells → CallAnswers (λ f. F.read_faults f || F.write_faults f)
@@ -141,11 +202,12 @@ impl<F: Medium, A: Heap + Clone> CompoundFile<F, A> {
         set_field(&mut self.volume, path, NewField::ModifiedTime(moment))
     }
 
-    /// Says when the storage at this path was changed last. A stream and the root stay as they are.
+    /// Sets the modification time of the storage at this path (MS-CFB 2.6.1). A stream and the root stay as they are;
+    /// [`CompoundFile::set_modified_time`] also sets that of the root.
     ///
-    /// `Failed` on a failed file. By the rules of calls: `InvalidInput` where the path leaves the root; `NotFound` where nothing is there;
-    /// and then `Unsound` in a file that is not sound, even where nothing would change; `Memory`. Nothing has changed then. `Medium` where
-    /// the medium fails: all but the count of failures is as before, or the file has failed.
+    /// # Errors
+    ///
+    /// As [`CompoundFile::set_state_bits`].
     pub fn touch(&mut self, path: &str, moment: Timestamp) -> Result<(), Error>
         ensures any { HeedsFlags self.old result self.new }
         ensures does { IsTrue F.tells → CallAnswers (λ f. F.read_faults f || F.write_faults f)

@@ -1,4 +1,5 @@
-//! The streams of a file, each under the number of its entry, as what buffered streams stand on (MS-CFB 2.6).
+//! The streams of a file, each under the number of its entry, as what buffered streams stand on (MS-CFB 2.6). Internal: programs use
+//! [`Stream`] and [`ReadStream`].
 ghost use Rattle.std.specs.Prelude.{◌≤◌, ◌+◌, ◌↔◌, IsTrue};
 ghost use Rattle.cfb_compound_file.specs.cfb_content.Contents.{IsStreamOf, IsTooLongFor};
 ghost use Rattle.cfb_agreement.specs.Files.{IsFullFile, failures_of};

@@ -14,14 +14,21 @@ use cfb_format::medium::{Medium, ReadMedium};
 use std::alloc::Allocator as Heap;
 
 impl<F: ReadMedium, A: Heap + Clone> CompoundFile<F, A> {
-    /// Copies the file into a medium without bytes. The copy has its version, its letters and its tree, the root's fields among it, and
-    /// no sector without an owner; its limits, and the bytes of its header that nobody reads, are those that `create` gives. It goes by
-    /// entries, so that a name which no path says does not stop it, and it copies a file that is not sound, if each of its streams can be
-    /// read to its end.
+    /// Copies the whole tree into an empty medium. The copy has the same version, case mapping and tree. No sector in it is free or leaked.
+    /// Its limits, and the bytes of its header that nobody reads, are those of a file from [`CompoundFile::create`]. An inconsistent file
+    /// is copied too if each of its streams can be read to its end, and the copy is consistent.
     ///
-    /// `Failed` exactly on a failed file; `InvalidData` exactly where some stream can't be read to its end; `Full` exactly where no file
-    /// of the version has room for the tree: nothing is written then. `Memory`, and `Medium` where one of the two media fails. The file
-    /// itself is as before, but for its medium's count of failures.
+    /// Afterwards [`CompoundFile::into_inner`] of the copy returns its medium. [`copy_stream`] copies one stream.
+    ///
+    /// # Errors
+    ///
+    /// - [`Error::InvalidData`]: a stream cannot be read to its end; [`CompoundFile::salvage_to`] copies what can be read.
+    /// - [`Error::Full`]: no file of this version has room for the tree. Nothing is written then.
+    /// - [`Error::Failed`]: an earlier change failed midway ([`CompoundFile::is_failed`]).
+    /// - `Medium`: one of the two media failed.
+    /// - `Memory`: out of memory.
+    ///
+    /// The file itself does not change.
     pub fn copy_to<W: Medium>(&mut self, dest: W) -> Result<CompoundFile<W, A>, Error>
         requires empty_medium { IsTrue W.tells → W.bytes dest ≡ [] }
         ensures reads { IsReadOnly F.tells self.old self.new }

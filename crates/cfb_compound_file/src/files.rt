@@ -1,5 +1,5 @@
-//! Compound files in files of the system. What such a file holds is known to nobody, so no call here
-//! promises what its bytes mean.
+//! Compound files in files of the system, with options. What such a file holds is known to nobody, so no call here promises what its bytes
+//! mean.
 ghost use Rattle.std.specs.Prelude.{IfErr, IfOk, ◌≡◌, false};
 ghost use Rattle.cfb_format.specs.declared.version.Version.TheVariants.{V4};
 ghost use Rattle.cfb_compound_file.specs.cfb_mini_sectors.State.{version_of};
@@ -17,11 +17,12 @@ use std::fs::File;
 use std::rt::Files;
 
 impl<A: Heap + Clone> OpenOptions<A> {
-    /// Opens the compound file at this path of the system, to be read. The file is not locked, so that another may change it.
+    /// Opens the compound file at this path of the system for reading, with these options. It is not locked: another program may change it
+    /// meanwhile. [`OpenOptions::open_rw`] opens it for changes. The function [`open`] does the same with [`seeded_options`].
     ///
     /// # Errors
     ///
-    /// `Medium(Open)` where the file is not opened; else as `open_with`.
+    /// [`Error::Medium`] with [`MediumFault::Open`] if the file cannot be opened; otherwise as [`OpenOptions::open_with`].
     pub fn open<R: Files<File = File>>(
         self,
         rt: &R,
@@ -36,12 +37,14 @@ impl<A: Heap + Clone> OpenOptions<A> {
         self.open_with(alloc, medium)
     }
 
-    /// Opens the compound file at this path of the system, to be read and changed in place. The file is locked as long as it is open
-    /// (`cfb_files::locking`).
+    /// Opens the compound file at this path of the system for reading and for changes in place, with these options. The file is locked as
+    /// long as it is open ([`locking`]). The function [`open_rw`] does the same with [`seeded_options`]; with [`open_journaled`] no crash
+    /// damages the file.
     ///
     /// # Errors
     ///
-    /// `Medium(Open)` where the file is not opened, and where another has it open to be changed; else as `open_with`.
+    /// [`Error::Medium`] with [`MediumFault::Open`] if the file cannot be opened, or another program has locked it; otherwise as
+    /// [`OpenOptions::open_with`].
     pub fn open_rw<R: Files<File = File>>(
         self,
         rt: &R,
@@ -56,13 +59,14 @@ impl<A: Heap + Clone> OpenOptions<A> {
         self.open_with(alloc, medium)
     }
 
-    /// Makes a compound file of version 4 with nothing in it at this path of the system. An older file there is emptied first. The file is
-    /// locked as long as it is open (`cfb_files::locking`).
+    /// Creates an empty compound file of version 4 at this path of the system, with these options. A file that is there is emptied first.
+    /// The file is locked as long as it is open ([`locking`]). The function [`create`] does the same with [`seeded_options`]; [`create_as`]
+    /// takes a version.
     ///
     /// # Errors
     ///
-    /// `Medium(Open)` where the file is not opened, and where another has it open to be changed: then the older file keeps its bytes. Else as
-    /// `create_with`.
+    /// [`Error::Medium`] with [`MediumFault::Open`] if the file cannot be opened, or another program has locked it; a file that is there
+    /// keeps its bytes then. Otherwise as [`OpenOptions::create_with`].
     pub fn create<R: Files<File = File>>(
         self,
         rt: &R,

@@ -16,13 +16,25 @@ use cfb_opening::flaws::{file_flaws, file_mini_owners, file_owners, file_streams
 use std::alloc::Allocator as Heap;
 
 impl<F: ReadMedium, A: Heap + Clone> CompoundFile<F, A> {
-    /// Why the file is not sound: no reason where it is, and else one for each clause of soundness that its bytes break; that a word of the
-    /// FAT points past the file is told where there is no other reason. Streams are told by the numbers of their directory entries. It
-    /// takes time and memory for the sectors, the mini sectors and the streams, whatever the file.
+    /// Why the file is not consistent: an empty list if it is, otherwise a [`flaws::Flaw`] for each rule that its bytes break. A flaw names
+    /// a stream by the number of its directory entry. That a FAT entry points past the end of the file is listed only if there is no other
+    /// flaw. Time and memory grow with the sectors, the mini sectors and the streams. [`CompoundFile::is_sound`] answers whether there is
+    /// one; [`CompoundFile::salvage_to`] copies what can be read.
+    ///
+    /// ```rust
+    /// /// Prints each reason why a file on disk is not consistent.
+    /// pub fn explain(rt: &HostRuntime, path: &str) -> io::Result<()> {
+    ///     let file = cfb::open(rt, rt.alloc(), path)?;
+    ///     for flaw in file.flaws(&rt.alloc())? {
+    ///         println!(rt; "{:?}", flaw)?;
+    ///     }
+    ///     Ok(())
+    /// }
+    /// ```
     ///
     /// # Errors
     ///
-    /// `Failed` if an earlier change broke off; `Memory`.
+    /// [`Error::Failed`] if an earlier change failed midway ([`CompoundFile::is_failed`]); `Memory`.
     pub fn flaws(&self, alloc: &A) -> Result<Vec<Flaw, A>, Error>
         ensures told { IsTrue F.tells → IfOk result (λ found. AreFlawsOf self.now found.items) }
         ensures err { IfErr result (λ e. (e ≡ Failed) ⊎ IsMemory e) }
@@ -34,11 +46,12 @@ impl<F: ReadMedium, A: Heap + Clone> CompoundFile<F, A> {
         Ok(found)
     }
 
-    /// The owner of each sector, the first if there are several.
+    /// What each sector is used for, in the order of sectors (MS-CFB 2.1): a [`flaws::Owner`] each. If there are several users, it is the
+    /// first. [`CompoundFile::mini_sector_owners`] goes on in the mini stream.
     ///
     /// # Errors
     ///
-    /// `Failed` if an earlier change broke off; `Memory`.
+    /// [`Error::Failed`] if an earlier change failed midway ([`CompoundFile::is_failed`]); `Memory`.
     pub fn sector_owners(&self, alloc: &A) -> Result<Vec<Owner, A>, Error>
         ensures told { IsTrue F.tells
             → IfOk result (λ owners. AreSectorOwnersOf self.now owners.items) }
@@ -51,11 +64,12 @@ impl<F: ReadMedium, A: Heap + Clone> CompoundFile<F, A> {
         Ok(owners)
     }
 
-    /// The owner of each mini sector, the first if there are several.
+    /// What each mini sector is used for, in the order of mini sectors (MS-CFB 2.4): a [`flaws::Owner`] each. If there are several users,
+    /// it is the first.
     ///
     /// # Errors
     ///
-    /// `Failed` if an earlier change broke off; `Memory`.
+    /// [`Error::Failed`] if an earlier change failed midway ([`CompoundFile::is_failed`]); `Memory`.
     pub fn mini_sector_owners(&self, alloc: &A) -> Result<Vec<Owner, A>, Error>
         ensures told { IsTrue F.tells
             → IfOk result (λ owners. AreMiniOwnersOf self.now owners.items) }
@@ -68,7 +82,8 @@ impl<F: ReadMedium, A: Heap + Clone> CompoundFile<F, A> {
         Ok(owners)
     }
 
-    /// The numbers of the directory entries of the streams, in the order of `walk`.
+    /// The numbers of the directory entries of the streams, in the order of [`CompoundFile::walk`]: those that [`flaws::Owner::Stream`] and
+    /// the flaws name.
     ///
     /// # Errors
     ///
@@ -81,7 +96,7 @@ impl<F: ReadMedium, A: Heap + Clone> CompoundFile<F, A> {
         file_streams(alloc, self.volume.tables())
     }
 
-    /// How many directory entries there are, used or not.
+    /// How many directory entries there are, used or not (MS-CFB 2.6).
     pub fn entry_count(&self) -> usize
         ensures { result ≡ length (entries_of self.now.base) }
     {

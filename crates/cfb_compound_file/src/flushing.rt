@@ -12,8 +12,12 @@ use cfb_format::medium::Medium;
 use std::alloc::Allocator as Heap;
 
 impl<F: Medium, A: Heap> CompoundFile<F, A> {
-    /// Hands on what the medium keeps back; what was changed stands in the medium's bytes already. `Failed` on a failed file, and nothing
-    /// is asked of the medium then; `Medium` where the medium fails, and the file has failed from then on.
+    /// Flushes the medium. Every change has been passed to the medium before; on a journaled medium ([`open_journaled`]) this call is the
+    /// commit. While a stream is open, [`Stream::flush`] does it.
+    ///
+    /// # Errors
+    ///
+    /// [`Error::Medium`], and the file has failed from then on. [`Error::Failed`] on a failed file; the medium is not asked then.
     pub fn flush(&mut self) -> Result<(), Error>
         ensures ok { IsTrue F.tells → OnOk result (IsDoneBy self.old flush done self.new) }
         ensures same { IsTrue F.tells → OnOk result (self.new ≡ self.old) }

@@ -1,4 +1,5 @@
-//! Compound files: opened and made, looked at, and their streams made, read and written.
+//! Compound files: opened and made, looked at, and their streams made, read and written. The crate `cfb` re-exports what programs use:
+//! [`CompoundFile`], [`OpenOptions`], [`Stream`], [`ReadStream`], [`Salvaged`]. Everything else here is internal.
 #![tactic(auto)]
 
 pub mod adding;

@@ -1,5 +1,6 @@
 //! The objects of a compound file by the numbers of their entries. What goes through all of them by these needs no paths: a name that no
-//! path says does not stop it.
+//! path says does not stop it. Internal: programs of this repository use it, and it may change in any version. Other programs ask by path:
+//! [`CompoundFile::walk`], [`CompoundFile::open_read_stream`].
 ghost use Rattle.std.specs.Prelude.{◌≡◌, ◌<◌, ◌≤◌, false, length, IsTrue, IfOk, IfErr, chars};
 ghost use Rattle.cfb_codecs.specs.EntryModel.{entries_of as entries_in};
 ghost use Rattle.cfb_format.specs.Refused.{CountsFailure, IsBreak, IsMemory};
@@ -19,7 +20,8 @@ use cfb_format::medium::ReadMedium;
 use std::alloc::Allocator as Heap;
 
 impl<F: ReadMedium, A: Heap> CompoundFile<F, A> {
-    /// The entries of the directory by their numbers, as they stand in memory (MS-CFB 2.6).
+    /// Internal. The entries of the directory by their numbers, as they stand in memory (MS-CFB 2.6). [`CompoundFile::walk`] has them with
+    /// paths.
     pub fn entries(&self) -> &[DirEntry<A>]
         ensures entries { entries_in result.now ≡ entries_of self.now.base }
         ensures in_order { AreInOrder (cases_of self.now.base) (entries_of self.now.base) }
@@ -30,7 +32,11 @@ impl<F: ReadMedium, A: Heap> CompoundFile<F, A> {
 }
 
 impl<F: ReadMedium, A: Heap + Clone> CompoundFile<F, A> {
-    /// The number of the entry of what stands at this path. It is refused as `walk_storage` is.
+    /// Internal. The number of the directory entry of what stands at this path (MS-CFB 2.6).
+    ///
+    /// # Errors
+    ///
+    /// As [`CompoundFile::walk_storage`].
     pub fn number_at(&self, path: &str) -> Result<u32, Error>
         ensures found { IfOk result (IsNumberAt self.now (chars path.now)) }
         ensures refused { IsTrue F.tells
@@ -40,7 +46,11 @@ impl<F: ReadMedium, A: Heap + Clone> CompoundFile<F, A> {
         Ok(number)
     }
 
-    /// How many bytes of the stream of that entry can be read, from its first one on. `Memory`.
+    /// Internal. How many bytes of the stream of that entry can be read, from its first one on.
+    ///
+    /// # Errors
+    ///
+    /// `Memory`.
     pub fn readable_of(&self, entry: u32) -> Result<u64, Error>
         requires { entry < length (entries_of self.now.base) }
         ensures ok { IsTrue F.tells → is_failed self.now ≡ false
@@ -50,8 +60,12 @@ impl<F: ReadMedium, A: Heap + Clone> CompoundFile<F, A> {
         self.volume.readable(entry)
     }
 
-    /// Puts a beginning of what can be read of the stream of that entry from byte `at` on into a beginning of `into`, which has room, and
-    /// answers how many bytes there are: at least one. `Medium`, `Memory`. All is as before but the count of failures.
+    /// Internal. Reads bytes of the stream of that entry, from byte `at` on, into the start of `into`, which must not be empty. Returns how
+    /// many: at least one, if the byte at `at` can be read. Only the I/O error count changes.
+    ///
+    /// # Errors
+    ///
+    /// `Medium`; `Memory`.
     pub fn read_of(&mut self, entry: u32, at: u64, into: &mut [u8]) -> Result<usize, Error>
         requires { entry < length (entries_of self.old.base) }
         ensures same { IsTrue F.tells → IsAsBefore self.old self.new }

@@ -68,10 +68,25 @@ impl<F: ReadMedium, A: Heap + Clone> CompoundFile<F, A> {
         ReadWindow::open(alloc, self, entry, self.volume.buffer_limit())
     }
 
-    /// Opens the stream at this path to be read, at its start.
+    /// Opens the stream at this path for reading, at its start. The file does not change. The [`ReadStream`] need not be closed.
+    /// [`CompoundFile::open_stream`] opens it for writing too; [`read_stream`] reads all bytes by one call.
     ///
-    /// `Failed` on a failed file. By the rules of calls: `InvalidInput` where the path leaves the root or leads to a storage, `NotFound`
-    /// where nothing is there. `Memory` for the stream's buffer. Nothing changes, whatever the answer.
+    /// ```rust
+    /// /// Reads the first bytes of a stream into the buffer, and returns how many.
+    /// pub fn first_bytes<F: ReadMedium>(
+    ///     file: &mut CompoundFile<F>,
+    ///     path: &str,
+    ///     buffer: &mut [u8],
+    /// ) -> Result<usize, Error> {
+    ///     let mut stream = file.open_read_stream(path)?;
+    ///     stream.read(buffer)
+    /// }
+    /// ```
+    ///
+    /// # Errors
+    ///
+    /// `InvalidInput` if the path leaves the root or a storage is there, `NotFound` if nothing is there; `Memory` for the buffer;
+    /// [`Error::Failed`] on a failed file.
     pub fn open_read_stream(&mut self, path: &str) -> Result<ReadStream<'_, F, A>, Error>
         ensures lent { IfOk result (λ s. (file_of s).ghost_name ≡ self.entry.ghost_name) }
         ensures opened { IfOk result (λ s. IsOpenedAt self.old (chars path.now) (open_of s)) }
@@ -111,10 +126,13 @@ impl<F: Medium, A: Heap + Clone> CompoundFile<F, A> {
         Window::open(alloc, self, entry, self.volume.buffer_limit())
     }
 
-    /// Opens the stream at this path to be read and written, at its start.
+    /// Opens the stream at this path for reading and writing, at its start. The file does not change. The [`Stream`] must be closed:
+    /// [`Stream::close`]. If you only read, use [`CompoundFile::open_read_stream`]; if the stream is new, [`CompoundFile::create_stream`].
     ///
-    /// `Failed` on a failed file. By the rules of calls: `InvalidInput` where the path leaves the root or leads to a storage, `NotFound`
-    /// where nothing is there. `Memory` for the stream's buffer. Nothing changes, whatever the answer.
+    /// # Errors
+    ///
+    /// `InvalidInput` if the path leaves the root or a storage is there, `NotFound` if nothing is there; `Memory` for the buffer;
+    /// [`Error::Failed`] on a failed file.
     pub fn open_stream(&mut self, path: &str) -> Result<Stream<'_, F, A>, Error>
         ensures lent { IfOk result (λ s. (file_of s).ghost_name ≡ self.entry.ghost_name) }
         ensures opened { IfOk result (λ s. IsOpenedAt self.old (chars path.now) (open_of s)) }

@@ -27,7 +27,19 @@ use std::marker::Model;
 /// For how many bytes the buffer of a stream may have room, unless it is said otherwise.
 pub(crate) const DEFAULT_BUFFER_SIZE: usize = 1048576;
 
-/// How a compound file is opened or made.
+/// Options for opening or creating a compound file. [`OpenOptions::open_with`] and [`OpenOptions::create_with`] take any medium,
+/// [`OpenOptions::open`], [`OpenOptions::open_rw`] and [`OpenOptions::create`] a path of the system. If the defaults will do, use [`open`]
+/// or [`CompoundFile::open`].
+///
+/// ```rust
+/// /// Opens a file whose names compare two Greek letters without case.
+/// pub fn open_greek<F: ReadMedium>(alloc: Global, medium: F) -> Result<CompoundFile<F>, Error> {
+///     let mapping = CaseMapper::from_pairs(alloc, &[('α', 'Α'), ('β', 'Β')])?;
+///     OpenOptions::new()
+///         .case_mapper(mapping)
+///         .open_with(alloc, medium)
+/// }
+/// ```
 #[derive(Debug, Drop)]
 pub struct OpenOptions<A: Heap = Global> {
     max_buffer_size: usize,
@@ -62,8 +74,8 @@ impl<A: Heap> Default for OpenOptions<A> {
 }
 
 impl<A: Heap> OpenOptions<A> {
-    /// Buffers of at most 1048576 bytes, as many sectors as there are numbers for, the default letters, and what does no harm is read as
-    /// the value that it should have.
+    /// The default options: buffers of at most 1,048,576 bytes, no limit on sectors but the format's, the default case mapping, and
+    /// permissive opening. The functions that open a path start from [`seeded_options`].
     pub fn new() -> OpenOptions<A>
         ensures { result ≡ permissive_options }
     {
@@ -76,15 +88,15 @@ impl<A: Heap> OpenOptions<A> {
         }
     }
 
-    /// The indexes of names are mixed with this number, 0 unless it is said, so that whoever does
-    /// not know it can choose no names that meet in them. It changes no answer.
+    /// Sets the seed of the hash table of names; 0 by default. With a random seed, as [`seeded_options`] sets it, nobody can choose names
+    /// that make it slow. It changes no result.
     pub fn seed(self, seed: u64) -> OpenOptions<A>
         ensures { result ≡ self }
     {
         OpenOptions { seed, ..self }
     }
 
-    /// The buffer of a stream grows to at most so many bytes. It has room for 1024 always, so that fewer count as 1024.
+    /// Sets the limit of the buffer of a [`Stream`] or [`ReadStream`], in bytes. Values below 1024 count as 1024.
     pub fn max_buffer_size(self, size: usize) -> OpenOptions<A>
         ensures { result ≡ record self { buffer_limit = size } }
     {
@@ -94,7 +106,8 @@ impl<A: Heap> OpenOptions<A> {
         }
     }
 
-    /// The file grows to at most so many sectors after it was opened or made; more than 0xFFFFFFFA, the default, count as 0xFFFFFFFA.
+    /// Sets how many sectors the file may grow to. Values above 0xFFFFFFFA, the default, count as that (MS-CFB 2.1). A change that needs
+    /// more returns [`Error::Full`].
     pub fn max_sectors(self, count: u32) -> OpenOptions<A>
         ensures { result ≡ record self { max_sectors = count } }
     {
@@ -104,7 +117,8 @@ impl<A: Heap> OpenOptions<A> {
         }
     }
 
-    /// Names are compared by these letters (MS-CFB 2.6.4).
+    /// Sets the case mapping by which names are compared (MS-CFB 2.6.4). Make one by [`CaseMapper::from_pairs`] or [`CaseMapper::unicode`].
+    /// A file whose names another program ordered by another mapping can fail to open, with [`Error::InvalidData`].
     pub fn case_mapper(self, letters: CaseMapper<A>) -> OpenOptions<A>
         ensures { result ≡ record self { cases = letters } }
     {
@@ -114,7 +128,8 @@ impl<A: Heap> OpenOptions<A> {
         }
     }
 
-    /// Opening also refuses what other writers are known to leave behind, and what does no harm (MS-CFB 2.2 to 2.6).
+    /// Makes opening strict ([`Validation::Strict`]): it also rejects deviations that do no harm, some of which other programs write
+    /// (MS-CFB 2.2 to 2.6). [`CompoundFile::open_strict`] does so with defaults.
     pub fn strict(self) -> OpenOptions<A>
         ensures { result ≡ record self { validation = Strict } }
     {
@@ -126,10 +141,15 @@ impl<A: Heap> OpenOptions<A> {
 }
 
 impl<A: Heap + Clone> OpenOptions<A> {
-    /// Opens the compound file on this medium. What is opened from the bytes of a file that was made here, by its letters, is as made again.
+    /// Opens the compound file on this medium. [`CompoundFile::open`] takes the default options. A [`ReadMedium`] is enough to read; for
+    /// changes it must be a [`Medium`].
     ///
-    /// `InvalidData` exactly where its bytes are not acceptable in this mode (MS-CFB 2.2 to 2.6), or have a MiniFAT with more entries than
-    /// there are numbers; `Medium` where the medium fails, and `Memory` where memory is refused.
+    /// # Errors
+    ///
+    /// - [`Error::InvalidData`]: exactly if the bytes are not valid in this mode (MS-CFB 2.2 to 2.6), or the MiniFAT has more than
+    ///   0xFFFFFFFA entries. [`OpenOptions::case_mapper`] helps if only the order of names differs.
+    /// - `Medium`: the medium failed.
+    /// - `Memory`: out of memory.
     pub fn open_with<F: ReadMedium>(self, alloc: A, medium: F) -> Result<CompoundFile<F, A>, Error>
         ensures answers { IsTrue F.tells
             → MatchResult result (IsOpenedWith self (F.bytes medium) (F.failures medium))
@@ -145,8 +165,12 @@ impl<A: Heap + Clone> OpenOptions<A> {
         Ok(CompoundFile { volume })
     }
 
-    /// Makes a compound file of version 4 with nothing in it on this medium, which has no bytes. `Medium` where the medium fails, and
-    /// `Memory` where memory is refused.
+    /// Creates an empty compound file of version 4 on an empty medium (MS-CFB 2.2). [`OpenOptions::create_as`] takes the version;
+    /// [`OpenOptions::open_with`] opens what the medium has.
+    ///
+    /// # Errors
+    ///
+    /// `Medium` if the medium failed; `Memory`.
     pub fn create_with<F: Medium>(self, alloc: A, medium: F) -> Result<CompoundFile<F, A>, Error>
         requires empty_medium { IsTrue F.tells → F.bytes medium ≡ [] }
         ensures answers { IsTrue F.tells → MatchResult result
@@ -159,11 +183,11 @@ impl<A: Heap + Clone> OpenOptions<A> {
         self.create_as(alloc, Version::V4, medium)
     }
 
-    /// Makes a compound file of this version with nothing in it on this medium, which has no bytes (MS-CFB 2.2).
+    /// Creates an empty compound file of this version on an empty medium (MS-CFB 2.2). [`Version`] says how they differ.
     ///
     /// # Errors
     ///
-    /// `Medium` where the medium fails, and `Memory` where memory is refused.
+    /// `Medium` if the medium failed; `Memory`.
     pub fn create_as<F: Medium>(
         self,
         alloc: A,
@@ -202,10 +226,14 @@ fn letters_of<A: Heap + Clone>(
 }
 
 impl<F: ReadMedium, A: Heap + Clone> CompoundFile<F, A> {
-    /// Opens a compound file, and reads what does no harm as the value that it should have.
+    /// Opens a compound file with default options. Deviations that do no harm are accepted; [`CompoundFile::open_strict`] rejects them. For
+    /// a path of the system use the function [`open`]; for other options [`OpenOptions::open_with`].
     ///
-    /// `InvalidData` exactly where its bytes are not acceptable (MS-CFB 2.2 to 2.6), or have a MiniFAT with more entries than there are
-    /// numbers; `Medium` where the medium fails, and `Memory` where memory is refused.
+    /// # Errors
+    ///
+    /// - [`Error::InvalidData`]: exactly if the bytes are not valid (MS-CFB 2.2 to 2.6), or the MiniFAT has more than 0xFFFFFFFA entries.
+    /// - `Medium`: the medium failed.
+    /// - `Memory`: out of memory.
     pub fn open(alloc: A, medium: F) -> Result<CompoundFile<F, A>, Error>
         ensures answers { IsTrue F.tells → MatchResult result
             (IsOpenedWith permissive_options (F.bytes medium) (F.failures medium))
@@ -217,8 +245,12 @@ impl<F: ReadMedium, A: Heap + Clone> CompoundFile<F, A> {
         OpenOptions::new().open_with(alloc, medium)
     }
 
-    /// Opens a compound file, and refuses also what other writers are known to leave behind, and what does no harm. `InvalidData` exactly
-    /// where its bytes are not acceptable so; `Medium` and `Memory` as `open`.
+    /// Opens a compound file strictly ([`Validation::Strict`]): deviations that do no harm are rejected too, some of which other programs
+    /// write.
+    ///
+    /// # Errors
+    ///
+    /// As [`CompoundFile::open`], with the bytes that are strictly valid.
     pub fn open_strict(alloc: A, medium: F) -> Result<CompoundFile<F, A>, Error>
         ensures answers { IsTrue F.tells
             → MatchResult result (IsOpenedWith strict_options (F.bytes medium) (F.failures medium))
@@ -232,8 +264,12 @@ impl<F: ReadMedium, A: Heap + Clone> CompoundFile<F, A> {
 }
 
 impl<F: Medium, A: Heap + Clone> CompoundFile<F, A> {
-    /// Makes a compound file of version 4 with nothing in it, on a medium without bytes. `Medium` where the medium fails, and `Memory`
-    /// where memory is refused.
+    /// Creates an empty compound file of version 4 on an empty medium, such as [`MemoryMedium::new`] (MS-CFB 2.2). For a path of the system
+    /// use the function [`create`]; for version 3 [`CompoundFile::create_with_version`].
+    ///
+    /// # Errors
+    ///
+    /// `Medium` if the medium failed; `Memory`.
     pub fn create(alloc: A, medium: F) -> Result<CompoundFile<F, A>, Error>
         requires empty_medium { IsTrue F.tells → F.bytes medium ≡ [] }
         ensures answers { IsTrue F.tells
@@ -247,8 +283,12 @@ impl<F: Medium, A: Heap + Clone> CompoundFile<F, A> {
         OpenOptions::new().create_with(alloc, medium)
     }
 
-    /// Makes a compound file of this version with nothing in it, on a medium without bytes. `Medium` where the medium fails, and `Memory`
-    /// where memory is refused.
+    /// Creates an empty compound file of this version on an empty medium (MS-CFB 2.2). [`Version`] says how they differ. For other options
+    /// use [`OpenOptions::create_as`].
+    ///
+    /// # Errors
+    ///
+    /// `Medium` if the medium failed; `Memory`.
     pub fn create_with_version(
         alloc: A,
         version: Version,

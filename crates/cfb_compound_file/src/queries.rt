@@ -43,15 +43,15 @@ impl<F: ReadMedium, A: Heap> CompoundFile<F, A> {
         Some(kind_of(self.volume.entries(), number))
     }
 
-    /// Whether a storage or a stream stands at this path, the root among them. A path that leaves the root leads to nothing. It takes no
-    /// memory.
+    /// Whether a storage or a stream is at this path. The root exists always; outside of the root nothing does. It takes no memory.
+    /// [`CompoundFile::entry`] tells more.
     pub fn exists(&self, path: &str) -> bool
         ensures asks { IsTrue F.tells → Answers self.now (exists (chars path.now)) (flag result) }
     {
         self.volume.number_at(path).is_some()
     }
 
-    /// Whether a stream stands at this path. It takes no memory.
+    /// Whether a stream is at this path. It takes no memory. [`CompoundFile::open_stream`] opens it.
     pub fn is_stream(&self, path: &str) -> bool
         ensures asks { IsTrue F.tells
             → Answers self.now (is_stream (chars path.now)) (flag result) }
@@ -59,7 +59,7 @@ impl<F: ReadMedium, A: Heap> CompoundFile<F, A> {
         is_of_stream(self.kind_at(path))
     }
 
-    /// Whether a storage stands at this path, the root among them. It takes no memory.
+    /// Whether a storage or the root is at this path. It takes no memory. [`CompoundFile::read_storage`] lists it.
     pub fn is_storage(&self, path: &str) -> bool
         ensures asks { IsTrue F.tells
             → Answers self.now (is_storage (chars path.now)) (flag result) }
@@ -175,7 +175,11 @@ impl<F: ReadMedium, A: Heap + Clone> CompoundFile<F, A> {
 }
 
 impl<F: ReadMedium, A: Heap + Clone> CompoundFile<F, A> {
-    /// What is told of the root. `Memory`.
+    /// The [`Entry`] of the root (MS-CFB 2.6.2).
+    ///
+    /// # Errors
+    ///
+    /// `Memory`.
     pub fn root_entry(&self) -> Result<Entry<A>, Error>
         ensures ok { IsTrue F.tells → IfOk result (λ e. Answers self.now root_entry (one_entry e)) }
         ensures refused { IsTrue F.tells → IfErr result (AnswersNot self.now root_entry) }
@@ -184,8 +188,12 @@ impl<F: ReadMedium, A: Heap + Clone> CompoundFile<F, A> {
         self.told_at(&[], 0)
     }
 
-    /// What is told of what stands at this path. Its path has the names as they were asked for. `InvalidInput` where the path leaves the
-    /// root, `NotFound` where nothing is there, `Memory`.
+    /// The [`Entry`] of the storage or stream at this path (MS-CFB 2.6.1). Its path has the names as you gave them.
+    /// [`CompoundFile::exists`], [`CompoundFile::is_stream`] and [`CompoundFile::is_storage`] answer without memory and without an error.
+    ///
+    /// # Errors
+    ///
+    /// `InvalidInput` if the path leaves the root, `NotFound` if nothing is there; `Memory`.
     pub fn entry(&self, path: &str) -> Result<Entry<A>, Error>
         ensures ok { IsTrue F.tells
             → IfOk result (λ e. Answers self.now (entry (chars path.now)) (one_entry e)) }
@@ -197,7 +205,12 @@ impl<F: ReadMedium, A: Heap + Clone> CompoundFile<F, A> {
         self.told_at(&names, number)
     }
 
-    /// What is told of the objects of the root on its first level, in name order. `Memory`.
+    /// The [`Entries`] of what is directly in the root, in the order of names (MS-CFB 2.6.4). [`CompoundFile::read_storage`] takes a path,
+    /// [`CompoundFile::walk`] goes all the way down.
+    ///
+    /// # Errors
+    ///
+    /// `Memory`.
     pub fn read_root_storage(&self) -> Result<Entries<'_, F, A>, Error>
         ensures ok { IsTrue F.tells → IfOk result (λ list.
             Answers self.now read_root_storage (entries (entries_left list))) }
@@ -207,8 +220,12 @@ impl<F: ReadMedium, A: Heap + Clone> CompoundFile<F, A> {
         self.children_at(&[], 0)
     }
 
-    /// What is told of the objects of the storage at this path on its first level, in name order. Their paths begin with the names as they
-    /// were asked for. `InvalidInput` where the path leaves the root or leads to a stream, `NotFound` where nothing is there, `Memory`.
+    /// The [`Entries`] of what is directly in the storage at this path, in the order of names (MS-CFB 2.6.4). Their paths begin with the
+    /// names as you gave them. [`CompoundFile::walk_storage`] goes all the way down.
+    ///
+    /// # Errors
+    ///
+    /// `InvalidInput` if the path leaves the root or a stream is there, `NotFound` if nothing is there; `Memory`.
     pub fn read_storage(&self, path: &str) -> Result<Entries<'_, F, A>, Error>
         ensures ok { IsTrue F.tells → IfOk result (λ list.
             Answers self.now (read_storage (chars path.now)) (entries (entries_left list))) }
@@ -223,7 +240,23 @@ impl<F: ReadMedium, A: Heap + Clone> CompoundFile<F, A> {
         self.children_at(&names, number)
     }
 
-    /// What is told of the root and of all that is in it: each storage before what is in it, and siblings in name order. `Memory`.
+    /// The [`Entries`] of the root and of everything below it: a storage comes before what is in it, and siblings come in the order of
+    /// names. [`CompoundFile::walk_storage`] starts at a path, [`CompoundFile::read_root_storage`] stays on the first level.
+    ///
+    /// ```rust
+    /// /// Prints the length and the path of each storage and stream.
+    /// pub fn list(rt: &HostRuntime, path: &str) -> io::Result<()> {
+    ///     let file = cfb::open(rt, rt.alloc(), path)?;
+    ///     for entry in file.walk()? {
+    ///         println!(rt; "{} {}", entry.len(), entry.path())?;
+    ///     }
+    ///     Ok(())
+    /// }
+    /// ```
+    ///
+    /// # Errors
+    ///
+    /// `Memory`: the list is made at once.
     pub fn walk(&self) -> Result<Entries<'_, F, A>, Error>
         ensures ok { IsTrue F.tells
             → IfOk result (λ list. Answers self.now walk (entries (entries_left list))) }
@@ -233,8 +266,13 @@ impl<F: ReadMedium, A: Heap + Clone> CompoundFile<F, A> {
         self.walk_root()
     }
 
-    /// What is told of what stands at this path and of all that is in it. The paths begin with the asked names of the parent, and go on with
-    /// stored names. `InvalidInput` where the path leaves the root, `NotFound` where nothing is there, `Memory`.
+    /// The [`Entries`] of the storage or stream at this path and of everything below it, in the order of [`CompoundFile::walk`]. Their
+    /// paths begin with the names of the parent as you gave them, and go on with stored names. [`CompoundFile::read_storage`] stays on the
+    /// first level.
+    ///
+    /// # Errors
+    ///
+    /// `InvalidInput` if the path leaves the root, `NotFound` if nothing is there; `Memory`.
     pub fn walk_storage(&self, path: &str) -> Result<Entries<'_, F, A>, Error>
         ensures ok { IsTrue F.tells → IfOk result (λ list.
             Answers self.now (walk_storage (chars path.now)) (entries (entries_left list))) }

@@ -15,24 +15,44 @@ use cfb_format::error::Error;
 use cfb_format::medium::{Medium, ReadMedium};
 use std::alloc::{Allocator as Heap, Global};
 
-/// What could be read of a compound file, in a file of its own.
+/// What could be read of a compound file, as a file of its own: what [`CompoundFile::salvage_to`] returns.
 #[derive(Drop)]
 pub struct Salvaged<W: ReadMedium, A: Heap = Global> {
     /// The new file.
     pub file: CompoundFile<W, A>,
-    /// How many bytes of each stream it has, and how many that stream is told to have. The streams are in the order in which `walk` lists
-    /// them.
+    /// For each stream how many of its bytes the new file has ([`Extent::kept`]), and how many its directory entry says ([`Extent::len`]).
+    /// The streams are in the order of [`CompoundFile::walk`].
     pub extents: Vec<Extent, A>,
 }
 
 impl<F: ReadMedium, A: Heap + Clone> CompoundFile<F, A> {
-    /// Copies what can be read of the file into a medium without bytes: every storage and stream with its name, class id, bits and moments,
-    /// and of each stream the longest beginning that can be read. The copy is as one that `copy_to` makes of a file with so much in it.
+    /// Copies what can be read into an empty medium: every storage and stream with its name, class ID, state bits and timestamps, and of
+    /// each stream the longest prefix that can be read. The copy is laid out as one of [`CompoundFile::copy_to`], which fails if a byte is
+    /// lost. [`CompoundFile::flaws`] tells what is wrong with the file.
+    ///
+    /// ```rust
+    /// /// Copies what can be read into a new file, and returns it with the number of bytes that are lost.
+    /// pub fn salvage<F: ReadMedium>(
+    ///     alloc: Global,
+    ///     damaged: &mut CompoundFile<F>,
+    /// ) -> Result<(Vec<u8>, u64), Error> {
+    ///     let Salvaged { file, extents } = damaged.salvage_to(MemoryMedium::new(alloc))?;
+    ///     let mut lost: u64 = 0;
+    ///     for stream in extents {
+    ///         lost = lost.saturating_add(stream.len.saturating_sub(stream.kept));
+    ///     }
+    ///     Ok((file.into_inner().into_bytes(), lost))
+    /// }
+    /// ```
     ///
     /// # Errors
     ///
-    /// `Failed` exactly on a failed file; `Full` exactly where no file of the version has room for what can be read: nothing is written
-    /// then. `Memory`, and `Medium` where one of the two media fails. The file itself is as before, but for its medium's count of failures.
+    /// - [`Error::Full`]: no file of this version has room for what can be read. Nothing is written then.
+    /// - [`Error::Failed`]: an earlier change failed midway ([`CompoundFile::is_failed`]).
+    /// - `Medium`: one of the two media failed.
+    /// - `Memory`: out of memory.
+    ///
+    /// The file itself does not change.
     pub fn salvage_to<W: Medium>(&mut self, dest: W) -> Result<Salvaged<W, A>, Error>
         requires empty_medium { IsTrue W.tells → W.bytes dest ≡ [] }
         ensures reads { IsReadOnly F.tells self.old self.new }

@@ -183,13 +183,19 @@ pub(crate) fn make_empty<F: ReadMedium, W: Medium, A: Heap + Clone>(
     Ok(Volume::new(mini, true, buffer_limit))
 }
 
-/// Copies the file into an empty medium: the copy has its version, its letters and its tree, no sector without an owner, and the header of a
-/// created file where nobody reads it. It may grow as far as there are numbers, and no buffer of its streams has more room than the greater of
-/// `buffer_limit` and 1024 bytes.
+/// Internal: [`CompoundFile::copy_to`] over a volume. Copies the file into an empty medium: the copy has its version, its case mapping and
+/// its tree, no leaked sector, and the header of a created file where nobody reads it. It may grow to 0xFFFFFFFA sectors, and no buffer of
+/// its streams has more room than the greater of `buffer_limit` and 1024 bytes.
 ///
-/// `Failed` exactly where the file failed earlier; `InvalidData` exactly where some stream of it can't be read to its end; `Full` exactly
-/// where no file of its version has room for its tree: nothing is written then. `Memory`, and `Medium` where one of the two media fails.
-/// The file is as before.
+/// # Errors
+///
+/// - [`Error::Failed`]: exactly if the file failed earlier.
+/// - [`Error::InvalidData`]: exactly if a stream of it cannot be read to its end; `salvage_volume` copies what can be read.
+/// - [`Error::Full`]: exactly if no file of its version has room for its tree. Nothing is written then.
+/// - `Memory`: out of memory.
+/// - `Medium`: one of the two media failed.
+///
+/// The file itself does not change.
 pub fn copy_volume<F: ReadMedium, W: Medium, A: Heap + Clone>(
     source: &mut Volume<F, A>,
     dest: W,

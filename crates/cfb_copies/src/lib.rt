@@ -1,4 +1,5 @@
-//! A file copied into an empty medium, object by object: the copy has the tree of the file and nothing else.
+//! A file copied into an empty medium, object by object: the copy has the tree of the file and nothing else. Internal: programs use
+//! [`CompoundFile::copy_to`] and [`CompoundFile::salvage_to`]. The names that it passes on from the crates below are internal too.
 #![tactic(auto)]
 
 mod checking;

@@ -22,12 +22,12 @@ use cfb_places::walk::{Place, places};
 use cfb_volume::volume::Volume;
 use std::alloc::{Allocator as Heap, Global};
 
-/// What could be read of a file, in a file of its own.
+/// Internal: what could be read of a file, in a file of its own. [`Salvaged`] of the crate `cfb` has the same as a [`CompoundFile`].
 #[derive(Drop)]
 pub struct Salvaged<W: ReadMedium, A: Heap = Global> {
     /// The new file.
     pub volume: Volume<W, A>,
-    /// How much it has of each stream, in the order of a walk.
+    /// How many bytes it has of each stream, in the order of [`CompoundFile::walk`].
     pub extents: Vec<Extent, A>,
 }
 
@@ -111,11 +111,18 @@ fn prepare_cut<F: ReadMedium, A: Heap + Clone>(source: &Volume<F, A>) -> Result<
     Ok(Prepared { list, extents })
 }
 
-/// Copies what can be read of the file into an empty medium, as `copy_volume` copies a file whose streams can be read to their ends: all
-/// objects with their names and fields, and each stream cut to its longest beginning that can be read. It tells how much that is of each.
+/// Internal: [`CompoundFile::salvage_to`] over a volume. Copies what can be read of the file into an empty medium, as `copy_volume` copies
+/// a file whose streams can be read to their ends: all objects with their names and fields, and each stream cut to its longest prefix that
+/// can be read. It tells how many bytes that is of each ([`Extent`]).
 ///
-/// `Failed` exactly where the file failed earlier; `Full` exactly where no file of its version has room for what can be read: nothing is
-/// written then. `Memory`, and `Medium` where one of the two media fails. The file is as before.
+/// # Errors
+///
+/// - [`Error::Failed`]: exactly if the file failed earlier.
+/// - [`Error::Full`]: exactly if no file of its version has room for what can be read. Nothing is written then.
+/// - `Memory`: out of memory.
+/// - `Medium`: one of the two media failed.
+///
+/// The file itself does not change.
 pub fn salvage_volume<F: ReadMedium, W: Medium, A: Heap + Clone>(
     source: &mut Volume<F, A>,
     dest: W,

@@ -1,10 +1,12 @@
-//! Tests of copies of files in memory: what a copy tells, which files are not copied, and copies of which a call or a request goes wrong.
+//! Tests of copies of files in memory, and of what is extracted to folders: what a copy tells, which files are not copied, and copies of which a call or a request goes wrong.
 #![tactic(auto)]
 
 #[cfg(test)]
 mod copying;
 #[cfg(test)]
 mod cut;
+#[cfg(test)]
+mod extracting;
 #[cfg(test)]
 mod faults;
 #[cfg(test)]

@@ -4,5 +4,3 @@
 pub mod calendar;
 pub mod laws;
 pub mod moment;
-#[cfg(test)]
-mod tests;

@@ -2,7 +2,11 @@
 #![tactic(auto)]
 
 #[cfg(test)]
+mod changes;
+#[cfg(test)]
 mod tests;
+#[cfg(test)]
+mod tutorial;
 
 use cfb::{CompoundFile, Error, MemoryMedium};
 use std::alloc::Global;

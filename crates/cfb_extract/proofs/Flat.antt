@@ -2,23 +2,21 @@
 use Rattle.std.proofs.Common.{◌≡◌, ℕ, zero, suc, ◌+◌, ◌<◌, ◌≤◌, List, [], ◌∷◌, ◌++◌, length, refl, sym, ◌∙◌, ap, subst, take, drop, arith, append_assoc, append-nil, get_or}
 use Rattle.std.specs.Prelude.{if◌then◌else◌}
 use Rattle.std.proofs.lemmas.List.{length-append}
-use Rattle.std.proofs.lemmas.List.Elements.{All-append, All-cons}
 use Rattle.std.proofs.Math.Seq.{drop-cons, take-append_seam}
 use Rattle.cfb_format.specs.declared.objtype.ObjType.{ObjType}
 use Rattle.cfb_format.specs.declared.objtype.ObjType.TheVariants.{Storage, Stream}
 use Rattle.cfb_format.specs.Names.{Cases}
 use Rattle.cfb_format.specs.DirectoryEntry.{Entry}
 use Rattle.cfb_format.specs.Meaning.{objects_from, storage_info, stream_info}
-use Rattle.cfb_format.specs.Reading.{Outline, no_more, storage_at, stream_at, HasContents}
+use Rattle.cfb_format.specs.Reading.{Outline, no_more, storage_at, stream_at, siblings, HasContents}
 use Rattle.cfb_format.specs.Siblings.{entry_at}
 use Rattle.cfb_format.specs.Tree.{Objects}
 use Rattle.cfb_outline.specs.Families.{is_stream_kind}
-use Rattle.cfb_outline.proofs.Insides.{no-storage, no-stream, present}
-use Rattle.cfb_extract.specs.declared.walk.Walked.{Walked}
+use Rattle.cfb_walks.specs.declared.walk.Walked.{Walked}
+use Rattle.cfb_walks.specs.Walks.{lies_at, walked_from}
 use Rattle.cfb_extract.specs.Items.{Item, a_file, a_folder}
-use Rattle.cfb_extract.specs.Walks.{lies_at, walked_from}
 use Rattle.cfb_extract.specs.Extracted.{CutInfo, cuts_at, cuts_of, items_of, place_of}
-use Rattle.cfb_extract.specs.Steps.{AreWithin, cuts_along, cuts_by, item_at, items_along, names_next}
+use Rattle.cfb_extract.specs.Steps.{cuts_along, cuts_by, item_at, items_along, names_next}
 
 -- fewer of the first
 take-within : {X : Type 0} (n m : ℕ) (xs : List X) → n ≤ m → take n (take m xs) ≡ take n xs
@@ -61,7 +59,7 @@ module _ (es : List Entry) (content : Entry → List ℕ) where
   flat cases no_more d above names more has len deep = record { after = names; deep = deep; items = refl; cuts = refl }
   flat cases (stream_at i rest) d above names more has len deep =
       let own : List (List ℕ) = above ++ (entry_at es i).name ∷ [] in
-      let next : names_next es content names (lies_at d i) ≡ own = ap (λ (xs : List (List ℕ)). xs ++ (entry_at es i).name ∷ []) deep in
+      let next : names_next es content names (lies_at d i (siblings rest)) ≡ own = ap (λ (xs : List (List ℕ)). xs ++ (entry_at es i).name ∷ []) deep in
       let f = flat cases rest d above own more has.1 len (below d above (entry_at es i).name len) in
       record {
         after = f.after;
@@ -76,7 +74,7 @@ module _ (es : List Entry) (content : Entry → List ℕ) where
       }
   flat cases (storage_at i inside rest) d above names more has len deep =
       let own : List (List ℕ) = above ++ (entry_at es i).name ∷ [] in
-      let next : names_next es content names (lies_at d i) ≡ own = ap (λ (xs : List (List ℕ)). xs ++ (entry_at es i).name ∷ []) deep in
+      let next : names_next es content names (lies_at d i (siblings rest)) ≡ own = ap (λ (xs : List (List ℕ)). xs ++ (entry_at es i).name ∷ []) deep in
       let longer : length own ≡ d + 1 = omega (arith, len, length-append above ((entry_at es i).name ∷ [])) in
       let all : take (d + 1) own ≡ own = ap (λ (n : ℕ). take n own) (sym longer) ∙ ap (take (length own)) (sym (append-nil own)) ∙ take-append_seam own [] in
       let f = flat cases inside (d + 1) own own (walked_from d rest ++ more) has.2 longer all in
@@ -128,13 +126,3 @@ module _ (es : List Entry) (content : Entry → List ℕ) where
       ∙ append_assoc old (cuts_by es content w.entry next) (cuts_along es content next rest)
       ∙ ap (λ (ns : List (List ℕ)). old ++ (cuts_by es content w.entry ns ++ cuts_along es content ns rest)) named
       ∙ ap (λ (ws : List Walked). old ++ cuts_along es content names ws) (sym is) ∙ before
-
--- each object of a walk has an entry
-pub walked-within : (cases : Cases) (es : List Entry) (o : Outline) (depth : ℕ) → HasContents cases es o → AreWithin es (walked_from depth o)
-walked-within cases es no_more depth has = λ k d less. absurd (omega (arith, less))
-walked-within cases es (storage_at i inside rest) depth has =
-    All-cons (λ (w : Walked). w.entry < length es) (lies_at depth i) (walked_from (depth + 1) inside ++ walked_from depth rest) (present es i Storage no-storage has.0)
-    (All-append (λ (w : Walked). w.entry < length es) (walked_from (depth + 1) inside) (walked_from depth rest) (walked-within cases es inside (depth + 1) has.2)
-    (walked-within cases es rest depth has.3))
-walked-within cases es (stream_at i rest) depth has =
-    All-cons (λ (w : Walked). w.entry < length es) (lies_at depth i) (walked_from depth rest) (present es i Stream no-stream has.0) (walked-within cases es rest depth has.1)

@@ -1,8 +1,6 @@
 pub use Rattle.cfb_compound_file.proofs.cfb_objects
 pub use Rattle.cfb_compound_file.proofs.cfb_agreement
 pub use Rattle.cfb_compound_file.proofs.cfb_path_changes
-mod Levels
-mod Walking
 mod Longer
 mod Flat
 mod Named

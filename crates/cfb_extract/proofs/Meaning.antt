@@ -24,13 +24,14 @@ use Rattle.cfb_extract.specs.cfb_path_changes.Finding.{IsObjectOf}
 use Rattle.cfb_extract.specs.cfb_entries.EntryList.{AreInOrder}
 use Rattle.cfb_compound_file.specs.Numbers.{IsNumberAt}
 use Rattle.cfb_compound_file.proofs.Asked.{RootIsNamed, tree_in}
-use Rattle.cfb_extract.specs.declared.walk.Walked.{Walked}
-use Rattle.cfb_extract.specs.Walks.{walked_from}
+use Rattle.cfb_walks.specs.declared.walk.Walked.{Walked}
+use Rattle.cfb_walks.specs.Walks.{AreWithin, walked_from}
+use Rattle.cfb_walks.proofs.Within.{walked-within}
 use Rattle.cfb_extract.specs.Items.{Item, a_file}
 use Rattle.cfb_extract.specs.Extracted.{CutInfo, cuts_at, cuts_of, cuts_of_object, items_of, items_of_object, place_of}
-use Rattle.cfb_extract.specs.Steps.{AreWithin, cuts_along, cuts_by, item_at, items_along}
+use Rattle.cfb_extract.specs.Steps.{cuts_along, cuts_by, item_at, items_along}
 use Rattle.cfb_extract.specs.Answered.{IsExtracted, TellsCuts}
-use Rattle.cfb_extract.proofs.Flat.{cut-at, file-at, flat-cuts, flat-items, walked-within}
+use Rattle.cfb_extract.proofs.Flat.{cut-at, file-at, flat-cuts, flat-items}
 
 -- each object of the walk has an entry
 pub list-within : (file : FileState) (k : ℕ) → IsObjectOf file k → (entry_at (entries_of file.base) k).obj_type ≢ Stream → AreInOrder (cases_of file.base) (entries_of file.base) → (list : List Walked)

@@ -5,7 +5,6 @@ pub use Rattle.cfb_compound_file.specs.cfb_objects
 pub use Rattle.cfb_compound_file.specs.cfb_agreement
 pub use Rattle.cfb_compound_file.specs.cfb_path_changes
 pub mod Items
-pub mod Walks
 pub mod Memory
 pub mod Pieces
 pub mod Breaks

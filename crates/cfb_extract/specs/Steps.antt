@@ -1,16 +1,12 @@
 -- What is made of the objects of a walk, one after the other.
-use Rattle.std.specs.Prelude.{ℕ, ◌≡◌, ◌<◌, ◌==◌, List, [], ◌∷◌, ◌++◌, All, length, take, if◌then◌else◌}
+use Rattle.std.specs.Prelude.{ℕ, List, [], ◌∷◌, ◌++◌, take, if◌then◌else◌}
 use Rattle.cfb_format.specs.DirectoryEntry.{Entry}
 use Rattle.cfb_format.specs.Meaning.{stream_info}
 use Rattle.cfb_format.specs.Siblings.{entry_at}
 use Rattle.cfb_outline.specs.Families.{is_stream_kind}
-use Rattle.cfb_extract.specs.declared.walk.Walked.{Walked}
+use Rattle.cfb_walks.specs.declared.walk.Walked.{Walked}
 use Rattle.cfb_extract.specs.Items.{Item, a_file, a_folder}
 use Rattle.cfb_extract.specs.Extracted.{CutInfo, cuts_at, place_of}
-
--- each object of the list has an entry
-abbrev pub AreWithin : List Entry → List Walked → Type 0
-AreWithin es list = All (λ (w : Walked). w.entry < length es) list
 
 module _ (es : List Entry) (content : Entry → List ℕ) where
   -- the folder or the file of the entry, at these names

@@ -14,12 +14,12 @@ use crate::error::ExtractError;
 use crate::folder::Folder;
 use crate::objects::{put_all, put_alone};
 use crate::source::Source;
-use crate::walk::walk_inside;
 use cfb_codecs::direntry::DirEntry;
 use cfb_compound_file::compound_file::CompoundFile;
 use cfb_format::error::Error;
 use cfb_format::medium::ReadMedium;
 use cfb_format::objtype::ObjType;
+use cfb_walks::walk::walk_inside;
 use std::alloc::{AllocError, Allocator as Heap};
 
 /// Whether the entry of this number is that of a stream.

@@ -10,6 +10,3 @@ mod naming;
 mod objects;
 pub mod source;
 pub mod system;
-#[cfg(test)]
-mod tests;
-pub mod walk;

@@ -5,16 +5,17 @@ ghost use Rattle.cfb_extract.specs.Breaks.{IsBrokenOff};
 ghost use Rattle.cfb_extract.specs.Cuts.{told_cuts};
 ghost use Rattle.cfb_extract.specs.Items.{IsKept, IsLonger, IsLongerSo, texts};
 ghost use Rattle.cfb_extract.specs.Sources.{StaysSource};
-ghost use Rattle.cfb_extract.specs.Steps.{AreWithin, cuts_along, cuts_by, item_at, items_along};
+ghost use Rattle.cfb_walks.specs.Walks.{AreWithin};
+ghost use Rattle.cfb_extract.specs.Steps.{cuts_along, cuts_by, item_at, items_along};
 
 use crate::cut::Cut;
 use crate::error::ExtractError;
 use crate::folder::Folder;
 use crate::naming::{place_of, slashed};
 use crate::source::Source;
-use crate::walk::Walked;
 use cfb_format::error::Error;
 use cfb_format::medium::MediumFault;
+use cfb_walks::walk::Walked;
 use std::alloc::Allocator as Heap;
 
 /// How many bytes are read at once.

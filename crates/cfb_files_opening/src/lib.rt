@@ -1,5 +1,5 @@
-//! Compound files in files of the system, opened and made by their paths. What such a file holds is
-//! known to nobody, so no call here promises what its bytes mean.
+//! Compound files in files of the system, opened and made by their paths. What such a file holds is known to nobody, so no call here
+//! promises what its bytes mean. [`OpenOptions`] has the same calls with options; [`CompoundFile::open`] takes any other medium.
 #![tactic(auto)]
 
 ghost use Rattle.std.specs.Prelude.{IfErr, IfOk, ◌≡◌, false};
@@ -25,11 +25,21 @@ use std::fs::File;
 use std::random::RandomSource;
 use std::rt::Files;
 
-/// Opens the compound file at this path of the system, to be read. The file is not locked, so that another may change it.
+/// Opens the compound file at this path of the system for reading. It is not locked: another program may change it meanwhile. For changes
+/// use [`open_rw`] or [`open_journaled`]; for options [`OpenOptions::open`].
+///
+/// ```rust
+/// /// Reads the body of a mail message on disk, which is text in UTF-16.
+/// pub fn mail_body(rt: &HostRuntime, path: &str) -> Result<Vec<u8>, Error> {
+///     let mut mail = cfb::open(rt, rt.alloc(), path)?;
+///     cfb::read_stream(rt.alloc(), &mut mail, "/__substg1.0_1000001F")
+/// }
+/// ```
 ///
 /// # Errors
 ///
-/// `Medium(Open)` where the file is not opened; else as `CompoundFile::open`.
+/// - [`Error::Medium`] with [`MediumFault::Open`]: the file cannot be opened.
+/// - Otherwise as [`CompoundFile::open`].
 pub fn open<R: Files<File = File> + RandomSource, A: Heap + Clone>(
     rt: &R,
     alloc: A,
@@ -43,12 +53,15 @@ pub fn open<R: Files<File = File> + RandomSource, A: Heap + Clone>(
     seeded_options(rt).open_with(alloc, medium)
 }
 
-/// Opens the compound file at this path of the system, to be read and changed in place. The file is locked as long as it is open
-/// (`cfb_files::locking`). A change that is interrupted can leave it damaged: `open_journaled` opens it so that none can.
+/// Opens the compound file at this path of the system for reading and for changes in place. The file is locked as long as it is open
+/// ([`locking`]). An I/O error, a full disk or a power cut during a change can damage the file; with [`open_journaled`] they cannot. If you
+/// only read, use [`open`]; for a new file [`create`]; for options [`OpenOptions::open_rw`].
 ///
 /// # Errors
 ///
-/// `Medium(Open)` where the file is not opened, and where another has it open to be changed; else as `CompoundFile::open`.
+/// - [`Error::Medium`] with [`MediumFault::Open`]: the file cannot be opened, or another program has locked it ([`locking::open`] returns
+///   `WouldBlock` then).
+/// - Otherwise as [`CompoundFile::open`].
 pub fn open_rw<R: Files<File = File> + RandomSource, A: Heap + Clone>(
     rt: &R,
     alloc: A,
@@ -62,13 +75,15 @@ pub fn open_rw<R: Files<File = File> + RandomSource, A: Heap + Clone>(
     seeded_options(rt).open_with(alloc, medium)
 }
 
-/// Makes a compound file of version 4 with nothing in it at this path of the system. An older file there is emptied first. The file is
-/// locked as long as it is open (`cfb_files::locking`).
+/// Creates an empty compound file of version 4 at this path of the system. A file that is there is emptied first;
+/// [`FileMedium::create_new`] with [`CompoundFile::create`] fails instead. The file is locked as long as it is open ([`locking`]).
+/// [`create_as`] takes the version, [`OpenOptions::create`] options.
 ///
 /// # Errors
 ///
-/// `Medium(Open)` where the file is not opened, and where another has it open to be changed: then the older file keeps its bytes. Else as
-/// `CompoundFile::create`.
+/// - [`Error::Medium`] with [`MediumFault::Open`]: the file cannot be opened, or another program has locked it. A file that is there keeps
+///   its bytes then.
+/// - Otherwise as [`CompoundFile::create`].
 pub fn create<R: Files<File = File> + RandomSource, A: Heap + Clone>(
     rt: &R,
     alloc: A,
@@ -83,11 +98,11 @@ pub fn create<R: Files<File = File> + RandomSource, A: Heap + Clone>(
     seeded_options(rt).create_with(alloc, medium)
 }
 
-/// Makes a compound file of this version with nothing in it at this path of the system, as `create` does one of version 4.
+/// Creates an empty compound file of this [`Version`] at this path of the system, as [`create`] does in version 4 (MS-CFB 2.2).
 ///
 /// # Errors
 ///
-/// As `create`.
+/// As [`create`].
 pub fn create_as<R: Files<File = File> + RandomSource, A: Heap + Clone>(
     rt: &R,
     alloc: A,
@@ -103,15 +118,20 @@ pub fn create_as<R: Files<File = File> + RandomSource, A: Heap + Clone>(
     seeded_options(rt).create_as(alloc, version, medium)
 }
 
-/// Opens the compound file at this path of the system, to be read and changed as a whole or not at all: what is changed between two calls of
-/// `flush` is in the file all or not, whatever the disk does. Letting the file go without `flush` takes back what was changed since the last
-/// one. A journal stands beside the file, at the same path with `-journal` behind it; what an interrupted change left there is ended or
-/// taken back first. A journal that is empty may be removed. The file is locked as long as it is open.
+/// Opens the compound file at this path of the system for reading and for changes as a whole: after a crash the file has all changes since
+/// the last [`CompoundFile::flush`], or none. `flush` is the commit. Dropping the file without it takes the changes back. [`open_rw`]
+/// writes in place, without a journal.
+///
+/// A journal stands beside the file, at the same path with `-journal` behind it; opening first ends or takes back what an interrupted
+/// change left there. An empty journal may be removed. The file is locked as long as it is open.
 ///
 /// # Errors
 ///
-/// `Medium(Open)` where the file is not opened, and where another has it open to be changed; `InvalidData` where the journal is none that an
-/// interrupted change leaves; else as `CompoundFile::open`.
+/// - [`Error::Medium`] with [`MediumFault::Open`]: the file cannot be opened, or another program has locked it.
+/// - [`Error::InvalidData`]: also if the journal is not one that an interrupted change leaves.
+/// - Otherwise as [`CompoundFile::open`].
+///
+/// After [`Error::Failed`] drop the file and open it again: it then has all changes since the last commit, or none.
 pub fn open_journaled<R: Files<File = File> + RandomSource>(
     rt: &R,
     alloc: Global,
@@ -148,8 +168,9 @@ fn journaled<R: Files<File = File>>(
     }
 }
 
-/// The options that nobody has changed, with a seed from the system that nobody knows, or 0 where the system gives none: names can't be
-/// chosen to make a file's indexes slow. The calls by path take these; they are there for files on other media.
+/// The default options ([`OpenOptions::new`]) with a random seed of the system ([`OpenOptions::seed`]), or 0 if it gives none: nobody can
+/// choose names that make a file's hash tables slow. The functions that open a path use these options. Use them if you open files from
+/// others on other media, by [`OpenOptions::open_with`].
 pub fn seeded_options<R: RandomSource, A: Heap>(rt: &R) -> OpenOptions<A>
     ensures { result ≡ permissive_options }
 {

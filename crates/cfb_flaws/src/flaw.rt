@@ -14,7 +14,7 @@ pub enum Break {
     Somewhere,
 }
 
-/// A reason why a file is not sound.
+/// A reason why a file is not consistent.
 #[derive(Clone, Copy, Debug, PartialEq, Eq, Drop)]
 pub enum Flaw {
     /// The FAT has this many words, and the file has more sectors.

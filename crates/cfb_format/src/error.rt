@@ -12,13 +12,12 @@ use std::io::ErrorKind;
 use std::{fmt, io};
 use thiserror::Error;
 
-/// What a refusal was about: a text, and up to two numbers that it tells, as of a sector or a
-/// length. It takes no memory.
+/// What an error is about: a text with up to two numbers, such as a sector or a length. It takes no
+/// memory. `Display` prints it.
 ///
 /// A text may have places for its numbers: `{}` prints one in decimal, `{x}` in hexadecimal as
-/// `0x1f`, `{bytes}` as the 8 bytes that hold it, lowest first, and `{two}` as the two numbers of
-/// 32 bits that it is made of, as `7 and 9`. The numbers of a text without places stand behind it,
-/// as `text (1, 2)`.
+/// `0x1f`, `{bytes}` as its 8 bytes, lowest first, and `{two}` as two numbers of 32 bits, as `7 and
+/// 9`. The numbers of a text without places stand behind it, as `text (1, 2)`.
 #[derive(Clone, Copy, Debug, PartialEq, Eq)]
 pub struct Detail {
     text: &'static str,
@@ -133,34 +132,34 @@ fn write_behind<W: fmt::Write>(f: &mut fmt::Formatter<W>, numbers: Numbers) -> f
     }
 }
 
-/// Why a call was refused.
+/// Why a call failed. `?` turns it into an `io::Error`.
 #[derive(Clone, Copy, Debug, PartialEq, Eq, Error)]
 pub enum Error {
     /// Nothing is at the path, or its parent storage is missing.
     #[error("{0}")]
     NotFound(Detail),
-    /// An object is there already.
+    /// A storage or a stream is at the path already.
     #[error("{0}")]
     AlreadyExists(Detail),
-    /// A path, a name, a kind, a letter pair, a place or a length is wrong.
+    /// An argument is wrong: a path, a name, a pair of letters, an offset or a length.
     #[error("{0}")]
     InvalidInput(Detail),
-    /// The bytes are not acceptable, or a stream is not readable there.
+    /// The bytes are not a valid compound file, or a stream cannot be read there.
     #[error("{0}")]
     InvalidData(Detail),
-    /// The medium failed during the call.
+    /// The medium failed, as by an I/O error.
     #[error("medium failed")]
     Medium(MediumFault),
-    /// A growth of memory was refused.
+    /// Out of memory.
     #[error("out of memory")]
     Memory,
-    /// No number is free, and too few are left.
+    /// The file is full: no sector ID is left, or the limit is reached.
     #[error("file is full")]
     Full,
-    /// A change of a file that was accepted but is not sound.
+    /// The file is inconsistent, and so only read.
     #[error("file is not sound")]
     Unsound,
-    /// An earlier change broke off.
+    /// An earlier change failed midway.
     #[error("file failed earlier")]
     Failed,
 }
@@ -192,7 +191,7 @@ impl From<MediumFault> for Error {
 /// The most bytes of text that an `io::Error` holds.
 const IO_TEXT_LEN: usize = 80;
 
-/// An error of std, of the kind that `std_kind` gives, with the text of the refusal.
+/// The error of std with the kind of `std_kind` and the same text.
 impl From<Error> for io::Error {
     ghost from_gives = { λ error told. error_kind told ≡ std_kind error };
 
@@ -203,7 +202,8 @@ impl From<Error> for io::Error {
 }
 
 impl Error {
-    /// The kind that an error has in std. None is `Interrupted`, after which std would try again.
+    /// The kind that the error has in std. It is never `Interrupted`, after which std would try
+    /// again.
     pub fn std_kind(&self) -> ErrorKind
         ensures { result ≡ std_kind self.now }
     {

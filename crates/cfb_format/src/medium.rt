@@ -3,26 +3,27 @@ ghost use Rattle.std.specs.Prelude.{◌≡◌, ◌≤◌, ℕ, Bool, List, lengt
 ghost use Rattle.cfb_format.specs.Medium.{FailsBy, ReadsAt, WritesAt, FailsToWriteAt};
 ghost use Rattle.cfb_format.specs.declared.medium.MediumFault.{MediumFault as Fault};
 
-/// How a medium failed.
+/// What a medium could not do.
 #[derive(Clone, Copy, Debug, PartialEq, Eq)]
 pub enum MediumFault {
-    /// It was not opened.
+    /// Open the file, or lock it.
     Open,
-    /// It did not tell its length.
+    /// Tell its length.
     Length,
-    /// It did not read.
+    /// Read.
     Read,
-    /// It did not write.
+    /// Write.
     Write,
-    /// It did not hand on what was written.
+    /// Flush.
     Flush,
-    /// It served no byte, though it was asked for one and one lies there.
+    /// Read a byte that is there: it returned none.
     Stuck,
-    /// It was refused memory.
+    /// Allocate memory.
     Memory,
 }
 
-/// Bytes that are read. Contracts speak of them only where the medium tells them.
+/// Bytes that can be read: what a compound file is stored in. If `tells` is true, the medium is
+/// specified: contracts know its bytes.
 pub trait ReadMedium: Drop {
     /// Whether the medium is honest and tells its bytes.
     ghost tells: { Bool };
@@ -54,7 +55,7 @@ pub trait ReadMedium: Drop {
             (FailsBy read_faults (failures self.old) (failures self.new)) };
 }
 
-/// Bytes that are read and written.
+/// Bytes that can be read and written.
 pub trait Medium: ReadMedium {
     /// The faults that it can give by writing.
     ghost write_faults: { Fault → Bool };

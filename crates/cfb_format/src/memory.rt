@@ -8,7 +8,7 @@ use std::alloc::{AllocError, Allocator, Global};
 use std::fmt;
 use std::marker::Model;
 
-/// Bytes in memory. It fails only where a growth of memory is refused, and then changes nothing.
+/// Bytes in memory that can grow. It fails only if memory is missing, and changes nothing then.
 #[derive(Drop)]
 pub struct MemoryMedium<A: Allocator = Global> {
     bytes: Vec<u8, A>,
@@ -24,7 +24,7 @@ impl<A: Allocator> Model for MemoryMedium<A> {
 }
 
 impl<A: Allocator> MemoryMedium<A> {
-    /// No bytes.
+    /// An empty medium.
     pub fn new(alloc: A) -> MemoryMedium<A>
         ensures { result ≡ record { bytes = []; failures = 0 } }
     {
@@ -34,21 +34,21 @@ impl<A: Allocator> MemoryMedium<A> {
         }
     }
 
-    /// These bytes.
+    /// A medium with these bytes.
     pub fn from_bytes(bytes: Vec<u8, A>) -> MemoryMedium<A>
         ensures { result ≡ record { bytes = bytes.items; failures = 0 } }
     {
         MemoryMedium { bytes, failures: 0 }
     }
 
-    /// The bytes as they stand.
+    /// The bytes.
     pub fn bytes(&self) -> &[u8]
         ensures { result.now ≡ self.now.bytes }
     {
         &self.bytes
     }
 
-    /// The bytes, with the memory that holds them.
+    /// Returns the bytes.
     pub fn into_bytes(self) -> Vec<u8, A>
         ensures { result.items ≡ self.bytes }
     {

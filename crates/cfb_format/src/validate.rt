@@ -1,12 +1,12 @@
 //! How much opening demands of a file.
 ghost use Rattle.std.specs.Prelude.{◌≡◌, ◌↔◌, IsTrue};
 
-/// How much opening demands of a file.
+/// How much opening checks.
 #[derive(Clone, Copy, Debug, PartialEq, Eq, PartialOrd, Ord, Hash)]
 pub enum Validation {
-    /// What does no harm is read as the value that it should have.
+    /// Deviations that do no harm are accepted, and read as the value that should be there.
     Permissive,
-    /// What is not as the format wants it is refused.
+    /// Every deviation is an error.
     Strict,
 }
 

@@ -9,7 +9,7 @@ use crate::error::{Detail, Error};
 use std::fmt;
 use std::str::FromStr;
 
-/// A version of the format, which fixes the length of its sectors.
+/// A version of the format. It sets the length of sectors (MS-CFB 2.2).
 #[derive(Clone, Copy, Debug, PartialEq, Eq, PartialOrd, Ord, Hash)]
 pub enum Version {
     /// Version 3, with sectors of 512 bytes.

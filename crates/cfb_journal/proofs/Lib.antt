@@ -13,3 +13,4 @@ pub mod Gates
 pub mod Applying
 pub mod FrameLists
 pub mod Beginning
+pub mod LaidFrames

@@ -99,4 +99,5 @@ SameJournal old new = new.journal ≡ old.journal
 pub record IsOpened (opened now : View) : Type 0 where
   pub seen : now.seen ≡ opened.seen
   pub moment : now.moment ≡ opened.moment
+  pub faults : now.faults ≡ opened.faults
   pub crash : (c : Image) → now.may_leave c → opened.may_leave c

@@ -1,7 +1,9 @@
 -- What holds of a journaled medium between its calls.
-use Rattle.std.specs.Prelude.{◌≡◌, ◌≢◌, ◌≤◌, ℕ, ◌+◌, List, [], ◌∷◌, length, take, Some, Vec}
+use Rattle.std.specs.Prelude.{◌≡◌, ◌≢◌, ◌⊎◌, ◌<◌, ◌≤◌, ℕ, ◌+◌, List, [], ◌∷◌, length, take, Some, Vec}
 use Rattle.std.specs.declared.alloc.Global.{Global}
 use Rattle.std.proofs.Props.{props}
+use Rattle.cfb_format.specs.declared.medium.MediumFault.{MediumFault}
+use Rattle.cfb_format.specs.declared.medium.MediumFault.TheVariants.{Memory as OutOfMemory}
 use Rattle.cfb_journal.specs.declared.medium.Phase.{Phase}
 use Rattle.cfb_journal.specs.declared.medium.Phase.TheVariants.{Quiet, Changing, Broken}
 use Rattle.cfb_journal.specs.Disk.{Image, View}
@@ -23,6 +25,7 @@ IsSound-prop phase base len v = hlevel props
 -- not have left at the opening, stands for that.
 pub record IsSince (opened : View) (base : ℕ) (v : View) : Type 0 where
   pub later : opened.moment ≤ v.moment
+  pub faults : opened.faults ≤ v.faults
   pub first : recovered opened.seen ≡ Some (take base v.seen.file)
   pub each : (c : Image) → v.left_since opened.moment c → (opened.may_leave c → ⊥) → Restores (take base v.seen.file) c
 
@@ -37,6 +40,10 @@ AreBlocks-prop base at (b ∷ rest) = hlevel (props, AreBlocks-prop base (at + 4
 abbrev pub logical : List (Vec ℕ Global) → List ℕ → List ℕ
 logical blocks file = applied (frames_from 0 (contents blocks)) file
 
+-- why a call failed: the disk failed meanwhile, or memory was refused
+abbrev pub HasCause : MediumFault → ℕ → View → Type 0
+HasCause fault faults now = (faults < now.faults) ⊎ (fault ≡ OutOfMemory)
+
 -- What a crash at any moment since the opening left, and could not have left then, stands for what the two files stood for as they were opened, or
 -- for these bytes.
 pub record IsAllOrNothing (opened : View) (after : List ℕ) (v : View) : Type 0 where
@@ -47,3 +54,7 @@ pub record IsAllOrNothing (opened : View) (after : List ℕ) (v : View) : Type 0
 pub record IsTakenBack (opened : View) (v : View) : Type 0 where
   pub each : (before : List ℕ) → recovered opened.seen ≡ Some before
       → (c : Image) → v.left_since opened.moment c → (opened.may_leave c → ⊥) → Restores before c
+
+-- why a commit failed: the disk has failed since it was opened; or memory was refused, and the change was let go
+abbrev pub IsNotCommitted : (opened : View) → MediumFault → View → Type 0
+IsNotCommitted opened fault v = (opened.faults < v.faults) ⊎ ((fault ≡ OutOfMemory) × IsTakenBack opened v)

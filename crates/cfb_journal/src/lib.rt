@@ -3,10 +3,9 @@
 
 pub mod disk;
 mod frames;
+pub mod looking;
 pub mod medium;
 mod overlay;
 pub mod recovery;
 mod stages;
-#[cfg(test)]
-mod tests;
 pub mod transaction;

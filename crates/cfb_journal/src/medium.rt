@@ -1,18 +1,19 @@
 //! A compound file of which the changes between two flushes are all or nothing.
-ghost use Rattle.std.specs.Prelude.{◌≡◌, ◌≢◌, ◌+◌, ◌*◌, ◌^◌, ◌≤◌, min, ℕ, List, length, take, IsTrue, true, false, None, Some, IfOk, IsErrOf, OnOk, OnErr, MatchResult};
+ghost use Rattle.std.specs.Prelude.{◌≡◌, ◌≢◌, ◌⊎◌, ◌+◌, ◌*◌, ◌^◌, ◌<◌, ◌≤◌, min, ℕ, List, length, take, IsTrue, true, false, None, Some, IfOk, IfErr, IsErrOf, OnOk, OnErr, MatchResult};
 ghost use Rattle.std.proofs.Props.{props};
 ghost use Rattle.cfb_format.specs.Medium.{Rises, ReadsAt, WritesAt, FailsToWriteAt, FailsBy};
-ghost use Rattle.cfb_journal.specs.Disk.{Image, IsOpened};
+ghost use Rattle.cfb_journal.specs.Disk.{CountsFault, Image, IsOpened};
 ghost use Rattle.cfb_journal.specs.Journal.{Restores, RestoresEither, recovered};
 ghost use Rattle.cfb_journal.specs.Overlay.{contents, AreBlocks};
-ghost use Rattle.cfb_journal.specs.Sound.{AreBlocks-prop, IsSince, IsSince-prop, IsSound, IsSound-prop, logical};
+ghost use Rattle.cfb_journal.specs.Recovery.{IsNotOpened};
+ghost use Rattle.cfb_journal.specs.Sound.{AreBlocks-prop, HasCause, IsSince, IsSince-prop, IsSound, IsSound-prop, IsNotCommitted, logical};
 ghost use Rattle.cfb_journal.specs.States.{IsChanging, IsQuiet, Looks, Meanwhile};
 ghost use Rattle.cfb_journal.specs.declared.medium.Phase.TheVariants.{Quiet, Changing, Broken};
 ghost use Rattle.cfb_journal.specs.declared.recovery.RecoveryError.TheVariants.{Damaged};
 
 use crate::disk::Disk;
 use crate::overlay::{body, overlay, serve};
-use crate::recovery::{RecoveryError, recover};
+use crate::recovery::{NotOpened, RecoveryError, recover};
 use crate::stages::{append, begin, commit};
 use cfb_format::medium::{Medium, MediumFault, ReadMedium};
 use std::alloc::Global;
@@ -52,6 +53,7 @@ pub struct JournaledMedium<D: Disk> {
     ghost fits: { AreBlocks base 0 (contents blocks.items) } by { AreBlocks-prop base 0 (contents blocks.items) },
     ghost sound: { IsTrue D.Disk.tells → IsSound phase base len (D.Disk.view disk) } by { Prim.hlevel (props, IsSound-prop) },
     ghost since: { IsTrue D.Disk.tells → is_first ≡ true → IsSince D.Disk.opened base (D.Disk.view disk) } by { Prim.hlevel (props, IsSince-prop) },
+    ghost caused: { IsTrue D.Disk.tells → is_first ≡ true → phase ≡ Broken → D.Disk.opened.faults < (D.Disk.view disk).faults },
 }
 
 impl<D: Disk> JournaledMedium<D> {
@@ -65,7 +67,10 @@ impl<D: Disk> JournaledMedium<D> {
             ≡ Some (logical m.blocks.items (D.view m.disk).seen.file)) }
         ensures damaged { IsTrue D.tells → IsErrOf result Damaged → recovered (D.view disk).seen ≡ None }
     {
-        recovered_medium(alloc, disk, false)
+        match recovered_medium(alloc, disk, false) {
+            Ok(medium) => Ok(medium),
+            Err(refused) => Err(refused.error),
+        }
     }
 
     /// The same of a disk that is as it was opened, so that all crashes since then are spoken of.
@@ -73,32 +78,14 @@ impl<D: Disk> JournaledMedium<D> {
     /// # Errors
     ///
     /// As `open`.
-    pub(crate) fn open_first(alloc: Global, disk: D) -> Result<JournaledMedium<D>, RecoveryError>
+    pub(crate) fn open_first(alloc: Global, disk: D) -> Result<JournaledMedium<D>, NotOpened<D>>
         requires opened { IsTrue D.tells → IsOpened D.opened (D.view disk) }
         ensures found { IsTrue D.tells → IfOk result (λ m. recovered (D.view disk).seen
             ≡ Some (logical m.blocks.items (D.view m.disk).seen.file)) }
         ensures first { IfOk result (λ m. m.is_first ≡ true) }
-        ensures damaged { IsTrue D.tells → IsErrOf result Damaged → recovered (D.view disk).seen ≡ None }
+        ensures not_opened { IsTrue D.tells → IfErr result (λ r. IsNotOpened r.error (D.view disk) (D.view r.disk)) }
     {
         recovered_medium(alloc, disk, true)
-    }
-
-    /// The file of this disk, of which it is known that its journal is empty.
-    #[cfg(test)]
-    pub(crate) fn assume_open(alloc: Global, disk: D, length: u64) -> JournaledMedium<D>
-        requires untold { IsTrue D.tells → ⊥ }
-        requires small { length ≤ 2 ^ 62 }
-    {
-        JournaledMedium {
-            disk,
-            alloc,
-            blocks: Vec::new(alloc),
-            base: length,
-            len: length,
-            phase: Phase::Quiet,
-            is_first: false,
-            failures: 0,
-        }
     }
 
     /// Whether calls are still passed on. A crash now leaves the file as of the last flush.
@@ -149,17 +136,21 @@ fn recovered_medium<D: Disk>(
     alloc: Global,
     disk: D,
     is_first: bool,
-) -> Result<JournaledMedium<D>, RecoveryError>
+) -> Result<JournaledMedium<D>, NotOpened<D>>
     requires opened { IsTrue D.tells → is_first ≡ true → IsOpened D.opened (D.view disk) }
     ensures found { IsTrue D.tells → IfOk result (λ m. recovered (D.view disk).seen
         ≡ Some (logical m.blocks.items (D.view m.disk).seen.file)) }
     ensures first { IfOk result (λ m. m.is_first ≡ is_first) }
-    ensures damaged { IsTrue D.tells → IsErrOf result Damaged → recovered (D.view disk).seen ≡ None }
+    ensures not_opened { IsTrue D.tells → IfErr result (λ r. IsNotOpened r.error (D.view disk) (D.view r.disk)) }
 {
     let mut disk = disk;
-    let length = recover(alloc, &mut disk)?;
+    let length = match recover(alloc, &mut disk) {
+        Ok(length) => length,
+        Err(error) => return Err(NotOpened { error, disk }),
+    };
     if length > MAX_LENGTH {
-        return Err(RecoveryError::Medium(MediumFault::Length));
+        let error = RecoveryError::Medium(MediumFault::Length);
+        return Err(NotOpened { error, disk });
     }
     Ok(JournaledMedium {
         disk,
@@ -193,6 +184,7 @@ fn ready<D: Disk>(disk: &mut D, phase: &mut Phase, base: u64) -> Result<(), Medi
     ensures file { IsTrue D.tells → (D.view disk.new).seen.file ≡ (D.view disk.old).seen.file }
     ensures any_moment { IsTrue D.tells → Meanwhile (D.view disk.old) (D.view disk.new)
         (Restores (take base (D.view disk.old).seen.file)) }
+    ensures cause { IsTrue D.tells → phase.old ≢ Broken → CountsFault result (D.view disk.old).faults (D.view disk.new).faults }
 {
     match *phase {
         Phase::Quiet => {
@@ -238,6 +230,8 @@ impl<D: Disk> ReadMedium for JournaledMedium<D> {
             (Restores (take self.old.base (D.view self.old.disk).seen.file)) }
         ensures kept { IsTrue D.tells → take self.new.base (D.view self.new.disk).seen.file ≡ take self.old.base (D.view self.old.disk).seen.file }
         ensures first { self.new.is_first ≡ self.old.is_first }
+        ensures cause { IsTrue D.tells → self.old.phase ≢ Broken → IfErr result (λ fault. HasCause fault (D.view self.old.disk).faults (D.view self.new.disk)) }
+        ensures since_opened { IsTrue D.tells → self.old.is_first ≡ true → IfErr result (λ fault. HasCause fault D.opened.faults (D.view self.new.disk)) }
     {
         if self.phase == Phase::Broken {
             return Err(fail(&mut self.failures, MediumFault::Read));
@@ -268,6 +262,10 @@ impl<D: Disk> Medium for JournaledMedium<D> {
         ensures kept { IsTrue D.tells → self.old.phase ≢ Broken
             → take self.new.base (D.view self.new.disk).seen.file ≡ take self.old.base (D.view self.old.disk).seen.file }
         ensures first { self.new.is_first ≡ self.old.is_first }
+        ensures cause { IsTrue D.tells → self.old.phase ≢ Broken → IfErr result (λ fault. HasCause fault (D.view self.old.disk).faults (D.view self.new.disk)
+            ⊎ (2 ^ 62 < at + length from.now)) }
+        ensures since_opened { IsTrue D.tells → self.old.is_first ≡ true → IfErr result (λ fault. HasCause fault D.opened.faults (D.view self.new.disk)
+            ⊎ (2 ^ 62 < at + length from.now)) }
     {
         if self.phase == Phase::Broken {
             return Err(fail(&mut self.failures, MediumFault::Write));
@@ -316,6 +314,7 @@ impl<D: Disk> Medium for JournaledMedium<D> {
             (logical self.old.blocks.items (D.view self.old.disk).seen.file) c }
         ensures committed { IsTrue D.tells → OnOk result ((D.view self.new.disk).seen.file ≡ (logical self.old.blocks.items (D.view self.old.disk).seen.file)) }
         ensures durable { IsTrue D.tells → OnOk result (IsQuiet (D.view self.new.disk)) }
+        ensures cause { IsTrue D.tells → self.old.is_first ≡ true → IfErr result (λ fault. IsNotCommitted D.opened fault (D.view self.new.disk)) }
     {
         if self.phase == Phase::Broken {
             return Err(fail(&mut self.failures, MediumFault::Flush));

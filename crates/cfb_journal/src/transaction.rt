@@ -1,14 +1,16 @@
 //! One change of a compound file: it is made whole, or not at all.
-ghost use Rattle.std.specs.Prelude.{◌≡◌, IsTrue, true, None, Some, IfOk, IsErrOf, OnOk};
+ghost use Rattle.std.specs.Prelude.{◌≡◌, ◌⊎◌, ◌+◌, ◌^◌, ◌<◌, IsTrue, true, None, Some, length, ◌≤◌, IfOk, IfErr, IsErrOf, MatchResult, OnOk};
+ghost use Rattle.cfb_format.specs.Medium.{FailsBy, FailsToWriteAt, ReadsAt, WritesAt};
 ghost use Rattle.cfb_journal.specs.Disk.{IsOpened};
 ghost use Rattle.cfb_journal.specs.Journal.{recovered};
-ghost use Rattle.cfb_journal.specs.Sound.{IsAllOrNothing, IsTakenBack, logical};
+ghost use Rattle.cfb_journal.specs.Recovery.{IsNotBegun};
+ghost use Rattle.cfb_journal.specs.Sound.{HasCause, IsAllOrNothing, IsNotCommitted, IsTakenBack, logical};
 ghost use Rattle.cfb_journal.specs.States.{IsQuiet};
 ghost use Rattle.cfb_journal.specs.declared.recovery.RecoveryError.TheVariants.{Damaged};
 
 use crate::disk::Disk;
 use crate::medium::JournaledMedium;
-use crate::recovery::RecoveryError;
+use crate::recovery::{NotOpened, RecoveryError};
 use cfb_format::medium::{Medium, MediumFault, ReadMedium};
 use std::alloc::Global;
 
@@ -32,8 +34,27 @@ impl<D: Disk> Transaction<D> {
             ≡ Some (logical t.medium.blocks.items (D.view t.medium.disk).seen.file)) }
         ensures damaged { IsTrue D.tells → IsErrOf result Damaged → recovered D.opened.seen ≡ None }
     {
-        let medium = JournaledMedium::open_first(alloc, disk)?;
-        Ok(Transaction { medium })
+        match Transaction::begin_on(alloc, disk) {
+            Ok(transaction) => Ok(transaction),
+            Err(refused) => Err(refused.error),
+        }
+    }
+
+    /// The same; where it is refused, the disk is given back.
+    ///
+    /// # Errors
+    ///
+    /// As `begin`.
+    pub fn begin_on(alloc: Global, disk: D) -> Result<Transaction<D>, NotOpened<D>>
+        requires opened { IsTrue D.tells → IsOpened D.opened (D.view disk) }
+        ensures found { IsTrue D.tells → IfOk result (λ t. recovered D.opened.seen
+            ≡ Some (logical t.medium.blocks.items (D.view t.medium.disk).seen.file)) }
+        ensures not_begun { IsTrue D.tells → IfErr result (λ r. IsNotBegun r.error D.opened (D.view r.disk)) }
+    {
+        match JournaledMedium::open_first(alloc, disk) {
+            Ok(medium) => Ok(Transaction { medium }),
+            Err(refused) => Err(refused),
+        }
     }
 
     /// Makes the change: after `Ok` the file has all of it, on the disk. After an error, and after a
@@ -42,13 +63,14 @@ impl<D: Disk> Transaction<D> {
     ///
     /// # Errors
     ///
-    /// Those of the disk, and `Memory`.
+    /// Those of the disk; `Memory`, which lets the change go as `roll_back` does.
     pub fn commit(self) -> (Result<(), MediumFault>, D)
         ensures committed { IsTrue D.tells → OnOk result.0 ((D.view result.1).seen.file
             ≡ logical self.medium.blocks.items (D.view self.medium.disk).seen.file) }
         ensures durable { IsTrue D.tells → OnOk result.0 (IsQuiet (D.view result.1)) }
         ensures all_or_nothing { IsTrue D.tells → IsAllOrNothing D.opened
             (logical self.medium.blocks.items (D.view self.medium.disk).seen.file) (D.view result.1) }
+        ensures cause { IsTrue D.tells → IfErr result.0 (λ fault. IsNotCommitted D.opened fault (D.view result.1)) }
     {
         let Transaction { medium } = self;
         let mut medium = medium;
@@ -80,7 +102,16 @@ impl<D: Disk> ReadMedium for Transaction<D> {
         self.medium.length()
     }
 
-    fn read_at(&mut self, at: u64, into: &mut [u8]) -> Result<usize, MediumFault> {
+    fn read_at(&mut self, at: u64, into: &mut [u8]) -> Result<usize, MediumFault>
+        ensures bound { IfOk result (λ n. n ≤ length into.new) }
+        ensures same { IsTrue D.tells → logical self.new.medium.blocks.items (D.view self.new.medium.disk).seen.file
+            ≡ logical self.old.medium.blocks.items (D.view self.old.medium.disk).seen.file }
+        ensures honest { IsTrue D.tells → MatchResult result (ReadsAt (λ _. true)
+            (logical self.old.medium.blocks.items (D.view self.old.medium.disk).seen.file)
+            self.old.medium.failures self.new.medium.failures at into.new)
+            (FailsBy (λ _. true) self.old.medium.failures self.new.medium.failures) }
+        ensures cause { IsTrue D.tells → IfErr result (λ fault. HasCause fault D.opened.faults (D.view self.new.medium.disk)) }
+    {
         self.medium.read_at(at, into)
     }
 }
@@ -88,7 +119,19 @@ impl<D: Disk> ReadMedium for Transaction<D> {
 impl<D: Disk> Medium for Transaction<D> {
     ghost write_faults = { λ _. true };
 
-    fn write_at(&mut self, at: u64, from: &[u8]) -> Result<usize, MediumFault> {
+    fn write_at(&mut self, at: u64, from: &[u8]) -> Result<usize, MediumFault>
+        ensures bound { IfOk result (λ n. n ≤ length from.now) }
+        ensures honest { IsTrue D.tells → MatchResult result (WritesAt (λ _. true)
+            (logical self.old.medium.blocks.items (D.view self.old.medium.disk).seen.file)
+            (logical self.new.medium.blocks.items (D.view self.new.medium.disk).seen.file)
+            self.old.medium.failures self.new.medium.failures at from.now)
+            (FailsToWriteAt (λ _. true)
+            (logical self.old.medium.blocks.items (D.view self.old.medium.disk).seen.file)
+            (logical self.new.medium.blocks.items (D.view self.new.medium.disk).seen.file)
+            self.old.medium.failures self.new.medium.failures at from.now) }
+        ensures cause { IsTrue D.tells → IfErr result (λ fault. HasCause fault D.opened.faults (D.view self.new.medium.disk)
+            ⊎ (2 ^ 62 < at + length from.now)) }
+    {
         self.medium.write_at(at, from)
     }
 

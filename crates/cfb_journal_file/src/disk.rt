@@ -10,7 +10,7 @@ use cfb_journal::recovery::recover;
 use std::alloc::Global;
 use std::fs::{File, OpenOptions};
 use std::io::ErrorKind;
-use std::os::unix::fs::FileExt;
+use std::os::unix::fs::{FileExt, MetadataExt};
 use std::rt::Files;
 use std::{fs, io};
 
@@ -24,6 +24,8 @@ pub struct FileDisk {
     folder: Option<File>,
     /// The gate of a commit was opened: what goes wrong then is made good, and not taken back.
     is_committed: bool,
+    /// Bytes are brought to the disk where that is asked for.
+    syncs: bool,
     failures: Failures,
 }
 
@@ -46,14 +48,19 @@ impl FileDisk {
     ///
     /// # Errors
     ///
-    /// The system's, as where no file is there; `WouldBlock` where another holds the lock.
+    /// The system's, as where no file is there; `WouldBlock` where another holds the lock, or has put another
+    /// file into this place meanwhile.
     pub fn open<R: Files<File = File>>(rt: &R, place: &Place) -> io::Result<FileDisk> {
         let file = locking::open(rt, place.file())?;
+        if !is_at(rt, &file, place.file())? {
+            return Err(io::Error::from(ErrorKind::WouldBlock));
+        }
         let mut disk = FileDisk {
             file,
             journal: None,
             folder: None,
             is_committed: false,
+            syncs: true,
             failures: Failures::new(),
         };
         if disk.file.metadata()?.is_file() {
@@ -63,6 +70,15 @@ impl FileDisk {
             disk.folder = Some(File::open(rt, place.folder())?);
         }
         Ok(disk)
+    }
+
+    /// The same, of which nothing is brought to the disk. What is written is written in the same order, so
+    /// that a change is still whole or none where the program dies or there is no room, but not where the power
+    /// fails.
+    pub fn without_sync(self) -> FileDisk {
+        let mut disk = self;
+        disk.syncs = false;
+        disk
     }
 
     /// Why the last of the failed calls failed, if there was one.
@@ -117,6 +133,9 @@ impl FileDisk {
         let Some(journal) = &self.journal else {
             return Ok(());
         };
+        if !self.syncs {
+            return Ok(());
+        }
         journal.sync_all()?;
         if let Some(folder) = &self.folder {
             if journal.metadata()?.len() > 0 {
@@ -156,6 +175,13 @@ impl FileDisk {
             }
         }
     }
+}
+
+/// Whether a file that was opened still is the one at this path: another may have been put there before it was
+/// locked.
+pub fn is_at<R: Files<File = File>>(rt: &R, file: &File, path: &str) -> io::Result<bool> {
+    let (opened, there) = (file.metadata()?, fs::metadata(rt, path)?);
+    Ok(opened.dev() == there.dev() && opened.ino() == there.ino())
 }
 
 impl Disk for FileDisk {
@@ -205,6 +231,9 @@ impl Disk for FileDisk {
     }
 
     fn sync_file(&mut self) -> Result<(), MediumFault> {
+        if !self.syncs {
+            return Ok(());
+        }
         let done = match self.file.sync_all() {
             // what the system says of a device that keeps nothing
             Err(error) if error.kind() == ErrorKind::InvalidInput => Ok(()),

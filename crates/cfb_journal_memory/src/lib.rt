@@ -1,6 +1,8 @@
 //! A disk in memory that keeps the whole contract of a disk, and a change that is made on it.
 #![tactic(auto)]
 
+#[cfg(test)]
+mod crashes;
 pub mod memory;
 mod past;
 #[cfg(test)]

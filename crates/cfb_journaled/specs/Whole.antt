@@ -1,7 +1,8 @@
 -- Commands on a file with a journal: what is on the disk afterwards, and what a crash may have left meanwhile.
-use Rattle.std.specs.Prelude.{◌≡◌, ◌⊎◌, List, ℕ, Result, MatchResult, ⊤}
+use Rattle.std.specs.Prelude.{◌≡◌, ◌⊎◌, ◌<◌, List, ℕ, Result, MatchResult, ⊤}
 use Rattle.cfb_format.specs.declared.error.Error.{Error}
-use Rattle.cfb_format.specs.declared.error.Error.TheVariants.{Failed}
+use Rattle.cfb_format.specs.declared.error.Error.TheVariants.{Failed, Medium, Memory}
+use Rattle.cfb_format.specs.declared.medium.MediumFault.{MediumFault}
 use Rattle.cfb_format.specs.declared.version.Version.{Version}
 use Rattle.cfb_format.specs.Names.{Cases}
 use Rattle.cfb_rules.specs.Lists.{Command, CommandReply}
@@ -23,14 +24,19 @@ pub record HasEnded (cases : Cases) (version : Version) (first : File) (commands
   pub on_disk : after.seen.file ≡ ends.bytes
   pub quiet : IsQuiet after
 
--- A command left the file failed, which some reply tells, and all is as it was
+-- The disk failed meanwhile, which `Medium` tells, or `Memory` if that is how it failed. All is made or it is as it was: opening it again shows which
+pub record IsLeftOpen (cases : Cases) (version : Version) (first : File) (commands : List Command) (replies : List CommandReply) (opened after : View) (e : Error) : Type 0 where
+  pub told : ((fault : MediumFault) × (e ≡ Medium fault)) ⊎ (e ≡ Memory)
+  pub faults : opened.faults < after.faults
+  pub ends : MayEndAs cases version first commands replies opened after
+
+-- A command left the file failed, which some reply tells, or the commit was refused memory; and all is as it was
 pub record WasTakenBack (cases : Cases) (version : Version) (first : File) (commands : List Command) (replies : List CommandReply) (opened after : View) (e : Error) : Type 0 where
-  pub error : e ≡ Failed
-  pub broke : BreaksOff cases version first commands replies
+  pub why : ((e ≡ Failed) × BreaksOff cases version first commands replies) ⊎ (e ≡ Memory)
   pub back : IsTakenBack opened after
 
--- Done, the disk has what the commands make. Refused, a crash leaves that or what was there; or the commands broke off, and it is what was there
+-- Done, the disk has what the commands make. Refused, the disk failed; or all was taken back
 abbrev pub EndsWhole : Cases → Version → File → List Command → List CommandReply → (opened : View) → Result ⊤ Error → (after : View) → Type 0
 EndsWhole cases version first commands replies opened result after = MatchResult result
     (λ _. HasEnded cases version first commands replies opened after)
-    (λ e. MayEndAs cases version first commands replies opened after ⊎ WasTakenBack cases version first commands replies opened after e)
+    (λ e. IsLeftOpen cases version first commands replies opened after e ⊎ WasTakenBack cases version first commands replies opened after e)

@@ -7,8 +7,8 @@ use std::alloc::{Allocator, Global};
 use std::fmt;
 use std::marker::PhantomData;
 
-/// An iterator over what is told of a file's objects. Its list was taken when it was made, so
-/// iterating takes no memory; the file is borrowed as long as it is there.
+/// An iterator over entries. Its list was made at once, so iterating takes no memory. It borrows
+/// the file.
 #[derive(Drop)]
 pub struct Entries<'a, F, A: Allocator = Global> {
     left: std::vec::IntoIter<Entry<A>, A>,

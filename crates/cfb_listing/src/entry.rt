@@ -18,7 +18,7 @@ use std::fmt;
 use std::marker::Model;
 use uuid::Uuid;
 
-/// What is told of one object, a storage or a stream, as it was when it was asked for.
+/// What a directory entry says of a storage or stream, as it was when you asked (MS-CFB 2.6.1).
 #[derive(Drop)]
 pub struct Entry<A: Allocator = Global> {
     /// The path, and then the name.
@@ -55,14 +55,14 @@ impl<A: Allocator> Model for Entry<A> {
 }
 
 impl<A: Allocator> Entry<A> {
-    /// The name as it is stored. The root's is `Root Entry`.
+    /// The name as it is stored; `Root Entry` for the root.
     pub fn name(&self) -> &str
         ensures { chars result.now ≡ self.now.name }
     {
         &self.text.as_str()[self.path_len..]
     }
 
-    /// The path that leads to the object. The root's is `/`.
+    /// The path; `/` for the root.
     pub fn path(&self) -> &str
         ensures { chars result.now ≡ self.now.path }
     {
@@ -84,29 +84,28 @@ impl<A: Allocator> Entry<A> {
         told
     }
 
-    /// Whether the object is a stream.
+    /// Whether it is a stream.
     pub fn is_stream(&self) -> bool
         ensures { result ≡ is_stream_kind self.now.obj_type }
     {
         self.obj_type == ObjType::Stream
     }
 
-    /// Whether the object is a storage, the root or one below it.
+    /// Whether it is a storage or the root.
     pub fn is_storage(&self) -> bool
         ensures { result ≡ (is_storage_kind self.now.obj_type || is_root_kind self.now.obj_type) }
     {
         self.obj_type == ObjType::Storage || self.obj_type == ObjType::Root
     }
 
-    /// Whether the object is the root.
+    /// Whether it is the root.
     pub fn is_root(&self) -> bool
         ensures { result ≡ is_root_kind self.now.obj_type }
     {
         self.obj_type == ObjType::Root
     }
 
-    /// The length in bytes: of a stream its own, of the root that of the mini stream (MS-CFB 2.6.3),
-    /// and of any other storage 0.
+    /// The length in bytes: of a stream its own, of the root that of the mini stream (MS-CFB 2.6.3), and of any other storage 0.
     pub fn len(&self) -> u64
         ensures { result ≡ self.now.len }
     {
@@ -120,28 +119,28 @@ impl<A: Allocator> Entry<A> {
         self.len == 0
     }
 
-    /// The class id of a storage, and nil for a stream.
+    /// The class ID of a storage; nil for a stream.
     pub fn clsid(&self) -> Uuid
         ensures { result ≡ self.now.clsid }
     {
         self.clsid
     }
 
-    /// The bits that a program may set as it likes.
+    /// The state bits: a number that the program chooses.
     pub fn state_bits(&self) -> u32
         ensures { result ≡ self.now.state_bits }
     {
         self.state_bits
     }
 
-    /// When a storage was made. A stream has no moments: it is told the zero one.
+    /// The creation time of a storage; `Timestamp::zero()` if it is not set, and for a stream.
     pub fn created(&self) -> Timestamp
         ensures { result ≡ self.now.created }
     {
         self.created
     }
 
-    /// When a storage was changed last. A stream has no moments: it is told the zero one.
+    /// The modification time of a storage; `Timestamp::zero()` if it is not set, and for a stream.
     pub fn modified(&self) -> Timestamp
         ensures { result ≡ self.now.modified }
     {

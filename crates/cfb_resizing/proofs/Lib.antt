@@ -29,3 +29,4 @@ pub mod CutShort
 pub mod PutBehind
 pub mod CanGrow
 pub mod SnugMinis
+pub mod RoomLeft

@@ -25,7 +25,7 @@ use Rattle.cfb_resizing.specs.cfb_chains.ChainPlaces.{place_along}
 use Rattle.cfb_resizing.specs.cfb_mini_table.MiniTable.{MiniGivesBack, TakesMini}
 use Rattle.cfb_resizing.specs.cfb_mini_sectors.State.{HoldsMini, MiniState, bytes_of, content_of, entries_of, mini_stream_of, parts_of, tables_in, version_of, IsChangeable}
 use Rattle.cfb_resizing.specs.cfb_mini_sectors.Steps.{IsInMiniStream, IsZeroMini, IsSnugMini}
-use Rattle.cfb_content.specs.Contents.{SizesChain, ErasesMinis, WipesMinis, len_of, mini_place_along, mini_sectors_owned, sector_of_mini, sectors_owned, AreAllUsed, LosesNone}
+use Rattle.cfb_content.specs.Contents.{SizesChain, ErasesMinis, IsTooLongFor, WipesMinis, len_of, mini_place_along, mini_sectors_owned, sector_of_mini, sectors_owned, AreAllUsed, LosesNone}
 use Rattle.cfb_content.specs.Laws.{StandsResized}
 use Rattle.cfb_content.specs.Uses.{ChangesContent, ChangesUse, Owns}
 use Rattle.cfb_content.specs.Changed.{FreesMini, StaysTidy, WasChanged}
@@ -86,9 +86,11 @@ pub all-resized : {T E : Type 0} (r : Result T E) (old new : MiniState) (i size 
     → ((v : Validation) → IsChangeable v old → OnOk r (ErasesMinis old new i))
     → ((v : Validation) → IsChangeable v old → len_of old i ≤ size → LeavesNoMinis old i size → NoneFree (tables_in old).fat → NoneFree (tables_in new).fat)
     → ((v : Validation) → IsChangeable v old → len_of old i ≤ size → LeavesNoMinis old i size → free_count old.minifat ≡ 0 → free_count new.minifat ≡ 0)
+    → ((v : Validation) → IsChangeable v old → len_of old i ≤ size → OnOk r ((more : ℕ) → size ≤ more → IsTooLongFor new i more → IsTooLongFor old i more))
     → OnOk r (ResizesContent old new i size)
-all-resized (Ok x) old new i size content wiped erased full minis = record { content = content; wiped = wiped; erased = erased; stays_full = full; minis_full = minis }
-all-resized (Err e) old new i size content wiped erased full minis = tt
+all-resized (Ok x) old new i size content wiped erased full minis room =
+    record { content = content; wiped = wiped; erased = erased; stays_full = full; minis_full = minis; leaves_room = room }
+all-resized (Err e) old new i size content wiped erased full minis room = tt
 
 module _ (v : Validation) (old mid new : MiniState) (i size start : ℕ) (was : WasNamed v old mid new i) (held : HoldsMini v new)
     (named : entry_at (entries_of new) i ≡ record (entry_at (entries_of mid) i) { start_sector = start; stream_len = size }) where
@@ -186,7 +188,7 @@ module _ (v : Validation) (old mid new : MiniState) (i size start : ℕ) (was : 
       there = lies.stands.there;
     }
 
-    owns-turned : Owns new i ys []
+    pub owns-turned : Owns new i ys []
     owns-turned = owns-large ys within
 
     large-stands : StandsResized old new i (place_along (version_of new) ys)
@@ -217,7 +219,7 @@ module _ (v : Validation) (old mid new : MiniState) (i size start : ℕ) (was : 
     mini-chain-is : 0 < size → IsChain mid.minifat start ns
     mini-chain-is some = lies.chain some
 
-    owns-small : Owns new i [] ns
+    pub owns-small : Owns new i [] ns
     owns-small = elim (cases_eq size 0) [
       | inl z ↦ subst (λ (l : List ℕ). Owns new i [] l) (sym (lies.none z).0) (empty-owns-nothing new i (len-is ∙ z))
       | inr ne ↦ small-owns-its-chain new i ns small (omega (arith, len-is, ne))

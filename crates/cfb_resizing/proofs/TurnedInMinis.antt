@@ -215,6 +215,7 @@ module _ (v : Validation) (old new : MiniState) (i size lacking : ℕ) (list lis
       | inr few ↦ (let same = none (omega (arith, few)) in inr (same.0 ∙ sym grown-owned, same.1, same.2))
     ];
     listed = subst (λ (l : List ℕ). list' ≡ l ++ gained l list') (sym grown-owned) listed;
+    counted = subst (λ (l : List ℕ). length (gained l list') ≡ lacking) (sym grown-owned) count;
     lies = mini-grown-lies;
   })))
 

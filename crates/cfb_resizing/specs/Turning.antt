@@ -23,7 +23,7 @@ use Rattle.cfb_resizing.specs.cfb_mini_sectors.State.{HoldsMini, IsChangeable, M
 use Rattle.cfb_resizing.specs.cfb_mini_sectors.Steps.{AreStartsUnnamed, GrowsFor, IsInMiniStream, IsSnugMini, IsZeroMini, KeepsLimits, KeepsMini, KeepsSystem, MovesRoot, SettlesRoom, system_sectors}
 use Rattle.cfb_resizing.specs.cfb_mini.MiniSectors.{IsStill}
 use Rattle.cfb_content.specs.Changed.{StaysTidy}
-use Rattle.cfb_content.specs.Contents.{ErasesMinis, WipesMinis, len_of, mini_place_along, mini_sectors_owned, sector_of_mini, sectors_owned}
+use Rattle.cfb_content.specs.Contents.{ErasesMinis, IsTooLongFor, WipesMinis, len_of, mini_place_along, mini_sectors_owned, sector_of_mini, sectors_owned}
 
 -- ---- bytes and zeros
 
@@ -101,6 +101,7 @@ pub record TurnsByMiniGrowth (old new : MiniState) (i size start : ℕ) : Type 0
   pub grown : (GrowsFor count old new × TakesMini old.max_mini_sectors old.minifat new.minifat (ends_of (mini_sectors_owned old i)) (gained (mini_sectors_owned old i) ns))
       ⊎ ((ns ≡ mini_sectors_owned old i) × KeepsSystem old new × KeepsMini old new)
   pub listed : ns ≡ mini_sectors_owned old i ++ gained (mini_sectors_owned old i) ns
+  pub counted : length (gained (mini_sectors_owned old i) ns) ≡ count
   pub lies : LiesTurnedInMinis old new i size start ns
 
 -- or was cut, or freed, and the MiniFAT and the mini stream gave back what they did not need
@@ -199,7 +200,8 @@ pub record TrimsChain (old new : MiniState) (i size start : ℕ) : Type 0 where
 -- ---- the content, once the entry says what became of it
 
 -- it is what it was, cut or padded with zeros to `size`; each mini sector that it gave back reads as zeros, and is zeros where it stood; and where
--- the stream got no shorter and left no mini sectors, no sector came free, nor a mini sector
+-- the stream got no shorter and left no mini sectors, no sector came free, nor a mini sector. Where it got no shorter, a longer length that is too
+-- long now was so before
 pub record ResizesContent (old new : MiniState) (i size : ℕ) : Type 0 where
   pub content : (v : Validation) → IsChangeable v old
       → content_of new (entry_at (entries_of new) i) ≡ resized (content_of old (entry_at (entries_of old) i)) size
@@ -209,6 +211,7 @@ pub record ResizesContent (old new : MiniState) (i size : ℕ) : Type 0 where
       → NoneFree (tables_in old).fat → NoneFree (tables_in new).fat
   pub minis_full : (v : Validation) → IsChangeable v old → len_of old i ≤ size → LeavesNoMinis old i size
       → free_count old.minifat ≡ 0 → free_count new.minifat ≡ 0
+  pub leaves_room : (v : Validation) → IsChangeable v old → len_of old i ≤ size → (more : ℕ) → size ≤ more → IsTooLongFor new i more → IsTooLongFor old i more
 
 -- at these places stand the bytes of the stream as it was, and these behind them
 pub record StandBehind (old : MiniState) (i : ℕ) (from bytes : List ℕ) (place : ℕ → ℕ) : Type 0 where

@@ -1,2 +1,5 @@
 pub mod RowTexts
 pub mod Fields
+pub mod TreeLines
+pub mod TreeShown
+pub mod TreeWalks

@@ -1,2 +1,3 @@
 pub use Rattle.cfb_listing.specs.cfb_outline
 pub mod Rows
+pub mod Trees

@@ -1,4 +1,4 @@
-//! Moments as text.
+//! Timestamps as text.
 ghost use Rattle.std.specs.Prelude.{◌≡◌, IfOk, string_bytes};
 ghost use Rattle.cfb_dates.specs.Moments.{moment_text};
 
@@ -6,9 +6,14 @@ use crate::rows::moment_of;
 use cfb_codecs::timestamp::Timestamp;
 use std::alloc::{AllocError, Allocator as Heap};
 
-/// A moment as text, by ISO 8601 and in UTC: `2008-01-04T09:15:12.578Z`, with up to seven decimals and no zeros behind them. The zero moment,
-/// which stands where none is known, is `-`, and one past the year 9999 is `@` and its number. No two moments have the same text
-/// (`cfb_dates::laws::texts_of_moments_are_apart`).
+/// The time as text by ISO 8601, in UTC: `2008-01-04T09:15:12.578Z`, with up to seven decimals and no zeros at the end. A time that is not
+/// set ([`Timestamp::zero`]) is `-`, and one past the year 9999 is `@` and its number. No two times have the same text
+/// (`cfb_dates::laws::texts_of_moments_are_apart`). [`Timestamp::to_unix`] gives numbers; [`Entry::created`] and [`Entry::modified`] have
+/// timestamps.
+///
+/// # Errors
+///
+/// `AllocError`: out of memory.
 pub fn to_iso<A: Heap>(alloc: A, moment: Timestamp) -> Result<String<A>, AllocError>
     ensures { IfOk result (λ text. string_bytes text ≡ moment_text moment) }
 {

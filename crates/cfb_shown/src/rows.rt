@@ -13,12 +13,12 @@ use std::alloc::Allocator as Heap;
 use std::fmt;
 use uuid::Uuid;
 
-/// A row for each of these objects: `d` or `f`, the length, the class id, the state bits, when the
-/// object was made and changed, and its path as it is shown, with tabs between.
+/// Internal. A row for each [`Entry`]: `d` or `f`, the length in bytes, the class ID, the state bits, the creation time and the
+/// modification time as [`to_iso`] writes them, and its path as it is shown, with tabs between.
 ///
 /// # Errors
 ///
-/// `Memory`, and no other one.
+/// Only `Memory`.
 pub fn rows_of<A: Heap + Clone>(alloc: &A, told: &[Entry<A>]) -> Result<String<A>, Error>
     ensures lines { IfOk result (λ text. string_bytes text ≡ flat_map row_text told.now) }
     ensures kind { IfErr result IsMemory }

@@ -28,12 +28,12 @@ const COLUMNS: [Column; 6] = [
     Column::Modified,
 ];
 
-/// The fields of `rows_of`, padded with blanks. A column is left out in which no row says anything:
-/// `-`, or no state bits. What is printed is tested, and not proved.
+/// Internal. The fields of `rows_of`, padded with blanks. A column is left out in which no row says anything: `-`, or no state bits. What
+/// is printed is tested, and not proved.
 ///
 /// # Errors
 ///
-/// `Memory`, and no other one.
+/// Only `Memory`.
 pub fn table_of<A: Heap + Clone>(alloc: &A, told: &[Entry<A>]) -> Result<String<A>, Error>
     ensures kind { IfErr result IsMemory }
 {

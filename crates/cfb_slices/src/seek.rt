@@ -8,8 +8,8 @@ use cfb_format::medium::{Medium, MediumFault, ReadMedium};
 use std::io;
 use std::io::{ErrorKind, Read, Seek, SeekFrom, Write};
 
-/// Anything that is read and sought, and written too if it can be, as a file that was opened elsewhere or a `Cursor`. Each call moves its
-/// position. A call that a signal interrupts is made again.
+/// A medium over anything with `Read` and `Seek`, and with `Write` if it can be written, such as a file that was opened elsewhere or a
+/// `Cursor`. Each call moves its position. A call that a signal interrupts is repeated.
 #[derive(Debug, Drop)]
 pub struct SeekMedium<T> {
     inner: T,
@@ -17,7 +17,7 @@ pub struct SeekMedium<T> {
 }
 
 impl<T: Seek> SeekMedium<T> {
-    /// Over this reader. Place 0 is where `SeekFrom::Start(0)` leads.
+    /// A medium over this reader. Offset 0 is where `SeekFrom::Start(0)` leads.
     pub fn new(inner: T) -> SeekMedium<T>
         ensures inner { result.inner ≡ inner }
         ensures failures { result.failures ≡ no_failure }
@@ -28,7 +28,7 @@ impl<T: Seek> SeekMedium<T> {
         }
     }
 
-    /// What it lies over, at whatever position the last call left it.
+    /// Returns the reader, at the position that the last call left.
     pub fn into_inner(self) -> T
         ensures { result ≡ self.inner }
     {
@@ -36,7 +36,7 @@ impl<T: Seek> SeekMedium<T> {
         inner
     }
 
-    /// Why the last of the failed calls failed, if there was one. Calls that were done do not change it.
+    /// The reason of the last call that failed, if one did. Later calls that succeed do not change it.
     pub fn last_error(&self) -> Option<io::Error>
         ensures { result ≡ self.now.failures.last_error }
     {

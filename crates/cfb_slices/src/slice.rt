@@ -4,7 +4,15 @@ ghost use Rattle.std.specs.Prelude.{◌≡◌, true, false};
 use cfb_format::medium::{MediumFault, ReadMedium};
 use std::marker::Model;
 
-/// Bytes that are lent: a compound file in memory is read without a copy of it. It never fails: it has no fault to give.
+/// Bytes that you have: a compound file in memory is read without a copy of it. It never fails.
+///
+/// ```rust
+/// /// The stream of such a file, which is read where it stands.
+/// pub fn unpacked(alloc: Global, file: &[u8]) -> Result<Vec<u8>, Error> {
+///     let mut file = CompoundFile::open(alloc, SliceMedium::new(file))?;
+///     cfb::read_stream(alloc, &mut file, "/data")
+/// }
+/// ```
 #[derive(Debug, Drop)]
 pub struct SliceMedium<'a> {
     lent: &'a [u8],
@@ -19,7 +27,7 @@ impl<'a> Model for SliceMedium<'a> {
 }
 
 impl<'a> SliceMedium<'a> {
-    /// These bytes.
+    /// A medium over these bytes.
     pub fn new(bytes: &'a [u8]) -> SliceMedium<'a>
         ensures { result ≡ record { bytes = bytes.now; failures = 0 } }
     {

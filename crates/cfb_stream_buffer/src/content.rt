@@ -144,6 +144,9 @@ pub trait Contents: ReadContents {
             → (first : Self) → tight first self.old → tight first self.new }
         ensures same_len { at + length bytes.now ≤ (Self.stored self.old id).size
             → OnOk result ((Self.stored self.new id).size ≡ (Self.stored self.old id).size) }
+        ensures takes_none { Self.tells self.old
+            → at + length bytes.now ≤ (Self.stored self.old id).size → OnOk result
+            ((len : ℕ) → is_too_long self.new id len → is_too_long self.old id len) }
         ensures counts { Self.tells self.old
             → CountsFailure (λ f. Self.read_faults f || write_faults f) result
             (Self.failures self.old) (Self.failures self.new) }
@@ -208,7 +211,8 @@ pub trait Contents: ReadContents {
         ensures refused { Self.tells self.now → IfErr result IsMemory };
 
     /// Cuts it to a length, or pads it with zeros. Where it is refused nothing has changed, or the file has
-    /// failed: `Medium`, `Memory`, and `Full` where the length needs more numbers than are left.
+    /// failed: `Medium`, `Memory`, and `Full` where the length needs more numbers than are left. A longer length
+    /// takes no more of them than a still longer one needs anyway, so that one which could be had still can.
     fn resize(&mut self, id: u32, len: u64) -> Result<(), Error>
         requires there { Self.has self.old id }
         ensures there { Self.has self.new id }
@@ -232,7 +236,10 @@ pub trait Contents: ReadContents {
         ensures stays { Self.tells self.old → (Self.stored self.new id).failed ≡ false
             → OnErr result (Self.kept self.new ≡ Self.kept self.old) }
         ensures foreseen { Self.tells self.old → TakesLen (Self.stored self.old id) len
-            → IfErr result (λ e. e ≡ Error.Full → self.new ≡ self.old) };
+            → IfErr result (λ e. e ≡ Error.Full → self.new ≡ self.old) }
+        ensures leaves_room { Self.tells self.old → TakesLen (Self.stored self.old id) len
+            → (Self.stored self.old id).size ≤ len → OnOk result ((more : ℕ) → len ≤ more
+            → is_too_long self.new id more → is_too_long self.old id more) };
 
     /// Hands on what was written. `Medium`, and the file has failed then.
     fn flush(&mut self, id: u32) -> Result<(), Error>

@@ -143,6 +143,9 @@ pub fn write_all<C: Contents>(content: &mut C, id: u32, at: u64, bytes: &[u8]) -
     ensures tight { C.tells content.old → C.tight content.old content.new }
     ensures within { C.tells content.old → at + length bytes.now ≤ (C.stored content.old id).size
         → (first : C) → C.tight first content.old → C.tight first content.new }
+    ensures takes_none { C.tells content.old
+        → at + length bytes.now ≤ (C.stored content.old id).size → OnOk result ((len : ℕ)
+        → C.is_too_long content.new id len → C.is_too_long content.old id len) }
     ensures counts { C.tells content.old
         → CountsFailure (λ f. C.read_faults f || C.write_faults f) result
         (C.failures content.old) (C.failures content.new) }
@@ -182,6 +185,8 @@ fn write_inside<C: Contents>(content: &mut C, id: u32, at: u64, bytes: &[u8]) ->
         → C.keeps id first content.new }
     ensures tight { C.tells content.old → (first : C) → C.tight first content.old
         → C.tight first content.new }
+    ensures takes_none { C.tells content.old → OnOk result ((len : ℕ)
+        → C.is_too_long content.new id len → C.is_too_long content.old id len) }
     ensures counts { C.tells content.old
         → CountsFailure (λ f. C.read_faults f || C.write_faults f) result
         (C.failures content.old) (C.failures content.new) }

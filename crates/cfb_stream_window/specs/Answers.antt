@@ -108,18 +108,11 @@ module _ {C : Type 0} (r : reading.Ghosts C) (g : writing.Ghosts C) where
   abbrev pub LacksRoomToWrite : C → ℕ → Window → (count : ℕ) → C → Type 0
   LacksRoomToWrite old id w count new = LacksRoomToWriteOut old id w ⊎ ((65536 ≤ count) × LacksRoomBehind old id w new)
 
-  -- there is room to write out what is pending, and for a longer length after that: the list can have the length that it has then, the longer
-  -- one, and 8,192 bytes more
+  -- there is room to write out what is pending, and for a longer length after that: the list can have the length that it has then, and the
+  -- longer one
   pub record HasRoomForBoth (content : C) (id : ℕ) (w : Window) (len : ℕ) : Type 0 where
     pub before : CanHave (r.stored content id) (g.is_too_long content id) w.size
     pub longer : CanHave (r.stored content id) (g.is_too_long content id) len
-    pub beside : CanHave (r.stored content id) (g.is_too_long content id) (len + 8192)
-
-  -- there was, but none for the length in the end, and the file has failed
-  pub record LosesRoomBetween (old : C) (id : ℕ) (w : Window) (len : ℕ) (new : C) : Type 0 where
-    pub lengthened : IsLengthened (r.stored old id) w len
-    pub had_room : HasRoomForBoth old id w len
-    pub failed : (r.stored new id).failed ≡ true
 
   -- it was read from and written to, under this number alone; and where this was refused all but the count of failures is as it was, or the
   -- file has failed

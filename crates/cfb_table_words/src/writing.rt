@@ -2,7 +2,7 @@
 ghost use Rattle.std.specs.Prelude.{◌≡◌, ◌%◌, ℕ, List, [], ◌∷◌, ◌++◌, ◌+◌, ◌*◌, ◌-◌, ◌<◌, ◌≤◌, length, take, drop, true, IsTrue, Contains, OnOk, IfErr, IfOk, nat_eq, nat_lt, slice_index, max, ◌^◌, ◌⊎◌, if◌then◌else◌};
 ghost use Rattle.std.specs.List.{IsDistinct};
 ghost use Rattle.cfb_format.specs.declared.validate.Validation.{Validation};
-ghost use Rattle.cfb_format.specs.Bytes.{max_regular_sector, is_whole_sector, sector_start, sector_len, words_per_sector};
+ghost use Rattle.cfb_format.specs.Bytes.{max_regular_sector, is_whole_sector, sector_start, sector_len, word_bytes, words_per_sector};
 ghost use Rattle.cfb_format.specs.Medium.{ChangesOnlyBytes, written};
 ghost use Rattle.cfb_tables.specs.Changes.{AreDisjoint};
 ghost use Rattle.cfb_sectors.specs.Words.{RangeStays, with_word};
@@ -37,6 +37,9 @@ const HEADER_FIRST_DIFAT: usize = 68;
 const HEADER_DIFAT_COUNT: usize = 72;
 
 const HEADER_DIFAT: usize = 76;
+
+/// How many words a small buffer holds.
+const FEW_WORDS: usize = 16;
 
 /// Fills a sector. `Medium`.
 fn fill_sector<F: Medium>(
@@ -164,6 +167,48 @@ fn write_words_in<F: Medium>(
     sectors.write_contiguous(list[place], 4 * index, from)
 }
 
+/// Writes these words into one of these sectors, from a word of it on, by one call of the medium. `Medium`.
+fn put_words_in<F: Medium>(
+    sectors: &mut Sectors<F>,
+    list: &[u32],
+    place: usize,
+    index: usize,
+    words: &[u32],
+) -> Result<(), Error>
+    requires some { 0 < length words.now }
+    requires place { place < length list.now }
+    requires inside { index + length words.now ≤ words_per_sector sectors.old.version }
+    requires below { (i : ℕ) → Contains list.now i → i < sectors.old.num_sectors }
+    ensures kept { sectors.new ≡ record sectors.old {
+      len = sectors.new.len;
+      bytes = sectors.new.bytes;
+      failures = sectors.new.failures;
+      begun = true;
+    } }
+    ensures ok { IsTrue F.tells → OnOk result (sectors.new.bytes
+        ≡ written sectors.old.bytes (sector_start sectors.old.version (slice_index list.now place)
+        + 4 * index) (word_bytes words.now)) }
+    ensures len { IsTrue F.tells → OnOk result (sectors.new.len
+        ≡ max sectors.old.len (sector_start sectors.old.version (slice_index list.now place)
+        + 4 * index + 4 * length words.now)) }
+    ensures changes { IsTrue F.tells
+        → ChangesSectors list.now sectors.old.version sectors.old.bytes sectors.new.bytes }
+    ensures header { sector_len sectors.old.version ≤ sectors.old.len }
+    ensures err { IfErr result IsMediumError }
+    ensures counts { IsTrue F.tells
+        → CountsFailure F.write_faults result sectors.old.failures sectors.new.failures }
+{
+    // Mostly there is one word, and a buffer of a sector is as dear as the call.
+    if words.len() <= FEW_WORDS {
+        let mut few = [0; 4 * FEW_WORDS];
+        let end = put_words(&mut few, 0, words);
+        return write_words_in(sectors, list, place, index, &few[..end]);
+    }
+    let mut buffer = [0; 4096];
+    let end = put_words(&mut buffer, 0, words);
+    write_words_in(sectors, list, place, index, &buffer[..end])
+}
+
 /// Each value has the width of a word. It does nothing.
 fn values_fit(fat: &[u32])
     ensures { (i : ℕ) → slice_index fat.now i < 2 ^ 32 }
@@ -204,14 +249,12 @@ fn write_run<F: Medium, A: Allocator>(
     let first = run.first;
     let fat = tables.fat();
     values_fit(fat);
-    let mut buffer = [0; 4096];
-    let end = put_words(&mut buffer, 0, &fat[first..first + run.count]);
-    write_words_in(
+    put_words_in(
         sectors,
         tables.fat_sectors(),
         first / words,
         first % words,
-        &buffer[..end],
+        &fat[first..first + run.count],
     )
 }
 

@@ -5,6 +5,4 @@ pub mod host;
 pub mod laws;
 pub mod meant;
 pub mod shown;
-#[cfg(test)]
-mod tests;
 mod text;

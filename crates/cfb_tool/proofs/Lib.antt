@@ -4,6 +4,7 @@ pub use Rattle.cfb_commands.proofs.cfb_path_changes
 pub use Rattle.cfb_commands.proofs.cfb_compound_file
 pub mod Lines
 pub mod Listed
+pub mod Treed
 pub mod Telling
 pub mod Turns
 pub mod Runs

@@ -10,6 +10,7 @@ pub mod Word
 pub mod Asking
 pub mod Listing
 pub mod Details
+pub mod Trees
 pub mod Cuts
 pub mod Playing
 pub mod Sending

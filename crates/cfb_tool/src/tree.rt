@@ -1,10 +1,11 @@
 //! The objects of a file as a tree of text.
-ghost use Rattle.std.specs.Prelude.{IsTrue, IfErr, chars};
+ghost use Rattle.std.specs.Prelude.{IsTrue, IfOk, IfErr, chars, string_bytes};
 ghost use Rattle.cfb_tool.specs.cfb_path_changes.Answers.{AnswersNot};
 ghost use Rattle.cfb_rules.specs.Calls.{walk, walk_storage};
+ghost use Rattle.cfb_tool.specs.Trees.{HasTree, HasTreeAt};
 
-use crate::listing::{walked, walked_at};
 use cfb_commands::CompoundFile;
+use cfb_format::consts::ROOT_STREAM_ID;
 use cfb_format::error::Error;
 use cfb_format::medium::ReadMedium;
 use cfb_shown::tree::tree_of;
@@ -21,10 +22,11 @@ pub fn tree<F: ReadMedium, A: Heap + Clone>(
     alloc: &A,
     file: &CompoundFile<F, A>,
 ) -> Result<String<A>, Error>
+    ensures shows { IsTrue F.tells
+        → IfOk result (λ text. HasTree file.now (string_bytes text)) }
     ensures refused { IsTrue F.tells → IfErr result (AnswersNot file.now walk) }
 {
-    let told = walked(alloc, file)?;
-    tree_of(alloc, told.as_slice())
+    tree_of(alloc, file.entries(), ROOT_STREAM_ID)
 }
 
 /// The same of the object at this path and all that is in it, in the order of `walk_storage`.
@@ -37,9 +39,11 @@ pub fn tree_at<F: ReadMedium, A: Heap + Clone>(
     file: &CompoundFile<F, A>,
     path: &str,
 ) -> Result<String<A>, Error>
+    ensures shows { IsTrue F.tells → IfOk result (λ text.
+        HasTreeAt file.now (chars path.now) (string_bytes text)) }
     ensures refused { IsTrue F.tells
         → IfErr result (AnswersNot file.now (walk_storage (chars path.now))) }
 {
-    let told = walked_at(alloc, file, path)?;
-    tree_of(alloc, told.as_slice())
+    let number = file.number_at(path)?;
+    tree_of(alloc, file.entries(), number)
 }

@@ -3,10 +3,9 @@
 
 pub mod cases;
 pub mod changing;
+pub mod damaged;
 pub mod errors;
 pub mod medium;
 pub mod memory;
 pub mod reading;
-#[cfg(test)]
-mod tests;
 pub mod writing;

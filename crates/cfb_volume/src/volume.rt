@@ -376,7 +376,8 @@ impl<F: Medium, A: Heap + Clone> Volume<F, A> {
     ///
     /// `Full` exactly where the length needs more numbers than are free or left once what it moves away from is free, so never
     /// where the stream is emptied: nothing has changed then. `Memory`, and `Medium` where the medium fails: all is as before, or the file
-    /// has failed. To empty a stream takes no sector, however that ends, and after `Memory` nothing has changed then.
+    /// has failed. To empty a stream takes no sector, however that ends, and after `Memory` nothing has changed then. Once it is longer, each
+    /// still longer length can be had that could be before.
     pub fn resize(&mut self, entry: u32, len: u64) -> Result<(), Error>
         requires sound { self.old.is_sound ≡ true }
         requires unfailed { is_failed self.old ≡ false }
@@ -400,6 +401,9 @@ impl<F: Medium, A: Heap + Clone> Volume<F, A> {
         ensures in_memory { OnErr result (StaysInMemoryOrFails self.old self.new) }
         ensures enough { IsTrue F.tells → Holds self.old → len ≢ len_of self.old.base entry
             → OnOk result (IsTooLongFor self.old.base entry len → ⊥) }
+        ensures leaves_room { IsTrue F.tells → Holds self.old → len_of self.old.base entry ≤ len
+            → OnOk result ((more : ℕ) → len ≤ more → IsTooLongFor self.new.base entry more
+            → IsTooLongFor self.old.base entry more) }
         ensures emptied { Holds self.old → len ≡ 0 → IsTooLongFor self.old.base entry len → ⊥ }
         ensures takes_none { len ≡ 0
             → length (tables_in self.new.base).fat ≡ length (tables_in self.old.base).fat }

@@ -1,8 +1,6 @@
 //! Streams that are made by a list of changes.
 #![tactic(auto)]
 
-#[cfg(test)]
-mod changes;
 pub mod in_turn;
 pub mod laws;
 pub mod lists;

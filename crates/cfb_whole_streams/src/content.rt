@@ -10,12 +10,22 @@ use cfb_format::error::Error;
 use cfb_format::medium::{Medium, MediumFault, ReadMedium};
 use std::alloc::Allocator as Heap;
 
-/// All bytes of the stream at this path, in memory of `alloc`. Nothing of the file changes but the count of failures.
+/// Returns all bytes of the stream at this path, in memory of `alloc`. The file does not change. If you need only a part, or the stream is
+/// large, use [`CompoundFile::open_read_stream`].
+///
+/// ```rust
+/// /// Reads all bytes of the stream `/notes/today`.
+/// pub fn today<F: ReadMedium>(alloc: Global, file: &mut CompoundFile<F>) -> Result<Vec<u8>, Error> {
+///     cfb::read_stream(alloc, file, "/notes/today")
+/// }
+/// ```
 ///
 /// # Errors
 ///
-/// As `open_read_stream` and `read_to_end`: `NotFound` and `InvalidInput` for the path, `InvalidData` where the bytes can't all be read
-/// (MS-CFB 2.3), `Medium`, `Memory`, `Failed`.
+/// - `NotFound`, `InvalidInput`: no stream is at the path.
+/// - [`Error::InvalidData`]: not all bytes can be read (MS-CFB 2.3); [`ReadStream::read`] returns the first of them.
+/// - `Medium`, `Memory`.
+/// - [`Error::Failed`]: an earlier change failed midway ([`CompoundFile::is_failed`]).
 pub fn read_stream<F: ReadMedium, A: Heap + Clone>(
     alloc: A,
     file: &mut CompoundFile<F, A>,
@@ -39,12 +49,20 @@ pub fn read_stream<F: ReadMedium, A: Heap + Clone>(
     Ok(bytes)
 }
 
-/// Makes a stream with exactly these bytes at this path, or gives them to the one that is there in place of its own.
+/// Makes a stream with exactly these bytes at this path, or replaces the bytes of the one that is there. To change a part, use
+/// [`CompoundFile::open_stream`]; to write in pieces, [`CompoundFile::create_stream`]. The medium is not flushed: [`CompoundFile::flush`].
+///
+/// ```rust
+/// /// Makes the stream `/greeting`, or replaces its bytes.
+/// pub fn greet<F: Medium>(file: &mut CompoundFile<F>) -> Result<(), Error> {
+///     cfb::write_stream(file, "/greeting", b"hello\n")
+/// }
+/// ```
 ///
 /// # Errors
 ///
-/// As `create_stream`, `write` and `close`: `NotFound` and `InvalidInput` for the path, `InvalidInput` past the greatest length that the
-/// version has, `Unsound`, `Full`, `Medium`, `Memory`, `Failed`. The stream may be there then, with a beginning of the bytes.
+/// As [`CompoundFile::create_stream`], [`Stream::write`] and [`Stream::close`]; `InvalidInput` also if the version allows no stream of this
+/// length ([`Version::stream_len_mask`]). The stream may be there then, with the first of the bytes.
 pub fn write_stream<F: Medium, A: Heap + Clone>(
     file: &mut CompoundFile<F, A>,
     path: &str,
@@ -66,8 +84,12 @@ pub fn write_stream<F: Medium, A: Heap + Clone>(
     closed
 }
 
-/// Writes all of these bytes. Each write takes a beginning of what is left.
-fn write_all<F: Medium, A: Heap + Clone>(
+/// Writes all of these bytes at the position of the stream. Each write takes a beginning of what is left.
+///
+/// # Errors
+///
+/// As the first `write` that fails. Some of the first bytes may be written then.
+pub fn write_all<F: Medium, A: Heap + Clone>(
     stream: &mut Stream<'_, F, A>,
     bytes: &[u8],
 ) -> Result<(), Error>
@@ -92,7 +114,7 @@ fn write_all<F: Medium, A: Heap + Clone>(
     Ok(())
 }
 
-/// What is left behind so many bytes.
+/// Internal: public for proofs alone. What is left of `bytes` behind the first `count`.
 #[tactic(auto, using(crate::proofs::Behind::past_end))]
 pub fn behind(bytes: &[u8], count: usize) -> &[u8]
     ensures { result.now ≡ drop count bytes.now }

@@ -8,13 +8,24 @@ use cfb_format::error::Error;
 use cfb_format::medium::{Medium, ReadMedium};
 use std::alloc::Allocator as Heap;
 
-/// Copies all bytes of the stream at `from_path` to the stream at `to_path` of another file, which is made, or has them in place of its own,
-/// and answers how many there are. All of them are in memory of `alloc` at once, so that the second file is touched only once the first is
-/// read to the stream's end. Of the first file nothing changes but the count of failures.
+/// Copies all bytes of the stream at `from_path` to the stream at `to_path` of another file, which is made or gets them in place of its
+/// own, and returns how many there are. All bytes are in memory of `alloc` at once: the second file is touched only once the first has been
+/// read to the stream's end. The first file does not change. [`CompoundFile::copy_to`] copies a whole file.
+///
+/// ```rust
+/// /// Copies the stream `/data` into another file, and returns its length.
+/// pub fn copy_data<F: ReadMedium, G: Medium>(
+///     alloc: Global,
+///     from: &mut CompoundFile<F>,
+///     to: &mut CompoundFile<G>,
+/// ) -> Result<u64, Error> {
+///     cfb::copy_stream(alloc, from, "/data", to, "/data")
+/// }
+/// ```
 ///
 /// # Errors
 ///
-/// As `read_stream`, before the second file is touched; then as `write_stream`. The stream may be there then, with a beginning of the bytes.
+/// Those of [`read_stream`], before the second file is touched; then those of [`write_stream`].
 pub fn copy_stream<F: ReadMedium, A: Heap + Clone, G: Medium, B: Heap + Clone>(
     alloc: A,
     from: &mut CompoundFile<F, A>,

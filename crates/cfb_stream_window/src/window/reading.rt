@@ -36,6 +36,10 @@ impl<A: Allocator> Window<A> {
         ensures within { C.tells content.old
             → self.old.base + length self.old.filled ≤ (C.stored content.old id).size
             → (first : C) → C.tight first content.old → C.tight first content.new }
+        ensures takes_none { C.tells content.old
+            → self.old.base + length self.old.filled ≤ (C.stored content.old id).size
+            → OnOk result ((len : ℕ) → C.is_too_long content.new id len
+            → C.is_too_long content.old id len) }
         ensures room { self.new.room ≡ self.old.room }
         ensures bound { self.new.bound ≡ self.old.bound }
     {
@@ -428,6 +432,10 @@ impl<A: Allocator> Window<A> {
         ensures within { C.tells content.old
             → self.old.base + length self.old.filled ≤ (C.stored content.old id).size
             → (first : C) → C.tight first content.old → C.tight first content.new }
+        ensures takes_none { C.tells content.old
+            → self.old.base + length self.old.filled ≤ (C.stored content.old id).size
+            → OnOk result ((len : ℕ) → C.is_too_long content.new id len
+            → C.is_too_long content.old id len) }
         ensures calm { self.old.pending ≡ false → content.new ≡ content.old }
         ensures pending { OnErr result (self.old.pending ≡ true) }
         ensures lost { OnErr result ((C.stored content.new id).failed ≡ true) }

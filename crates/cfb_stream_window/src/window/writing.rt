@@ -1,10 +1,10 @@
 //! Writing to a buffered stream, and giving it another length.
-ghost use Rattle.std.specs.Prelude.{◌≡◌, ◌+◌, ◌-◌, ◌*◌, ◌^◌, ◌<◌, ◌≤◌, ◌⊎◌, ◌↔◌, min, max, [], true, false, IsTrue, OnOk, OnErr, IfOk, IfErr, length, take};
+ghost use Rattle.std.specs.Prelude.{ℕ, ◌≡◌, ◌+◌, ◌-◌, ◌*◌, ◌^◌, ◌<◌, ◌≤◌, ◌⊎◌, ◌↔◌, min, max, [], true, false, IsTrue, OnOk, OnErr, IfOk, IfErr, length, take};
 ghost use Rattle.cfb_stream_window.specs.Leaves.{WritesContents, StaysOpen};
 ghost use Rattle.cfb_format.specs.Refused.{IsMemory, IsBreak};
 ghost use Rattle.cfb_stream_window.specs.cfb_rules.StreamCalls.{write, count};
 ghost use Rattle.cfb_stream_window.specs.Windows.{Carries, WriteBrokeOff, LengthBrokeOff, IsLengthened, IsSettled, HasBufferRoom, window_kept, window_past, window_within, WroteStraight, Resized};
-ghost use Rattle.cfb_stream_window.specs.Answers.{HasRoomForBoth, HeedsFlags, IsOpen, IsReady, IsTouched, InTurn, LacksRoomBehind, LacksRoomToWrite, LacksRoomToWriteOut, LosesRoomBetween, RunsOn, IsRefusedOn, RunsSettingLen, IsLengthRefusedOn, GoesOn, WritesOutFirst};
+ghost use Rattle.cfb_stream_window.specs.Answers.{HasRoomForBoth, HeedsFlags, IsOpen, IsReady, IsTouched, InTurn, LacksRoomBehind, LacksRoomToWrite, LacksRoomToWriteOut, RunsOn, IsRefusedOn, RunsSettingLen, IsLengthRefusedOn, GoesOn, WritesOutFirst};
 ghost use Rattle.cfb_stream_buffer.specs.Contents.{Fails, TakesLen};
 ghost use Rattle.cfb_stream_buffer.specs.Touched.{HasKeptFlags, IsWritten};
 
@@ -14,11 +14,6 @@ use cfb_format::error::{Detail, Error};
 use cfb_stream_buffer::content::Contents;
 use cfb_stream_buffer::whole::give_up;
 use std::alloc::Allocator;
-
-/// Beside a list's length so much room has to be had where bytes are written out before it gets longer. A
-/// list below 4096 bytes lies apart (MS-CFB 2.4): it takes at most eight sectors of 512 bytes, or one of
-/// 4096, and one sector of a table. A longer one keeps its sectors.
-const ROOM_BESIDE: u64 = 8192;
 
 impl<A: Allocator> Window<A> {
     /// Writes a beginning of the bytes at the position, at least one, and answers how many. Writing no
@@ -247,7 +242,7 @@ impl<A: Allocator> Window<A> {
     /// Cuts the stream to a length, or pads it with zeros; the position becomes the length where it was
     /// past it. The present length does nothing. `Failed`; `InvalidInput` past the greatest length;
     /// `Unsound`; `Medium`, `Memory`, and `Full` where the length needs more numbers than are left: nothing
-    /// has changed then, or the length is longer, bytes were pending behind the end, and the file has failed.
+    /// has changed then.
     pub fn set_len<C: Contents>(&mut self, content: &mut C, id: u32, len: u64) -> Result<(), Error>
         requires there { C.has content.old id }
         ensures open { StaysOpen C.ReadContents content.old id self.old result content.new self.new }
@@ -260,9 +255,7 @@ impl<A: Allocator> Window<A> {
         ensures same { len ≡ self.old.size → content.new ≡ content.old }
         ensures unsound { (C.stored content.old id).sound ≡ false → content.new ≡ content.old }
         ensures foreseen { IsOpen C.ReadContents content.old id self.old
-            → IfErr result (λ e. e ≡ Error.Full → (content.new ≡ content.old)
-            ⊎ LosesRoomBetween C.ReadContents C.Contents.own
-            content.old id self.old len content.new) }
+            → IfErr result (λ e. e ≡ Error.Full → content.new ≡ content.old) }
         ensures writes_out { IsOpen C.ReadContents content.old id self.old
             → IsLengthened (C.stored content.old id) self.old len
             → HasRoomForBoth C.ReadContents C.Contents.own content.old id self.old len → OnOk result
@@ -329,9 +322,7 @@ impl<A: Allocator> Window<A> {
             (C.stored content.old id) self.old (C.stored content.new id) self.new) }
         ensures foreseen { IsReady C.ReadContents content.old id self.old
             → (C.stored content.old id).sound ≡ true → len ≤ (C.stored content.old id).limit
-            → IfErr result (λ e. e ≡ Error.Full → (content.new ≡ content.old)
-            ⊎ LosesRoomBetween C.ReadContents C.Contents.own
-            content.old id self.old len content.new) }
+            → IfErr result (λ e. e ≡ Error.Full → content.new ≡ content.old) }
         ensures writes_out { IsReady C.ReadContents content.old id self.old
             → HasRoomForBoth C.ReadContents C.Contents.own content.old id self.old len → OnOk result
             (WritesOutFirst C.ReadContents C.Contents.own content.old id self.old content.new) }
@@ -348,22 +339,13 @@ impl<A: Allocator> Window<A> {
         }
     }
 
-    /// Whether there is room to write out what is pending, and for the length after that: for both, for the length at once, and for
-    /// `ROOM_BESIDE` bytes more than it.
+    /// Whether there is room to write out what is pending, and for the length: for either, by the numbers as they are now.
     fn can_write_out<C: Contents>(&self, content: &C, id: u32, len: u64) -> Result<bool, Error>
         requires there { C.has content.now id }
         ensures ok { C.tells content.now → IfOk result (λ can. IsTrue can
             ↔ HasRoomForBoth C.ReadContents C.Contents.own content.now id self.now len) }
         ensures refused { C.tells content.now → IfErr result IsMemory }
     {
-        let _limit = content.limit(id);
-        let Some(beside) = len.checked_add(ROOM_BESIDE) else {
-            return Ok(false);
-        };
-        if !content.can_resize(id, beside)? {
-            return Ok(false);
-        }
-        // Numbers of mini sectors may lack for the length, and not for a longer one, which lies in sectors.
         if !content.can_resize(id, len)? {
             return Ok(false);
         }
@@ -384,6 +366,8 @@ impl<A: Allocator> Window<A> {
         requires longer { self.old.size < len }
         requires fits { C.tells content.old → TakesLen (C.stored content.old id) self.old.size
             → C.is_too_long content.old id self.old.size → ⊥ }
+        requires longer_fits { C.tells content.old → TakesLen (C.stored content.old id) len
+            → C.is_too_long content.old id len → ⊥ }
         ensures there { C.has content.new id }
         ensures any { HasKeptFlags C.ReadContents content.old content.new id result }
         ensures around { C.tells content.old
@@ -400,8 +384,7 @@ impl<A: Allocator> Window<A> {
             (C.stored content.old id) self.old (C.stored content.new id) self.new) }
         ensures foreseen { IsReady C.ReadContents content.old id self.old
             → (C.stored content.old id).sound ≡ true → len ≤ (C.stored content.old id).limit
-            → IfErr result (λ e. e ≡ Error.Full
-            → (content.new ≡ content.old) ⊎ ((C.stored content.new id).failed ≡ true)) }
+            → IfErr result (λ e. e ≡ Error.Full → ⊥) }
         ensures writes_out { IsReady C.ReadContents content.old id self.old → OnOk result
             (WritesOutFirst C.ReadContents C.Contents.own content.old id self.old content.new) }
         ensures bound { self.new.bound ≡ self.old.bound }
@@ -428,6 +411,9 @@ impl<A: Allocator> Window<A> {
             → (C.stored content.old id).sound ≡ true → len ≤ (C.stored content.old id).limit
             → IfErr result (λ e. IsBreak (C.is_too_long content.new id len) e
             × Fails (C.stored content.old id) (C.stored content.new id)) }
+        ensures fits { IsReady C.ReadContents content.old id self.old
+            → (C.stored content.old id).sound ≡ true → len ≤ (C.stored content.old id).limit
+            → (C.is_too_long content.old id len → ⊥) → IfErr result (λ e. e ≡ Error.Full → ⊥) }
         ensures lost { OnErr result ((C.stored content.new id).failed ≡ true) }
         ensures bound { self.new.bound ≡ self.old.bound }
         ensures room { self.new.room ≡ self.old.room }
@@ -456,6 +442,9 @@ impl<A: Allocator> Window<A> {
         ensures foreseen { IsReady C.ReadContents content.old id self.old
             → (C.stored content.old id).sound ≡ true → len ≤ (C.stored content.old id).limit
             → IfErr result (λ e. e ≡ Error.Full → content.new ≡ content.old) }
+        ensures leaves_room { C.tells content.old → TakesLen (C.stored content.old id) len
+            → (C.stored content.old id).size ≤ len → OnOk result ((more : ℕ) → len ≤ more
+            → C.is_too_long content.new id more → C.is_too_long content.old id more) }
         ensures bound { self.new.bound ≡ self.old.bound }
         ensures room { self.new.room ≡ self.old.room }
     {

@@ -86,7 +86,7 @@ const NO_BYTES: &[Run<'static>] = &[
 const CUT_SHORT: &[Run<'static>] = &[
     (&["check", "@f"], b"", 1, b"version 3 not sound\n", b""),
     (&["cat", "@f", "/a"], b"", 1, b"", UNREADABLE),
-    (&["dump", "@f"], b"", 1, b"", b"cfbtool: @f: /a: "),
+    (&["dump", "@f"], b"", 1, b"", UNREADABLE),
     (&["put", "@f", "/a"], b"abc", 1, b"", UNSOUND),
     (&["put", "@f", "/b"], b"", 1, b"", UNSOUND),
     (&["rm", "@f", "/a"], b"", 1, b"", UNSOUND),

@@ -2,7 +2,7 @@
 use super::Step::{self, Helps, Runs};
 use super::runs::{Run, is_told};
 use super::{World, play};
-use crate::help::help_on;
+use cfb_program::help::help_on;
 use cfb_tool::word::word_by;
 use std::test::Fail;
 
@@ -24,6 +24,8 @@ const SCREEN: &[u8] =
   compact FILE NEW        a copy without free sectors
   salvage FILE NEW        what can be read of a damaged file
 
+WORD --no-sync .. (or CFBTOOL_SYNC=off) does not wait for the disk: FILE is safe
+if the command is killed or the disk is full, but not if the power fails.
 PATH is /storage/stream, in any case of letters; \\u0005 is the character U+0005.
 Status: 0 done, 1 refused, 2 wrong words. More: cfbtool help WORD.
 ";

@@ -1,6 +1,6 @@
-//! Journals beside files: none stays behind a change, and one that an interrupted change left is
-//! ended or taken back by the next run.
-use super::Step::{self, Absent, At, Bytes, Damage, Len, Note, Runs, Stays};
+//! Journals beside files: none stays behind a change. One that an interrupted change left is read as ended
+//! or taken back, and is so by the next change.
+use super::Step::{self, Absent, At, Bytes, Link, Note, Runs, Stays};
 use super::play;
 use super::runs::{Run, SOUND_3};
 use std::test::Fail;
@@ -40,7 +40,7 @@ const WITH_BITS: &[Run<'static>] = &[
     (&["check", "@f", "strict"], b"", 0, SOUND_3, b""),
 ];
 
-/// A change begins with what the journal says.
+/// A change begins with what the journal says, and ends it.
 #[rattlefmt::skip]
 const CHANGED_FURTHER: &[Run<'static>] = &[
     (&["put", "@f", "/a"], b"abc", 0, b"", b""),
@@ -58,14 +58,21 @@ const NOTHING_DONE: &[Run<'static>] = &[
     (&["compact", "@f", "@new"], b"", 1, b"", IS_DAMAGED),
 ];
 
+const NO_JOURNAL: &[Run<'static>] = &[(
+    &["ls", "@f"],
+    b"",
+    1,
+    b"",
+    b"cfbtool: medium failed: @f-journal: Is a directory (os error 21)\n",
+)];
+
 #[rattlefmt::skip]
 static JOURNALS: &[Step<'static>] = &[
-    Runs(NEW), Damage(&[], 4096), At("@f-journal"), Bytes(INTERRUPTED), Runs(AS_NEW), Absent,
-    At("@f"), Len(1536), At("@f-journal"), Bytes(TORN), Runs(AS_NEW),
-    Bytes(COMMITTED), Runs(WITH_BITS), Absent,
-    Runs(NEW), Bytes(COMMITTED), Runs(CHANGED_FURTHER), Absent,
+    Runs(NEW), At("@f-journal"), Bytes(INTERRUPTED), Note, Runs(AS_NEW), Stays,
+    Bytes(TORN), Note, Runs(AS_NEW), Stays,
+    Bytes(COMMITTED), Note, Runs(WITH_BITS), Stays, Runs(CHANGED_FURTHER), Absent,
     Runs(NEW), Bytes(DAMAGED), Note, Runs(NOTHING_DONE), Stays,
-    Runs(NEW), Absent, Runs(AS_NEW),
+    Runs(NEW), Absent, Link("/"), Runs(NO_JOURNAL),
 ];
 
 #[test]
@@ -77,6 +84,8 @@ fn interrupted_changes_are_ended_or_taken_back(rt: HostRuntime) -> Result<(), Fa
 const CHANGES: &[Run<'static>] = &[
     (&["create", "3", "@f"], b"", 0, b"", b""),
     (&["put", "@f", "/a"], b"abc", 0, b"", b""),
+    (&["create", "3", "@f"], b"", 0, b"", b""),
+    (&["put", "--no-sync", "@f", "/a"], b"abc", 0, b"", b""),
     (&["mkdirs", "@f", "/s/t"], b"", 0, b"", b""),
     (&["len", "@f", "/a", "5000"], b"", 0, b"", b""),
     (&["run", "@f"], b"put\t/b\t61\nrm\t/a\n", 0, b"ok\nok\n", b""),
@@ -92,7 +101,7 @@ const REFUSED: &[Run<'static>] = &[
 #[rattlefmt::skip]
 static NO_JOURNALS: &[Step<'static>] = &[
     Runs(CHANGES), At("@f-journal"), Absent, At("@f"), Note, Runs(REFUSED), Stays,
-    At("@f-journal"), Absent,
+    At("@f-journal"), Absent, At("@f-new0"), Absent,
 ];
 
 #[test]

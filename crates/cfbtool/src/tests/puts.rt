@@ -51,7 +51,7 @@ const PRINTED: &[&[&str]] = &[
     &["cat", "@f", "/a"], &["ls", "@f"], &["ls", "@f", "/a"], &["check", "@f"],
     &["check", "@f", "strict"], &["ls", "-l", "@f"], &["ls", "-l", "@f", "/a"], &["tree", "@f"],
     &["tree", "@f", "/a"], &["help"], &["--help"], &["-h"], &["help", "ls"], &["ls", "--help"],
-    &["--version"], &["dump", "@f"],
+    &["--version"], &["dump", "@f"], &["info", "@f"], &["map", "@f"],
 ];
 
 const OUTPUT_FAILED: &[u8] = b"cfbtool: medium failed\n";

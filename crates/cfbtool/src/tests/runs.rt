@@ -1,6 +1,7 @@
 //! Runs of the program.
 use super::World;
-use crate::{Output, tool};
+use cfb_program::output::Output;
+use cfb_program::words::tool;
 use std::alloc::{AllocError, Global};
 use std::io;
 use std::io::{ErrorKind, Read, Write};

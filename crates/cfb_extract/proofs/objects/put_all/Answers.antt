@@ -1,8 +1,8 @@
-use Rattle.std.proofs.Common.{◌≡◌, ◌++◌, ◌∷◌, [], ◌+◌, List, ap, drop, get_or, take, ◌∙◌}
+use Rattle.std.proofs.Common.{◌≡◌, ◌++◌, ◌∷◌, [], ◌+◌, List, ap, drop, get_or, take, false, ◌∙◌}
 use Rattle.std.proofs.lemmas.Result.{err_from_is_err_and}
 use Rattle.cfb_format.specs.DirectoryEntry.{Entry}
 use Rattle.cfb_format.specs.Siblings.{entry_at}
-use Rattle.cfb_extract.specs.declared.walk.Walked.{Walked}
+use Rattle.cfb_walks.specs.declared.walk.Walked.{Walked}
 use Rattle.cfb_extract.specs.Cuts.{told_cuts}
 use Rattle.cfb_extract.specs.Items.{texts}
 use Rattle.cfb_extract.specs.Steps.{cuts_by, item_at}
@@ -28,10 +28,10 @@ loop-object-preserved g c =
     let i = c.loop-object.invariant in
     let list = c.args.list.now in
     let at = c.loop-object.object-index in
-    let w : Walked = get_or list at (record { entry = 0; depth = 0 }) in
+    let w : Walked = get_or list at (record { entry = 0; depth = 0; is_last = false }) in
     let es = g.S.Source.listed c.args.source.now in
     let content = g.S.Source.content c.args.source.now in
-    let more : drop at list ≡ w ∷ drop (at + 1) list = next-of list at (record { entry = 0; depth = 0 }) c.loop-object-test.true in
+    let more : drop at list ≡ w ∷ drop (at + 1) list = next-of list at (record { entry = 0; depth = 0; is_last = false }) c.loop-object-test.true in
     let named : texts c.push.new.self.items ≡ take w.depth (texts c.loop-object.names.items) ++ (entry_at es w.entry).name ∷ [] =
     next-names c.loop-object.names.items c.truncate.new.self.items c.push.new.self.items w.depth c.in_ok-name.name (entry_at es w.entry).name c.truncate.ensures.items c.in_ok-push.ensures.items
     (c.in_ok-name.ensures ∙ ap (λ (xs : List Entry). (entry_at xs w.entry).name) i.stays.listed) in

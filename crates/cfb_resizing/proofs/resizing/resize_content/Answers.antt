@@ -1,4 +1,4 @@
-use Rattle.std.proofs.Common.{refl, ◌≡◌, ◌≤◌, ℕ, List, false, true, sym, ◌∙◌, ap, subst, length, arith}
+use Rattle.std.proofs.Common.{refl, ◌≡◌, ◌<◌, ◌≤◌, ℕ, List, false, true, sym, ◌∙◌, ap, subst, length, arith}
 use Rattle.std.specs.Prelude.{IsTrue, OnOk}
 use Rattle.std.proofs.lemmas.Result.{err_from_is_err_and, on_ok_weaker}
 use Rattle.cfb_format.specs.declared.validate.Validation.{Validation}
@@ -13,7 +13,7 @@ use Rattle.cfb_resizing.proofs.cfb_alloc.Answering.{on_both}
 use Rattle.cfb_resizing.specs.cfb_directory.Growing.{ArePlaced}
 use Rattle.cfb_resizing.proofs.cfb_directory.Placed.{held_places}
 use Rattle.cfb_resizing.specs.cfb_mini_sectors.State.{HoldsMini, IsChangeable, content_of, entries_of, tables_in, table_of}
-use Rattle.cfb_content.specs.Contents.{IsNotChangeable, IsTooLongFor}
+use Rattle.cfb_content.specs.Contents.{IsNotChangeable, IsTooLongFor, len_of}
 use Rattle.cfb_content.specs.Laws.{LacksNumbersFor}
 use Rattle.cfb_content.proofs.Fullness.{enough-is-not-too-long, lack-is-too-long}
 use Rattle.cfb_content.proofs.Outlines.{moved-root-moved, stream-is-no-root, stream-stays}
@@ -29,6 +29,7 @@ use Rattle.cfb_resizing.proofs.Turned.{WasTurned, always-on-ok, turned, turned-w
 use Rattle.cfb_format.specs.DirectoryEntry.{Entry}
 use Rattle.cfb_content.proofs.FreedMinis.{frees-before}
 use Rattle.cfb_content.proofs.SnugMini.{kept-is-snug-mini}
+use Rattle.cfb_resizing.proofs.RoomLeft.{turned-leaves-room}
 use Rattle.cfb_resizing.proofs.SnugMinis.{turned-frees}
 use Rattle.cfb_content.proofs.Changed.{moves-same, spares-same, changed-same}
 use Rattle.cfb_resizing.proofs.PutBehind.{tight-then}
@@ -52,6 +53,7 @@ returns-then-size-len-clause-content g c told = record {
   erased = λ v change m mine out other. absurd (out mine);
   stays_full = λ v change more leaves none. none;
   minis_full = λ v change more leaves none. none;
+  leaves_room = λ v change more len within long. long;
 }
 
 pub returns-then-size-len-clause-trimmed : goal.returns-then-size-len-clause-trimmed
@@ -185,6 +187,16 @@ returns-clause-trimmed g c =
     })
     c.name_content.ensures.named
 
+-- what it took leaves room for each longer length that there was room for
+room-left : (g : _) (c : goal.After-name_content g) → IsTrue g.F.ReadMedium.tells → (validation : Validation) → IsChangeable validation c.args.mini.now
+    → len_of c.args.mini.now c.args.entry < c.args.size
+    → OnOk c.name_content.result ((more : ℕ) → c.args.size ≤ more → IsTooLongFor c.name_content.new.mini c.args.entry more → IsTooLongFor c.args.mini.now c.args.entry more)
+room-left g c told validation change longer = on_both _ _ _ c.name_content.result
+    (λ held at more within. turned-leaves-room validation c.args.mini.now c.turn.new.mini c.name_content.new.mini c.args.entry c.args.size c.in_ok-start.start
+    (named g c told validation change) held at longer more within ((c.in_ok-start.ensures.turned told).turned validation change)
+    (subst (λ (a : AllocatorState). a.tables.max_sectors ≤ max_regular_sector) c.allocator.ensures c.max_sectors.ensures.limited) c.minifat_len.ensures.short)
+    (held-then g c told validation change) c.name_content.ensures.named
+
 pub returns-clause-content : goal.returns-clause-content
 returns-clause-content g c told =
     let s = c.args.mini.now in
@@ -198,6 +210,7 @@ returns-clause-content g c told =
     subst (λ (t : TableState). NoneFree t.fat) (sym c.name_content.ensures.system.tables) full)
     (λ v change longer stays none. kept-minis-full c.turn.new.mini new c.name_content.ensures.mini
     (turned-minis-full s c.turn.new.mini c.args.entry c.args.size c.in_ok-start.start longer stays ((c.in_ok-start.ensures.turned told).turned v change) none))
+    (λ v change more. room-left g c told v change (omega (arith, more, c.content_in-len.ensures.len, c.if-size-len.false)))
 
 pub returns-clause-spares : goal.returns-clause-spares
 returns-clause-spares g c told = record {

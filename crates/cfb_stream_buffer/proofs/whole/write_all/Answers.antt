@@ -82,3 +82,11 @@ returns-clause-within g c = λ told inside first kept.
     let a = c.in_ok-append.ensures in
     let same = a.none (omega (arith, inside, length-take (length b - k) (drop k b), length-drop k b)) in
     c.in_ok-write_inside.ensures.tight (a.told told) first (subst (λ content. g.C.Contents.tight first content) (sym same) kept)
+
+pub returns-clause-takes_none : goal.returns-clause-takes_none
+returns-clause-takes_none g c = λ told inside len long.
+    let b = c.args.bytes.now in
+    let k = c.min-inside.result in
+    let a = c.in_ok-append.ensures in
+    let same = a.none (omega (arith, inside, length-take (length b - k) (drop k b), length-drop k b)) in
+    subst (λ content. g.C.Contents.is_too_long content c.args.id len) same (c.in_ok-write_inside.ensures.takes_none (a.told told) len long)

@@ -1,4 +1,4 @@
-use Rattle.std.proofs.Common.{◌≡◌, ◌≤◌, ◌-◌, length, take}
+use Rattle.std.proofs.Common.{ℕ, ◌≡◌, ◌≤◌, ◌-◌, length, take}
 use Rattle.cfb_stream_buffer.specs.Contents.{TakesBytes, stored_after_write}
 use Rattle.cfb_stream_buffer.proofs.whole.write_inside.Given as goal
 
@@ -11,6 +11,7 @@ invariant-loop-done g l = record {
   told : g.C.ReadContents.tells l.initial.content → g.C.ReadContents.tells l.content;
   others : g.C.ReadContents.tells l.initial.content → (first : _) → g.C.Contents.keeps l.id first l.initial.content → g.C.Contents.keeps l.id first l.content;
   tight : g.C.ReadContents.tells l.initial.content → (first : _) → g.C.Contents.tight first l.initial.content → g.C.Contents.tight first l.content;
+  takes_none : g.C.ReadContents.tells l.initial.content → (len : ℕ) → g.C.Contents.is_too_long l.content l.id len → g.C.Contents.is_too_long l.initial.content l.id len;
   same_len : (g.C.ReadContents.stored l.content l.id).size ≡ (g.C.ReadContents.stored l.initial.content l.id).size;
   calm : g.C.ReadContents.tells l.initial.content → g.C.ReadContents.failures l.content ≡ g.C.ReadContents.failures l.initial.content;
   written : g.C.ReadContents.tells l.initial.content → TakesBytes (g.C.ReadContents.stored l.initial.content l.id) l.at (length l.bytes)

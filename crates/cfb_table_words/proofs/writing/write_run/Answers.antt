@@ -10,17 +10,16 @@ use Rattle.cfb_table_words.proofs.HeldLemmas.{header_long}
 use Rattle.cfb_table_words.proofs.RunWords.{counting, held_words}
 use Rattle.cfb_table_words.proofs.Stretches.{held_more, late_counted}
 use Rattle.cfb_table_words.proofs.writing.write_run.Goals as goal
-use Rattle.cfb_table_words.proofs.DifatWords.{length-word_bytes}
 
-pub write_words_in-requires-clause-below : goal.write_words_in-requires-clause-below
-write_words_in-requires-clause-below g c i m =
+pub put_words_in-requires-clause-below : goal.put_words_in-requires-clause-below
+put_words_in-requires-clause-below g c i m =
     let lt = c.requires.placed.fats i (subst (λ (l : List ℕ). Contains l i) c.fat_sectors.ensures m) in
     omega (arith, lt, c.requires.placed.count)
 
 pub returns-clause-ok : goal.returns-clause-ok
 returns-clause-ok g c told validation before late but held =
     let old = c.args.sectors.now in
-    let new = c.write_words_in.new.sectors in
+    let new = c.put_words_in.new.sectors in
     let t = c.args.tables.now in
     let x = c.args.run.first in
     let n = c.args.run.count in
@@ -33,22 +32,22 @@ returns-clause-ok g c told validation before late but held =
     ≡ word_home t.version t.fat_sectors x =
     (λ j. sector_start (same j) (slice_index (c.fat_sectors.ensures j) (x / words j)) + 4 * (x % words j)) in
     let count : x + n - x ≡ suc (n - 1) = omega (arith, more) in
-    let values : take c.put_words-end.result c.put_words-end.new.into ≡ word_bytes (take (suc (n - 1)) (drop x t.fat)) =
-    c.put_words-end.ensures.before ∙ (λ j. word_bytes (take (count j) (drop x (c.fat-fat.ensures j)))) in
+    let values : word_bytes (take (x + n - x) (drop x c.fat-fat.result.now)) ≡ word_bytes (take (suc (n - 1)) (drop x t.fat)) =
+    (λ j. word_bytes (take (count j) (drop x (c.fat-fat.ensures j)))) in
     let taken : length (take (suc (n - 1)) (drop x t.fat)) ≡ suc (n - 1) =
     omega (arith, length-take (suc (n - 1)) (drop x t.fat), length-drop x t.fat, more, c.requires.below) in
-    let size : length (take c.put_words-end.result c.put_words-end.new.into) ≡ 4 * suc (n - 1) =
-    ap (λ (l : List ℕ). length l) values ∙ length-word_bytes (take (suc (n - 1)) (drop x t.fat)) ∙ ap (λ m. 4 * m) taken in
-    let long = header_long old.version old.len c.write_words_in.ensures.header in
+    let size : 4 * length (take (x + n - x) (drop x c.fat-fat.result.now)) ≡ 4 * suc (n - 1) =
+    (λ j. 4 * length (take (count j) (drop x (c.fat-fat.ensures j)))) ∙ ap (λ m. 4 * m) taken in
+    let long = header_long old.version old.len c.put_words_in.ensures.header in
     let together : x % words_per_sector t.version + suc (n - 1) ≤ words_per_sector t.version =
     subst (λ (v : Version). x % words_per_sector v + suc (n - 1) ≤ words_per_sector v) same (omega (arith, more, c.requires.together)) in
     let fits : (k : ℕ) → slice_index t.fat k < 2 ^ 32 = λ k. subst (λ (l : List ℕ). slice_index l k < 2 ^ 32) c.fat-fat.ensures (c.values_fit.ensures k) in
     let counted : (i : ℕ) → Contains before i → Contains (counting x (suc (n - 1)) ++ late) i =
     subst (λ m. (i : ℕ) → Contains before i → Contains (counting x m ++ late) i) (sym more) (late_counted x n before late but) in
-    on_both _ _ _ c.write_words_in.result
+    on_both _ _ _ c.put_words_in.result
     (λ is len. held_words validation late t listing_stays fits (n - 1) x old new
     (is ∙ (λ j. written old.bytes (home j) (values j)))
     (len ∙ (λ j. max old.len (home j + size j)))
     together (omega (arith, more, c.requires.below)) (omega (arith, long, held.measured))
     (held_more validation before (counting x (suc (n - 1)) ++ late) old t counted held))
-    (c.write_words_in.ensures.ok told) (c.write_words_in.ensures.len told)
+    (c.put_words_in.ensures.ok told) (c.put_words_in.ensures.len told)

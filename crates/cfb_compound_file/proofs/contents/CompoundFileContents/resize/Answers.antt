@@ -68,3 +68,8 @@ pub returns-clause-any : goal.returns-clause-any
 returns-clause-any g c =
     let unfailed = sym c.is_failed.ensures ∙ c.if-is_failed.false in
     rw (← c.self.view_is) (change_keeps_flags _ _ _ c.resize.result c.resize.ensures.setting unfailed c.resize.ensures.ended c.resize.ensures.in_memory)
+
+pub returns-clause-leaves_room : goal.returns-clause-leaves_room
+returns-clause-leaves_room g c =
+    let unfailed = sym c.is_failed.ensures ∙ c.if-is_failed.false in
+    rw (← c.self.view_is) (λ told takes longer. c.resize.ensures.leaves_room told (c.self.invariant told unfailed) longer)

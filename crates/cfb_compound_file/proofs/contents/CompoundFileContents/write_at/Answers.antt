@@ -4,7 +4,7 @@ use Rattle.cfb_compound_file.specs.cfb_mini_sectors.State.{MiniState, tables_in}
 use Rattle.cfb_agreement.specs.Files.{IsFullFile}
 use Rattle.cfb_compound_file.specs.cfb_content.Contents.{len_of}
 use Rattle.cfb_compound_file.specs.Flags.{still_is_tight}
-use Rattle.cfb_compound_file.proofs.StoredStreams.{broken_kept, change_refused, changes_in_turn, stream_inside, stream_there, tables_tight, write_done, write_inside, write_same_len}
+use Rattle.cfb_compound_file.proofs.StoredStreams.{broken_kept, change_refused, changes_in_turn, done_always, inside_too_long, stream_inside, stream_there, tables_tight, write_done, write_inside, write_same_len}
 use Rattle.cfb_compound_file.proofs.Heeding.{change_keeps_flags}
 use Rattle.cfb_compound_file.proofs.contents.CompoundFileContents.write_at.Goals as goal
 
@@ -45,6 +45,10 @@ returns-clause-inside g c =
     let unfailed = sym c.is_failed.ensures ∙ c.if-is_failed.false in
     rw (← c.self.view_is) (λ told within first k. tables_tight first c.self.inside.volume c.write.new.self unfailed
     (ap (λ (s : MiniState). tables_in s) (c.write.ensures.within (write_inside c.args.at (length c.args.bytes.now) (len_of c.self.inside.volume.base c.args.id) within))) k)
+
+pub returns-clause-takes_none : goal.returns-clause-takes_none
+returns-clause-takes_none g c = rw (← c.self.view_is) (λ told within. done_always c.write.result (λ len long. inside_too_long c.self.inside.volume.base c.write.new.self.base c.args.id len
+    (c.write.ensures.within (write_inside c.args.at (length c.args.bytes.now) (len_of c.self.inside.volume.base c.args.id) within)) long))
 
 pub returns-clause-same_len : goal.returns-clause-same_len
 returns-clause-same_len g c = rw (← c.self.view_is) (λ within. write_same_len c.self.inside.volume c.write.new.self c.args.id c.args.at (length c.args.bytes.now) c.write.result within c.write.ensures.count c.write.ensures.len)

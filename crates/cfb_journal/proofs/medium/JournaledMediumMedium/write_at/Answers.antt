@@ -1,12 +1,16 @@
-use Rattle.std.proofs.Common.{◌≡◌, ◌<◌, ◌≤◌, ◌∙◌, ap, length, refl, subst, take, arith, rules}
+use Rattle.std.proofs.Common.{◌≡◌, ◌≢◌, ◌<◌, ◌≤◌, ◌∙◌, ap, length, refl, subst, sym, take, arith, rules}
 use Rattle.cfb_format.proofs.ByteLemmas.{length-written}
 use Rattle.cfb_journal.proofs.Contents.{is_some_block}
+use Rattle.cfb_journal.specs.declared.medium.Phase.TheVariants.{Broken, Changing}
 use Rattle.cfb_journal.specs.Journal.{Restores}
 use Rattle.cfb_journal.specs.States.{Meanwhile}
 use Rattle.cfb_journal.proofs.Clock.{joined}
 use Rattle.cfb_journal.proofs.Mediums.{kept_first, logical_changes, logical_written, sound_changing}
 use Rattle.cfb_journal.proofs.Since.{since_on}
 use Rattle.cfb_journal.proofs.medium.JournaledMediumMedium.write_at.Goals as goal
+
+not_broken_yet : Changing ≡ Broken → ⊥
+not_broken_yet e = cc
 
 pub returns-in-Err-append-clause-honest : goal.returns-in-Err-append-clause-honest
 returns-in-Err-append-clause-honest g c tells =
@@ -41,6 +45,7 @@ invariant_of-self-2 g c =
           let old = g.D.Disk.view me.disk in
           let mid = g.D.Disk.view c.ready.new.disk in
           let new = g.D.Disk.view c.append.new.disk in
+          let usable : me.phase ≢ Broken = search rules in
           let s = me.sound tells in
           let sized : me.len ≡ length old.seen.file = search (rules, s.sized) in
           let same = c.ready.ensures.file tells in
@@ -48,7 +53,8 @@ invariant_of-self-2 g c =
           let second = subst (λ f. Meanwhile mid new (Restores (take me.base f))) same (c.append.ensures.any_moment tells) in
           let run = joined {a = old} {b = mid} {c = new} (Restores (take me.base old.seen.file)) (c.ready.ensures.any_moment tells) second in
           let kept = kept_first me.base c.args.at (length c.args.from.now) mid.seen.file new.seen.file (c.append.ensures.others tells) c.if-at-self.false long in
-          since_on g.D.Disk.opened me.base old new (me.since tells tracked) run (kept ∙ ap (take me.base) same);
+          since_on g.D.Disk.opened me.base old new (me.since tells tracked) run (kept ∙ ap (take me.base) same) (omega (arith, c.in_default.ensures.cause tells usable, c.in_default-append.ensures.cause tells));
+      caused = λ tells tracked broken. absurd (not_broken_yet (sym c.in_default.ensures.ready ∙ broken));
     }
 
 pub returns-clause-honest : goal.returns-clause-honest
@@ -105,6 +111,7 @@ invariant_of-self-in-Err-append g c =
           let old = g.D.Disk.view me.disk in
           let mid = g.D.Disk.view c.ready.new.disk in
           let new = g.D.Disk.view c.append.new.disk in
+          let usable : me.phase ≢ Broken = search rules in
           let s = me.sound tells in
           let sized : me.len ≡ length old.seen.file = search (rules, s.sized) in
           let same = c.ready.ensures.file tells in
@@ -112,5 +119,16 @@ invariant_of-self-in-Err-append g c =
           let second = subst (λ f. Meanwhile mid new (Restores (take me.base f))) same (c.append.ensures.any_moment tells) in
           let run = joined {a = old} {b = mid} {c = new} (Restores (take me.base old.seen.file)) (c.ready.ensures.any_moment tells) second in
           let kept = kept_first me.base c.args.at (length c.args.from.now) mid.seen.file new.seen.file (c.append.ensures.others tells) c.if-at-self.false long in
-          since_on g.D.Disk.opened me.base old new (me.since tells tracked) run (kept ∙ ap (take me.base) same);
+          since_on g.D.Disk.opened me.base old new (me.since tells tracked) run (kept ∙ ap (take me.base) same) (omega (arith, c.in_default.ensures.cause tells usable, c.in-Err-append.ensures.cause tells));
+      caused = λ tells tracked broken.
+          let usable : me.phase ≢ Broken = search rules in
+          let mid = c.in_default.ensures.cause tells usable in
+          let new = c.in-Err-append.ensures.cause tells in
+          let was = (me.since tells tracked).faults in
+          omega (arith, was, mid, new);
     }
+
+pub invariant_of-self-in-Err-clause-caused : goal.invariant_of-self-in-Err-clause-caused
+invariant_of-self-in-Err-clause-caused g c tells tracked broken =
+    let usable : c.args.self.now.phase ≢ Broken = search rules in
+    absurd (usable broken)

@@ -67,3 +67,9 @@ returns-in_err-settle-clause-writes g c = record {
       })
       );
 }
+
+pub returns-clause-leaves_room : goal.returns-clause-leaves_room
+returns-clause-leaves_room g c = λ told takes longer more within long.
+    let e = c.in_default.ensures in
+    let inside = cut_inside c.args.self.now c.cut.new.self c.args.len c.cut.ensures.kept c.cut.ensures.past c.cut.ensures.calm in
+    e.leaves_room told takes longer more within (c.in_ok-settle.ensures.takes_none (e.told told) (omega (arith, inside, e.len)) more long)

@@ -101,7 +101,7 @@ returns-in_err-resize-clause-foreseen g c = λ (h : IsOpen g.C.ReadContents c.ar
     let fits : c.args.len ≤ (g.C.ReadContents.stored c.args.content.now c.args.id).limit = omega (arith, c.limit.ensures) in
     let sound = sym c.is_sound.ensures ∙ c.if-not-is_sound.false in
     let p = err_from_is_err_and c.from_residual-in_err-resize.result c.from_residual-in_err-resize.ensures.1 in
-    rw (p.1, p.2) (λ full. inl (c.in_err-resize.ensures.foreseen r sound fits full))
+    rw (p.1, p.2) (c.in_err-resize.ensures.foreseen r sound fits)
 
 pub returns-then-is_lengthened-clause-once : goal.returns-then-is_lengthened-clause-once
 returns-then-is_lengthened-clause-once g c = λ told short. absurd (short (c.is_lengthened.ensures.0 c.if-is_lengthened.true).1)

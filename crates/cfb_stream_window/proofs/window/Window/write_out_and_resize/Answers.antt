@@ -1,4 +1,4 @@
-use Rattle.std.proofs.Common.{◌≡◌, ◌≤◌, ◌∙◌, ℕ, true, false, arith, subst, sym, inl, inr}
+use Rattle.std.proofs.Common.{◌≡◌, ◌≤◌, ◌∙◌, ℕ, true, false, arith, subst, sym, inr}
 use Rattle.std.proofs.lemmas.Result.{err_from_is_err_and}
 use Rattle.cfb_format.specs.Refused.{IsBreak}
 use Rattle.cfb_format.specs.declared.error.Error.{Error}
@@ -49,8 +49,12 @@ returns-in_err-resize-clause-foreseen g c = λ (h : IsReady g.C.ReadContents c.a
     let is = c.len-size.ensures.value in
     let e = c.in_err-resize.ensures in
     let less : c.len-size.result ≤ (g.C.ReadContents.stored c.args.content.now c.args.id).limit = omega (arith, is, h.agrees.within) in
+    let takes : TakesLen s w.size = record { unfailed = h.agrees.unfailed; sound = sound; fits = h.agrees.within } in
     let p = err_from_is_err_and c.from_residual.result c.from_residual.ensures.1 in
-    rw (p.1, p.2) (λ full. inl (e.foreseen h sound less full))
+    rw (p.1, p.2) (λ full.
+    let long = subst (λ (z : Error). IsBreak (g.C.Contents.is_too_long c.resize.new.content c.args.id c.len-size.result) z) full (e.refused h sound less).0 in
+    c.requires.fits h.told takes (subst (λ (n : ℕ). g.C.Contents.is_too_long c.args.content.now c.args.id n) is
+    (subst (λ content. g.C.Contents.is_too_long content c.args.id c.len-size.result) (e.foreseen h sound less full) long)))
 
 pub returns-in_err-resize_again-clause-refused : goal.returns-in_err-resize_again-clause-refused
 returns-in_err-resize_again-clause-refused g c = λ (h : IsReady g.C.ReadContents c.args.content.now c.args.id c.args.self.now) (sound : (g.C.ReadContents.stored c.args.content.now c.args.id).sound ≡ true)
@@ -68,9 +72,22 @@ returns-in_err-resize_again-clause-refused g c = λ (h : IsReady g.C.ReadContent
     rw (p.1, p.2) (lost_after _ w.size s t _ w v _ c.in_err-resize_again.field-0.0 k why.0 why.1)
 
 pub returns-in_err-resize_again-clause-foreseen : goal.returns-in_err-resize_again-clause-foreseen
-returns-in_err-resize_again-clause-foreseen g c = λ h sound fits.
+returns-in_err-resize_again-clause-foreseen g c = λ (h : IsReady g.C.ReadContents c.args.content.now c.args.id c.args.self.now) (sound : (g.C.ReadContents.stored c.args.content.now c.args.id).sound ≡ true)
+    (fits : c.args.len ≤ (g.C.ReadContents.stored c.args.content.now c.args.id).limit).
+    let s = g.C.ReadContents.stored c.args.content.now c.args.id in
+    let t = g.C.ReadContents.stored c.resize.new.content c.args.id in
+    let w = c.args.self.now in
+    let v = c.resize.new.self in
+    let is = c.len-size.ensures.value in
+    let e = c.in_ok-resize.ensures in
+    let less : c.len-size.result ≤ s.limit = omega (arith, is, h.agrees.within) in
+    let k = subst (λ (n : ℕ). Resized n s w t v) is (e.ok h sound less) in
+    let r : IsReady g.C.ReadContents c.resize.new.content c.args.id v = record { told = (e.writes.around h.told).told; agrees = k.agrees } in
+    let takes : TakesLen s c.args.len = record { unfailed = h.agrees.unfailed; sound = sound; fits = fits } in
+    let out : TakesLen s c.len-size.result = record { unfailed = h.agrees.unfailed; sound = sound; fits = less } in
+    let left = e.leaves_room h.told out (omega (arith, is, c.requires.behind)) c.args.len (omega (arith, is, c.requires.longer)) in
     let p = err_from_is_err_and c.from_residual-in_err-resize_again.result c.from_residual-in_err-resize_again.ensures.1 in
-    rw (p.1, p.2) (λ full. inr c.in_err-resize_again.ensures.lost)
+    rw (p.1, p.2) (c.in_err-resize_again.ensures.fits r (k.sound ∙ sound) (omega (arith, k.limit, fits)) (λ long. c.requires.longer_fits h.told takes (left long)))
 
 pub returns-in_err-resize-clause-between : goal.returns-in_err-resize-clause-between
 returns-in_err-resize-clause-between g c = λ told. once_between g.C.ReadContents g.C.Contents g.met.C.Contents.still_is_tight _ _ _ _ _ told (c.in_err-resize.ensures.writes.around told)

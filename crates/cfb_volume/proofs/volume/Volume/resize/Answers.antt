@@ -214,3 +214,13 @@ returns-clause-erased g c told held =
     let sound = subst (λ (f : FileState). IsChangeable Permissive f.base) (sym c.self.view_is) (held.sound c.requires.sound) in
     subst (λ (m : MiniState). ErasesMinis old.base m i) (sym c.end_change.ensures)
     (subst (λ (f : FileState). ErasesMinis f.base mid i) c.self.view_is ((c.in_ok-resize_content.ensures.content told).erased Permissive sound))
+
+-- what it took leaves room for each longer length that there was room for
+pub returns-clause-leaves_room : goal.returns-clause-leaves_room
+returns-clause-leaves_room g c told held longer more within =
+    let mid = c.resize_content.new.mini in
+    let i = c.args.entry in
+    let sound = subst (λ (f : FileState). IsChangeable Permissive f.base) (sym c.self.view_is) (held.sound c.requires.sound) in
+    subst (λ (m : MiniState). IsTooLongFor m i more → IsTooLongFor c.args.self.now.base i more) (sym c.end_change.ensures)
+    (subst (λ (f : FileState). len_of f.base i ≤ c.args.len → IsTooLongFor mid i more → IsTooLongFor f.base i more) c.self.view_is
+    (λ longer'. (c.in_ok-resize_content.ensures.content told).leaves_room Permissive sound longer' more within) longer)

@@ -1,0 +1,4 @@
+pub mod Values
+pub mod Closed
+pub mod Pieces
+pub mod Told

@@ -1,0 +1,57 @@
+use Rattle.std.proofs.Common.{◌≡◌, ◌∙◌, ◌+◌, ◌-◌, ℕ, arith, length, refl, subst, take}
+use Rattle.std.proofs.lemmas.Grind.{common_steps}
+use borrow.Rule.Slice.PartMut.{take_put}
+use Rattle.cfb_commands.specs.cfb_compound_file.ReadStreams.{open_of}
+use Rattle.cfb_commands.specs.cfb_compound_file.StreamAnswers.{causes_of_reading, stream_in}
+use Rattle.cfb_c.specs.Pieces.{StandsIn}
+use Rattle.cfb_c.proofs.Pieces.{begun, ends_there, piece_in, put_behind, room_behind, sought_in, stands_on}
+use Rattle.cfb_c.proofs.streams.fill_from.Goals as goal
+
+pub loop-count-init : goal.loop-count-init
+loop-count-init c =
+    let old = c.args.stream.now in
+    let new = c.seek.new.self in
+    record {
+      same_file = c.seek.ensures.answers.same_file;
+      kept = c.seek.ensures.answers.stays.kept refl;
+      inside = omega arith;
+      stands = subst (λ (k : ℕ). StandsIn (stream_in (open_of old)) k (stream_in (open_of new))) (omega arith)
+          (sought_in (causes_of_reading old.file.now new.file.now) (open_of old) (open_of new) c.args.at _ (c.in_ok-seek.ensures.answers.answer.rules refl));
+      read = begun (stream_in (open_of old)) c.args.at c.args.into.now;
+    }
+
+pub returns-then-more-eq0-clause-reads : goal.returns-then-more-eq0-clause-reads
+returns-then-more-eq0-clause-reads c =
+    let l = c.loop-count in
+    let old = l.stream in
+    let new = c.read.new.self in
+    let first = stream_in (open_of c.args.stream.now) in
+    let more = c.in_ok-more.more in
+    let slice = c.read.new.into in
+    let fits = c.in_ok-more.ensures.into.most in
+    let piece = piece_in (causes_of_reading old.file.now new.file.now) (open_of old) (open_of new) _ (take more slice) (c.in_ok-more.ensures.answers.answer.rules refl) in
+    let room = room_behind first (stream_in (open_of old)) (stream_in (open_of new)) c.args.at l.count _ more l.into slice l.invariant.stands piece fits (length l.into - l.count) l.invariant.inside in
+    record {
+      most = omega (arith, room);
+      read = record { bytes = take_put l.count _ l.into slice l.invariant.inside ∙ l.invariant.read.bytes; inside = l.invariant.read.inside };
+      end = λ _. ends_there first (stream_in (open_of old)) (stream_in (open_of new)) c.args.at l.count _ more l.into slice l.invariant.stands piece fits
+          (grind (arith, c.if-more-eq0.true)) (grind (arith, common_steps, c.loop-count-test.true));
+    }
+
+pub loop-count-preserved : goal.loop-count-preserved
+loop-count-preserved c =
+    let l = c.loop-count in
+    let old = l.stream in
+    let new = c.read.new.self in
+    let first = stream_in (open_of c.args.stream.now) in
+    let more = c.in_ok-more.more in
+    let slice = c.read.new.into in
+    let fits = c.in_ok-more.ensures.into.most in
+    let piece = piece_in (causes_of_reading old.file.now new.file.now) (open_of old) (open_of new) _ (take more slice) (c.in_ok-more.ensures.answers.answer.rules refl) in
+    record {
+      same_file = c.read.ensures.answers.same_file ∙ l.invariant.same_file;
+      kept = c.read.ensures.answers.stays.kept refl ∙ l.invariant.kept;
+      inside = room_behind first (stream_in (open_of old)) (stream_in (open_of new)) c.args.at l.count _ more l.into slice l.invariant.stands piece fits _ l.invariant.inside;
+      stands = stands_on first (stream_in (open_of old)) (stream_in (open_of new)) c.args.at l.count _ more l.into slice l.invariant.stands piece fits;
+      read = put_behind first (stream_in (open_of old)) (stream_in (open_of new)) c.args.at l.count _ more l.into slice l.invariant.stands piece fits _ l.invariant.read l.invariant.inside;
+    }

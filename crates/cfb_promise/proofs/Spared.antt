@@ -1,0 +1,120 @@
+-- What a step leaves alone: the bytes of the streams that it is not about, those of the header that speak of no table, and all but an open stream's content.
+use Rattle.std.proofs.Common.{◌≡◌, ◌≢◌, ◌≤◌, ◌<◌, ◌+◌, ◌/◌, ◌%◌, ◌∙◌, ℕ, suc, List, [], Bool, true, false, refl, sym, ap, subst, arith, length, mod-lt}
+use Rattle.std.specs.Prelude.{Contains, Option, Some, None, if◌then◌else◌, option_and_then, slice_get, slice_index, unwrap_or}
+use Rattle.std.proofs.lemmas.Option.{get_or_from_slice_get, none-some, slice_get_within}
+use Rattle.cfb_format.specs.declared.error.Error.{Error}
+use Rattle.cfb_format.specs.declared.medium.MediumFault.{MediumFault}
+use Rattle.cfb_format.specs.Bytes.{byte_at, sector_len, sector_start}
+use Rattle.cfb_format.specs.Content.{is_large, mini_chain, mini_sector_len, place_in_chain, place_in_mini_chain, place_in_stream, sector_chain}
+use Rattle.cfb_format.specs.DirectoryEntry.{Entry}
+use Rattle.cfb_format.specs.Reading.{IsOutline, Outline, stream_numbers}
+use Rattle.cfb_format.specs.Siblings.{entry_at}
+use Rattle.cfb_format.proofs.Along.{next_start}
+use Rattle.cfb_rules.specs.Calls.{Call, Reply, done, entries, flag, one_entry, refused}
+use Rattle.cfb_rules.specs.Steps.{CallKind, asking, asking_freely, changing, creating, emptying, flushing, kind_of, opening, opening_to_read}
+use Rattle.cfb_sectors.specs.Sectors.{SectorStays}
+use Rattle.cfb_sectors.specs.Words.{RangeStays}
+use Rattle.cfb_content.specs.cfb_soundness.Layout.{LiesInPieces}
+use Rattle.cfb_content.specs.cfb_soundness.Places.{mini_start}
+use Rattle.cfb_content.proofs.cfb_soundness.Layouts.{large-lies, small-lies}
+use Rattle.cfb_content.specs.Contents.{KeepsContent, KeepsFixedHeader}
+use Rattle.cfb_content.proofs.Readable.{lies, mini-room}
+use Rattle.cfb_content.proofs.Kept.{nothing-is-moved}
+use Rattle.cfb_mini_sectors.specs.State.{HoldsMiniStream, MiniState, bytes_of, cases_of, entries_of, mini_place, parts_of, version_of}
+use Rattle.cfb_agreement.specs.Files.{FileState}
+use Rattle.cfb_path_changes.specs.Sparing.{SparesStreams}
+use Rattle.cfb_commands.specs.Promised.{CallKeeps, Changes, IsAnswered, IsKeptBy}
+use Rattle.cfb_commands.proofs.CallSteps.{in_turn}
+
+-- ---- a stream that was kept
+
+module _ (old new : MiniState) (e : Entry) (held : HoldsMiniStream old) (keeps : KeepsContent old new e) where
+  -- the place of a byte lies in one of its pieces, whose bytes stay
+  in_pieces : (len : ℕ) (start : ℕ → ℕ) (list : List ℕ) → LiesInPieces (parts_of old) e len start list
+      → ((i : ℕ) → Contains list i → RangeStays (start i) (start i + len) (bytes_of old) (bytes_of new))
+      → (j at : ℕ) → place_in_stream (bytes_of old) (parts_of old) e j ≡ Some at → byte_at (bytes_of new) at ≡ byte_at (bytes_of old) at
+  in_pieces len start list p stays j at is =
+      let l = lies len start (bytes_of old) list j at (sym (p.places (bytes_of old) j) ∙ is) in
+      let i = l.0 in
+      let member : Contains list i = (j / len, slice_get_within list (j / len) i l.1, get_or_from_slice_get list (j / len) i i l.1) in
+      let small : j % len < len = mod-lt j p.some in
+      let here : at ≡ start i + j % len = l.2 in
+      (stays i member).each at l.3 (omega (arith, here)) (omega (arith, here, small))
+
+  in_sectors : is_large e ≡ true → (list : List ℕ) → sector_chain (parts_of old) e ≡ Some list
+      → (j at : ℕ) → place_in_stream (bytes_of old) (parts_of old) e j ≡ Some at → byte_at (bytes_of new) at ≡ byte_at (bytes_of old) at
+  unfolding SectorStays
+  in_sectors large list chain = in_pieces (sector_len (version_of old)) (sector_start (version_of old)) list
+      (large-lies (parts_of old) e list (record { large = large; chain = chain }))
+      (λ i m. subst (λ (to : ℕ). RangeStays (sector_start (version_of old) i) to (bytes_of old) (bytes_of new)) (next_start (version_of old) i)
+      (keeps.sectors large i (subst (λ (w : Option (List ℕ)). Contains (unwrap_or w []) i) (sym chain) m)))
+
+  in_mini_sectors : is_large e ≡ false → (list : List ℕ) → mini_chain (parts_of old) e ≡ Some list
+      → (j at : ℕ) → place_in_stream (bytes_of old) (parts_of old) e j ≡ Some at → byte_at (bytes_of new) at ≡ byte_at (bytes_of old) at
+  in_mini_sectors small list chain = in_pieces mini_sector_len (mini_start (version_of old) held.sectors) list
+      (small-lies (parts_of old) e held.sectors list (record { small = small; mini_stream = held.chain; chain = chain; room = mini-room old held e list chain }))
+      (λ m at.
+      let here : mini_place old m ≡ mini_start (version_of old) held.sectors m = ap (λ (w : Option (List ℕ)). mini_start (version_of old) (unwrap_or w []) m) held.kept in
+      subst (λ (p : ℕ). RangeStays p (p + 64) (bytes_of old) (bytes_of new)) here
+      (keeps.mini_sectors small m (subst (λ (w : Option (List ℕ)). Contains (unwrap_or w []) m) (sym chain) at)))
+
+  -- each of its bytes stays where it stands
+  pub stays_in_place : (j at : ℕ) → place_in_stream (bytes_of old) (parts_of old) e j ≡ Some at → byte_at (bytes_of new) at ≡ byte_at (bytes_of old) at
+  stays_in_place j at is = go (is_large e) refl
+    where
+      along : (b : Bool) → is_large e ≡ b → place_in_stream (bytes_of old) (parts_of old) e j
+          ≡ (if b then option_and_then (λ list. place_in_chain (version_of old) (bytes_of old) list j) (sector_chain (parts_of old) e)
+          else option_and_then (λ list. place_in_mini_chain (bytes_of old) (parts_of old) list j) (mini_chain (parts_of old) e))
+      along b is = λ k. if is k then option_and_then (λ list. place_in_chain (version_of old) (bytes_of old) list j) (sector_chain (parts_of old) e)
+          else option_and_then (λ list. place_in_mini_chain (bytes_of old) (parts_of old) list j) (mini_chain (parts_of old) e)
+
+      large : is_large e ≡ true → (o : Option (List ℕ)) → sector_chain (parts_of old) e ≡ o
+          → option_and_then (λ list. place_in_chain (version_of old) (bytes_of old) list j) o ≡ Some at → byte_at (bytes_of new) at ≡ byte_at (bytes_of old) at
+      large b None chain w = absurd (none-some at w)
+      large b (Some list) chain w = in_sectors b list chain j at is
+
+      small : is_large e ≡ false → (o : Option (List ℕ)) → mini_chain (parts_of old) e ≡ o
+          → option_and_then (λ list. place_in_mini_chain (bytes_of old) (parts_of old) list j) o ≡ Some at → byte_at (bytes_of new) at ≡ byte_at (bytes_of old) at
+      small b None chain w = absurd (none-some at w)
+      small b (Some list) chain w = in_mini_sectors b list chain j at is
+
+      go : (b : Bool) → is_large e ≡ b → byte_at (bytes_of new) at ≡ byte_at (bytes_of old) at
+      go true b = large b (sector_chain (parts_of old) e) refl (sym (along true b) ∙ is)
+      go false b = small b (mini_chain (parts_of old) e) refl (sym (along false b) ∙ is)
+
+-- ---- calls by path
+
+-- what each call by path leaves alone, whether it was done or refused
+pub record LeavesAlone (old : FileState) (call : Call) (new : FileState) : Type 0 where
+  pub spares : SparesStreams old call new
+  pub header : KeepsFixedHeader old.base new.base
+
+nothing_changed : (file : FileState) (call : Call) → LeavesAlone file call file
+nothing_changed file call = record {
+  spares = λ o is k m out. nothing-is-moved (suc k) file.base o is k m (λ e. omega (arith, e));
+  header = record { no_shorter = omega arith; bytes = λ i lt fixed. refl };
+}
+
+module _ (can_give : MediumFault → Bool) (old : FileState) (call : Call) (new : FileState) where
+  same_leaves : new ≡ old → LeavesAlone old call new
+  same_leaves same = subst (λ (f : FileState). LeavesAlone old call f) (sym same) (nothing_changed old call)
+
+  change_leaves : (reply : Reply) → Changes can_give old call reply new → LeavesAlone old call new
+  change_leaves done k = record { spares = k.spares; header = k.order.header }
+  change_leaves (refused refusal) (e, is, why) = let k = in_turn can_give old call new e why in record { spares = k.spares; header = k.order.header }
+  change_leaves (flag b) k = absurd k
+  change_leaves (one_entry e) k = absurd k
+  change_leaves (entries es) k = absurd k
+
+  leaves_by : (kind : CallKind) (reply : Reply) → IsKeptBy can_give kind old call reply new → LeavesAlone old call new
+  leaves_by creating reply k = change_leaves reply k
+  leaves_by emptying reply k = change_leaves reply k
+  leaves_by changing reply k = change_leaves reply k
+  leaves_by flushing reply k = change_leaves reply k.changes
+  leaves_by opening reply k = same_leaves k.same
+  leaves_by opening_to_read reply k = same_leaves k.same
+  leaves_by asking reply k = same_leaves k.same
+  leaves_by asking_freely reply k = same_leaves k.same
+
+  pub call_leaves : (reply : Reply) → CallKeeps can_give old call reply new → LeavesAlone old call new
+  call_leaves reply k = leaves_by (kind_of call) reply k
