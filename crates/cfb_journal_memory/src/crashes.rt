@@ -282,6 +282,17 @@ fn read_all<D: Disk>(
     Ok(Some(bytes))
 }
 
+fn is_read<D: Disk>(
+    alloc: Global,
+    medium: &mut JournaledMedium<D>,
+    model: &[u8],
+) -> Result<bool, AllocError> {
+    match read_all(alloc, medium)? {
+        Some(bytes) => Ok(bytes.as_slice() == model),
+        None => Ok(false),
+    }
+}
+
 /// How a run ended: the disk, how many flushes went well, and whether it stopped in one.
 #[derive(Drop)]
 struct Run {
@@ -342,10 +353,7 @@ fn make_run(alloc: Global, start: &[u8], calls: u64) -> Result<Option<Run>, Allo
             put_at(&mut model, at as usize, &bytes)?;
         }
         if calls == u64::MAX {
-            match read_all(alloc, &mut medium)? {
-                Some(bytes) => right = right && bytes.as_slice() == model.as_slice(),
-                None => right = false,
-            }
+            right = right && is_read(alloc, &mut medium, &model)?;
         }
     }
     let disk = medium.into_disk();

@@ -26,7 +26,7 @@ pub(super) fn read_input<R: Read>(alloc: Global, input: &mut R) -> Result<Vec<u8
     }
 }
 
-/// One change.
+/// One change, or none where it is refused.
 pub(super) fn change_one<H: System, R: Read>(
     rt: &H,
     target: Target<'_>,
@@ -34,11 +34,8 @@ pub(super) fn change_one<H: System, R: Read>(
     input: &mut R,
 ) -> Result<(), Refusal> {
     let commands = vec![in rt.alloc(); command_of(rt.alloc(), one, input)?]?;
-    let told = run_commands(rt, target, commands.as_slice())?;
-    match told.refusals.first() {
-        Some((_, e)) => Err(Refusal::Of(*e)),
-        None => Ok(()),
-    }
+    run_commands(rt, target, commands.as_slice(), Refused::TakesBack)?;
+    Ok(())
 }
 
 /// `run`.
@@ -50,7 +47,7 @@ pub(super) fn run_input<H: System, R: Read, W: Write>(
 ) -> Result<(), Refusal> {
     let text = read_input(rt.alloc(), input)?;
     let commands = commands_of(rt.alloc(), text.as_slice())?;
-    let told = run_commands(rt, target, commands.as_slice())?;
+    let told = run_commands(rt, target, commands.as_slice(), Refused::IsTold)?;
     print_told(&told, out)
 }
 
@@ -64,7 +61,7 @@ pub(super) fn run_explained<H: System, R: Read, W: Output, E: Output>(
 ) -> Result<(), Refusal> {
     let text = read_input(rt.alloc(), input)?;
     let commands = explained_commands_of(rt.alloc(), text.as_slice(), faults)?;
-    let told = run_commands(rt, target, commands.as_slice())?;
+    let told = run_commands(rt, target, commands.as_slice(), Refused::IsTold)?;
     let printed = print_told(&told, out);
     let _ = explain(text.as_slice(), told.refusals.as_slice(), faults);
     printed
@@ -80,10 +77,20 @@ struct Told {
     is_done: bool,
 }
 
+/// What a refused command does to the change that it is part of.
+#[derive(Clone, Copy)]
+enum Refused {
+    /// It is told, and what else was done stays.
+    IsTold,
+    /// All is taken back: a command that was refused on the way may have written some bytes.
+    TakesBack,
+}
+
 fn run_commands<H: System>(
     rt: &H,
     target: Target<'_>,
     commands: &[Command],
+    refused: Refused,
 ) -> Result<Told, Refusal> {
     let mut told = Told {
         lines: room_for_lines(rt.alloc(), commands.len())?,
@@ -92,18 +99,19 @@ fn run_commands<H: System>(
     };
     let place = place_of(rt, target.path)?;
     let mut disk = to_change(rt, &place, target.syncs)?;
-    let done = play_whole(rt, LentDisk(&mut disk), commands, &mut told);
+    let done = play_whole(rt, LentDisk(&mut disk), commands, &mut told, refused);
     ended(rt, &place, disk, done)?;
     Ok(told)
 }
 
 /// Plays the commands, and makes their changes on the disk, unless one of them left the file failed:
-/// then there is no change at all.
+/// then there is no change at all. Nor is there one where a command is refused that takes back.
 fn play_whole<H: System, D: Disk>(
     rt: &H,
     disk: D,
     commands: &[Command],
     told: &mut Told,
+    refused: Refused,
 ) -> Result<(), Refusal>
     requires opened { IsTrue D.tells → IsOpened D.opened (D.view disk) }
     requires room { length told.old.lines.items + 3 * length commands.now ≤ vec_capacity told.old.lines }
@@ -114,6 +122,9 @@ fn play_whole<H: System, D: Disk>(
     let file = Lent(&mut medium);
     let lines = &mut told.lines;
     told.is_done = play_in(rt, file, commands, lines, &mut told.refusals)?;
+    if let (Refused::TakesBack, Some((_, e))) = (refused, told.refusals.first()) {
+        return Err(Refusal::Of(*e));
+    }
     committed(medium)
 }
 
