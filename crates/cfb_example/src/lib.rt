@@ -4,6 +4,10 @@
 #[cfg(test)]
 mod changes;
 #[cfg(test)]
+mod opening;
+#[cfg(test)]
+mod refusals;
+#[cfg(test)]
 mod tests;
 #[cfg(test)]
 mod tutorial;

@@ -2,9 +2,6 @@
 //! are listed at `tool`.
 #![tactic(auto)]
 
-#[cfg(test)]
-mod tests;
-
 use cfb_program::descriptors::hold_standard;
 use cfb_program::options::words_of;
 use cfb_program::words::tool;
