@@ -72,6 +72,20 @@ const CUT_IN_HEADER: &[Run<'static>] = &[(
     b"cfbtool: @f: too short for a compound file: ",
 )];
 
+/// Storages behind the root and the stream: the entries of `/d` and `/e` are the first two of sector 12, behind the stream.
+#[rattlefmt::skip]
+const STORAGES: &[Run<'static>] = &[
+    (&["mkdir", "@f", "/b"], b"", 0, b"", b""), (&["mkdir", "@f", "/c"], b"", 0, b"", b""),
+    (&["mkdir", "@f", "/d"], b"", 0, b"", b""), (&["mkdir", "@f", "/e"], b"", 0, b"", b""),
+];
+
+#[rattlefmt::skip]
+const CUT_IN_DIRECTORY: &[Run<'static>] = &[
+    (&["salvage", "@f", "@j"], b"", 1, b"kept\t1 of 1 streams\t5000 of 5000 bytes\nmissing\t1 objects or more\n", b""),
+    (&["ls", "@j"], b"", 0, b"d 0 /\nf 5000 /a\nd 0 /b\nd 0 /c\nd 0 /d\n", b""),
+    (&["check", "@j", "strict"], b"", 0, SOUND_3, b""),
+];
+
 #[rattlefmt::skip]
 static CUT: &[Step<'static>] = &[
     Content(5000), Runs(NEW_WITH_CONTENT),
@@ -80,8 +94,20 @@ static CUT: &[Step<'static>] = &[
     Damage(&[], 300), Runs(CUT_IN_HEADER), At("@i"), Absent,
 ];
 
+#[rattlefmt::skip]
+static CUT_TABLE: &[Step<'static>] = &[
+    Content(5000), Runs(NEW_WITH_CONTENT), Runs(STORAGES),
+    Damage(&[], 13 * 512 + 255), Note, Runs(CUT_IN_DIRECTORY), Stays,
+];
+
 /// Of a file that was cut short what is left is kept.
 #[test]
 fn cut_files_are_salvaged(rt: HostRuntime) -> Result<(), Fail> {
     play(&rt, CUT)
+}
+
+/// An entry that was cut off is lost, and that is told.
+#[test]
+fn cut_directories_are_salvaged(rt: HostRuntime) -> Result<(), Fail> {
+    play(&rt, CUT_TABLE)
 }
