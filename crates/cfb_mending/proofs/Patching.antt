@@ -1,5 +1,5 @@
 -- Bytes some of whose words are read as others, and zeros behind them: parts of them, and one byte after the other.
-use Rattle.std.proofs.Common.{◌≡◌, ◌<◌, ◌≤◌, ℕ, zero, suc, ◌+◌, List, [], ◌∷◌, ◌++◌, Bool, true, false, length, take, drop, get_or, min, max, replicate, inl, inr, refl, sym, ◌∙◌, ap, subst, arith, append_assoc, append-nil, drop-cons, length-append, length-drop, length-take, zero-add, add-one}
+use Rattle.std.proofs.Common.{◌≡◌, ◌<◌, ◌≤◌, ℕ, zero, suc, ◌+◌, ◌-◌, List, [], ◌∷◌, ◌++◌, Bool, true, false, length, take, drop, get_or, min, max, replicate, inl, inr, refl, sym, ◌∙◌, ap, subst, arith, append_assoc, append-nil, drop-cons, length-append, length-drop, length-take, zero-add, add-one}
 use Rattle.std.specs.Prelude.{◌&&◌, ◌⊎◌, nat_le, nat_lt, if◌then◌else◌, Result, Ok, Err, MatchResult}
 use Rattle.std.proofs.lemmas.Bool.{cases_lt, leb-true, ltb-true}
 use Rattle.std.proofs.lemmas.List.{drop-append-le, drop-replicate, drop_all, length-replicate, take-append-le, take-replicate, take_all, take_more}
@@ -144,11 +144,11 @@ reads-mended can patches bytes old new at served into n r most is =
 
 pub padded-length : (least : ℕ) (bytes : List ℕ) → length (padded least bytes) ≡ max (length bytes) least
 padded-length least bytes =
-    length-append bytes (replicate (least - length bytes) 0) ∙ omega (arith, length-replicate (least - length bytes) 0)
+    length-append bytes (replicate (least - length bytes) 0) ∙ omega (arith, length-replicate {A = ℕ} (least - length bytes) 0)
 
 padded-inside : (least : ℕ) (bytes : List ℕ) (at n : ℕ) → at + n ≤ length bytes → part (padded least bytes) at n ≡ part bytes at n
 padded-inside least bytes at n inside =
-    let zeros = replicate (least - length bytes) 0 in
+    let zeros : List ℕ = replicate (least - length bytes) 0 in
     ap (λ (l : List ℕ). take n l) (drop-append-le at bytes zeros (omega (arith, inside))) ∙ take-append-le n (drop at bytes) zeros (omega (arith, inside, length-drop at bytes))
 
 padded-behind : (least : ℕ) (bytes : List ℕ) (at n : ℕ) → length bytes ≤ at → at + n ≤ least → part (padded least bytes) at n ≡ replicate n 0

@@ -90,19 +90,34 @@ impl<F: ReadMedium, A: Heap + Clone> Scan<F, A> {
             tables.now.fat.items self.new.patches.items) }
     {
         let version = tables.bounds.version;
-        let words = words_in(version);
         let loaded = load(&mut self.medium, tables.bounds, sector, WORD_LEN)?;
-        for index in 0..words {
-            let word = loaded.word(index);
-            let at = place_in(version, sector, index);
-            let is_past_end = tables.bounds.sectors <= first.saturating_add(index as u64);
-            let is_there = loaded.has(index);
-            if is_past_end && !(is_there && is_padding(word)) {
+        let there = tables.bounds.sectors.saturating_sub(first);
+        let there = there.min(words_in(version) as u64) as usize;
+        for index in 0..there {
+            self.mark(version, sector, index, fat_mark(tables, &loaded, index))?;
+        }
+        self.free_behind(version, sector, there, &loaded)
+    }
+
+    /// Frees the words of a FAT sector from the first of these on that says something of a sector past the end, or is missing.
+    fn free_behind(
+        &mut self,
+        version: Version,
+        sector: u32,
+        from: usize,
+        loaded: &Loaded,
+    ) -> Result<(), Error>
+        ensures same { self.new.medium ≡ self.old.medium }
+        ensures mends { (bytes fat : List ℕ) → IsTableSector version bytes fat sector
+            → AreInTables version bytes fat self.old.patches.items
+            → OnOk result (AreInTables version bytes fat self.new.patches.items) }
+    {
+        let words = words_in(version);
+        for index in from..words {
+            if !loaded.has(index) || !is_padding(loaded.word(index)) {
+                let at = place_in(version, sector, index);
                 self.set(at, place_in(version, sector, words), FREE_SECTOR)?;
-                break;
-            }
-            if !is_past_end && (!is_there || tables.is_missing(word)) {
-                self.set(at, at + 4, END_OF_CHAIN)?;
+                return Ok(());
             }
         }
         Ok(())
@@ -247,14 +262,12 @@ impl<F: ReadMedium, A: Heap + Clone> Scan<F, A> {
         let Some(cut) = bounds.cut() else {
             return Ok(());
         };
-        if is_among(directory, cut) {
-            let at = bounds.len - bounds.len % SLOT_LEN as u64;
-            self.set(
-                at,
-                place_in(bounds.version, cut, words_in(bounds.version)),
-                0,
-            )?;
+        if !is_among(directory, cut) {
+            return Ok(());
         }
+        let at = bounds.len - bounds.len % SLOT_LEN as u64;
+        let end = place_in(bounds.version, cut, words_in(bounds.version));
+        self.set(at, end, 0)?;
         Ok(())
     }
 
@@ -351,6 +364,17 @@ impl<F: ReadMedium, A: Heap + Clone> Scan<F, A> {
             return Ok(end);
         }
         Ok(0)
+    }
+}
+
+/// What a word of the FAT is read as: a chain ends that goes on where it says nothing, or whose word is missing.
+fn fat_mark<A: Heap>(tables: &Tables<A>, loaded: &Loaded, index: usize) -> Option<u32>
+    ensures { IfSome result IsMark }
+{
+    if !loaded.has(index) || tables.is_missing(loaded.word(index)) {
+        Some(END_OF_CHAIN)
+    } else {
+        None
     }
 }
 
