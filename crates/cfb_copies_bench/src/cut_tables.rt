@@ -56,7 +56,10 @@ const LEFT: [usize; 19] = [1, 3, 4, 7, 8, 27, 28, 40, 87, 88, 100, 127, 128, 255
 
 /// Sets these bytes, from a place on.
 fn set(bytes: &mut [u8], at: usize, from: &[u8]) {
-    for (byte, other) in bytes.iter_mut().skip(at).zip(from) {
+    let Some(rest) = bytes.get_mut(at..) else {
+        return;
+    };
+    for (byte, other) in rest.iter_mut().zip(from) {
         *byte = *other;
     }
 }
@@ -238,11 +241,11 @@ impl Last {
         told
     }
 
-    /// Whether that is salvaged, and a link is told to be lost where an entry is, if so much is left of the last sector.
-    fn is_salvaged(self, alloc: Global, left: usize) -> Result<bool, Fail> {
-        let mut bytes = self.layout().bytes(alloc)?;
-        bytes.truncate(LAST_AT.saturating_add(left));
-        let medium = mended(alloc, MemoryMedium::from_bytes(bytes))?;
+    /// Whether that is salvaged, and a link is told to be lost where an entry is, if so much is left of the last sector of a file.
+    fn is_salvaged(self, alloc: Global, bytes: &[u8], left: usize) -> Result<bool, Fail> {
+        let first = bytes.get(..LAST_AT.saturating_add(left)).unwrap_or(bytes);
+        let medium = MemoryMedium::from_bytes(Vec::from_slice(alloc, first)?);
+        let medium = mended(alloc, medium)?;
         let lost = medium.lost;
         let mut file = CompoundFile::open(alloc, medium)?;
         let Salvaged { file, extents } = file.salvage_to(MemoryMedium::new(alloc))?;
@@ -258,8 +261,12 @@ impl Last {
 #[test]
 fn files_cut_inside_a_table_are_salvaged(rt: HostRuntime) -> Result<(), Fail> {
     for last in [Last::Directory, Last::MiniFat, Last::Fat] {
+        let bytes = last.layout().bytes(rt.alloc())?;
         for left in LEFT {
-            assert!(rt; last.is_salvaged(rt.alloc(), left)?, "{last:?}, {left}");
+            assert!(rt;
+                last.is_salvaged(rt.alloc(), &bytes, left)?,
+                "{last:?}, {left}"
+            );
         }
     }
     Ok(())

@@ -1,6 +1,6 @@
 -- Bytes some of whose words are read as others, and zeros behind them: parts of them, and one byte after the other.
 use Rattle.std.proofs.Common.{◌≡◌, ◌<◌, ◌≤◌, ℕ, zero, suc, ◌+◌, ◌-◌, List, [], ◌∷◌, ◌++◌, Bool, true, false, length, take, drop, get_or, min, max, replicate, inl, inr, refl, sym, ◌∙◌, ap, subst, arith, append_assoc, append-nil, drop-cons, length-append, length-drop, length-take, zero-add, add-one}
-use Rattle.std.specs.Prelude.{◌&&◌, ◌⊎◌, nat_le, nat_lt, if◌then◌else◌, Result, Ok, Err, MatchResult}
+use Rattle.std.specs.Prelude.{◌&&◌, ◌⊎◌, nat_le, nat_lt, if◌then◌else◌}
 use Rattle.std.proofs.lemmas.Bool.{cases_lt, leb-true, ltb-true}
 use Rattle.std.proofs.lemmas.List.{drop-append-le, drop-replicate, drop_all, length-replicate, take-append-le, take-replicate, take_all, take_more}
 use Rattle.std.proofs.Math.ListN.{set}

@@ -1,4 +1,4 @@
-use Rattle.std.proofs.Common.{refl, ◌∙◌}
+use Rattle.std.proofs.Common.{refl}
 use Rattle.std.proofs.lemmas.List.Elements.{All-same}
 use Rattle.cfb_mending.specs.Tables.{IsInTables}
 use Rattle.cfb_mending.proofs.InTables.{directory-tables, sectors-moved}
