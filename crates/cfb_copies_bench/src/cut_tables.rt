@@ -42,7 +42,7 @@ const FAT_LAST: Layout = Layout {
 const LAST_AT: usize = 25 * 512;
 
 /// Where each stream starts, in how many sectors of which length, and how long it is.
-const STREAMS: [(usize, usize, usize, u64); 5] = [
+const STREAMS: [(u32, usize, usize, u64); 5] = [
     (0, 10, 512, 5000),
     (10, 10, 512, 5000),
     (0, 2, 64, 100),
@@ -73,6 +73,12 @@ fn start_of(sector: u32) -> usize {
     (sector as usize).saturating_add(1).saturating_mul(512)
 }
 
+/// The fields that each header of version 3 has.
+fn set_version(bytes: &mut [u8]) {
+    set(bytes, 0, &[0xd0, 0xcf, 0x11, 0xe0, 0xa1, 0xb1, 0x1a, 0xe1]);
+    set(bytes, 24, &[0x3e, 0, 3, 0, 0xfe, 0xff, 9, 0, 6, 0]);
+}
+
 impl Layout {
     /// What the FAT says of a sector.
     fn fat_word(&self, sector: u32) -> u32 {
@@ -88,8 +94,7 @@ impl Layout {
     }
 
     fn set_header(&self, bytes: &mut [u8]) {
-        set(bytes, 0, &[0xd0, 0xcf, 0x11, 0xe0, 0xa1, 0xb1, 0x1a, 0xe1]);
-        set(bytes, 24, &[0x3e, 0, 3, 0, 0xfe, 0xff, 9, 0, 6, 0]);
+        set_version(bytes);
         let words = [
             (44, 1),
             (48, self.directory[0]),
@@ -120,25 +125,19 @@ impl Layout {
     /// The root, the streams, and entries that are none.
     fn set_directory(&self, bytes: &mut [u8]) {
         let [first, second] = self.directory;
-        let at = [start_of(first), start_of(second)];
-        set_entry(bytes, at[0], (b'R', 5), [FREE, 1], (20, 448));
+        set_entry(bytes, start_of(first), (b'R', 5), [FREE, 1], (20, 448));
         let mut name = b'a';
         let mut number = 1u32;
         for (start, _, _, len) in &STREAMS {
-            let sector = at[usize::from(4 <= number)];
+            let sector = if number < 4 { first } else { second };
             let slot = (number as usize % 4).saturating_mul(128);
-            let right = if number == 5 {
-                FREE
-            } else {
+            let right = if number < 5 {
                 number.saturating_add(1)
+            } else {
+                FREE
             };
-            set_entry(
-                bytes,
-                sector.saturating_add(slot),
-                (name, 2),
-                [right, FREE],
-                (*start as u32, *len),
-            );
+            let at = start_of(sector).saturating_add(slot);
+            set_entry(bytes, at, (name, 2), [right, FREE], (*start, *len));
             name = name.saturating_add(1);
             number = number.saturating_add(1);
         }
@@ -226,7 +225,7 @@ impl Last {
     /// How much of a stream is kept: its sectors up to the first whose word is missing, that one among them.
     fn kept(self, stream: usize, left: usize) -> Option<(u64, u64)> {
         let (start, count, sector_len, len) = STREAMS.get(stream)?;
-        let there = self.words(stream, left).saturating_sub(*start);
+        let there = self.words(stream, left).saturating_sub(*start as usize);
         let sectors = there.min(count.saturating_sub(1)).saturating_add(1);
         let kept = sectors.saturating_mul(*sector_len) as u64;
         Some((kept.min(*len), *len))
@@ -243,17 +242,28 @@ impl Last {
 
     /// Whether that is salvaged, and a link is told to be lost where an entry is, if so much is left of the last sector of a file.
     fn is_salvaged(self, alloc: Global, bytes: &[u8], left: usize) -> Result<bool, Fail> {
-        let first = bytes.get(..LAST_AT.saturating_add(left)).unwrap_or(bytes);
-        let medium = MemoryMedium::from_bytes(Vec::from_slice(alloc, first)?);
-        let medium = mended(alloc, medium)?;
-        let lost = medium.lost;
-        let mut file = CompoundFile::open(alloc, medium)?;
-        let Salvaged { file, extents } = file.salvage_to(MemoryMedium::new(alloc))?;
-        let mut copy = CompoundFile::open_strict(alloc, file.into_inner())?;
-        let is_right = copy.is_sound()
-            && are_beginnings(alloc, &mut copy, &numbered(alloc, 5000)?)?;
+        let Some((extents, lost)) = salvaged(alloc, bytes, LAST_AT.saturating_add(left))? else {
+            return Ok(false);
+        };
         let are_lost = lost == usize::from(self.streams(left) < 5);
-        Ok(is_right && are_lost && self.is_told(left, &extents))
+        Ok(are_lost && self.is_told(left, &extents))
+    }
+}
+
+/// What is told of the streams of the first bytes of a file, and how many links lead to none. None where the copy is not sound, or a stream
+/// of it is no beginning of what it was.
+fn salvaged(alloc: Global, bytes: &[u8], len: usize) -> Result<Option<(Vec<Extent>, usize)>, Fail> {
+    let first = bytes.get(..len).unwrap_or(bytes);
+    let medium = MemoryMedium::from_bytes(Vec::from_slice(alloc, first)?);
+    let medium = mended(alloc, medium)?;
+    let lost = medium.lost;
+    let mut file = CompoundFile::open(alloc, medium)?;
+    let Salvaged { file, extents } = file.salvage_to(MemoryMedium::new(alloc))?;
+    let mut copy = CompoundFile::open_strict(alloc, file.into_inner())?;
+    if copy.is_sound() && are_beginnings(alloc, &mut copy, &numbered(alloc, 5000)?)? {
+        Ok(Some((extents, lost)))
+    } else {
+        Ok(None)
     }
 }
 
@@ -268,6 +278,55 @@ fn files_cut_inside_a_table_are_salvaged(rt: HostRuntime) -> Result<(), Fail> {
                 "{last:?}, {left}"
             );
         }
+    }
+    Ok(())
+}
+
+/// The bytes of a file of version 3 that ends in a sector of the DIFAT, 121, which names the last of its FAT sectors, 1 to 110. Sector 0
+/// is the directory, and 111 to 120 have the 5000 bytes of `/a`.
+fn with_difat(alloc: Global) -> Result<Vec<u8>, Fail> {
+    let mut bytes = vec![in alloc; 0xffu8; 123 * 512]?;
+    set(&mut bytes, 0, &[0; 76]);
+    set_version(&mut bytes);
+    for (at, word) in &[(44, 110), (56, 4096), (60, END), (68, 121), (72, 1)] {
+        set_word(&mut bytes, *at, *word);
+    }
+    for sector in 0u32..122 {
+        let word = match sector {
+            0 | 120 => END,
+            121 => 0xffff_fffc,
+            _ if sector < 111 => 0xffff_fffd,
+            _ => sector.saturating_add(1),
+        };
+        let behind = (sector as usize).saturating_mul(4);
+        set_word(&mut bytes, start_of(1).saturating_add(behind), word);
+        if 0 < sector && sector < 110 {
+            set_word(&mut bytes, behind.saturating_add(72), sector);
+        }
+    }
+    set_word(&mut bytes, start_of(121), 110);
+    set_word(&mut bytes, 123 * 512 - 4, END);
+    set(&mut bytes, 512, &[0; 512]);
+    set_entry(&mut bytes, 512, (b'R', 5), [FREE, 1], (END, 0));
+    set_entry(&mut bytes, 512 + 128, (b'a', 2), [FREE, FREE], (111, 5000));
+    set(&mut bytes, start_of(111), &numbered(alloc, 5000)?);
+    Ok(bytes)
+}
+
+/// The FAT sectors that the header names say all of this file, whatever is missing of the DIFAT.
+#[test]
+fn a_file_cut_inside_the_difat_is_salvaged(rt: HostRuntime) -> Result<(), Fail> {
+    let bytes = with_difat(rt.alloc())?;
+    for left in [1usize, 3, 4, 508, 511, 512] {
+        let Some((extents, lost)) = salvaged(rt.alloc(), &bytes, left.saturating_add(122 * 512))?
+        else {
+            assert!(rt; false, "{left}");
+            return Ok(());
+        };
+        let are_whole = extents
+            .iter()
+            .all(|extent| extent.kept == 5000 && extent.len == 5000);
+        assert!(rt; are_whole && extents.len() == 1 && lost == 0, "{left}");
     }
     Ok(())
 }
