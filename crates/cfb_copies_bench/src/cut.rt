@@ -18,7 +18,7 @@ struct Found {
 }
 
 /// All bytes of each stream of a copy, where each is to be a beginning of the numbered bytes.
-fn are_beginnings(
+pub fn are_beginnings(
     alloc: Global,
     copy: &mut CompoundFile<MemoryMedium>,
     numbers: &[u8],

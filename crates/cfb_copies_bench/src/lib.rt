@@ -6,6 +6,8 @@ mod copying;
 #[cfg(test)]
 mod cut;
 #[cfg(test)]
+mod cut_tables;
+#[cfg(test)]
 mod extracting;
 #[cfg(test)]
 mod faults;

@@ -1,18 +1,19 @@
 -- What is read otherwise are words of tables: links of chains, and the words of a sector.
-use Rattle.std.proofs.Common.{◌≡◌, ◌<◌, ◌≤◌, ℕ, suc, ◌+◌, ◌-◌, ◌*◌, ◌/◌, ◌%◌, ◌^◌, List, [], ◌∷◌, ◌++◌, drop, get_or-take, inl, inr, refl, sym, ◌∙◌, ap, subst, arith, zero}
-use Rattle.std.specs.Prelude.{◌⊎◌, Bool, true, false, Option, Some, None, slice_get, option_and_then, if◌then◌else◌}
+use Rattle.std.proofs.Common.{◌≡◌, ◌<◌, ◌≤◌, ℕ, suc, ◌+◌, ◌-◌, ◌*◌, ◌/◌, ◌%◌, ◌^◌, List, [], ◌∷◌, ◌++◌, drop, get_or, get_or-take, inl, inr, refl, sym, ◌∙◌, ap, subst, arith, zero, length}
+use Rattle.std.specs.Prelude.{◌⊎◌, Bool, true, false, Option, Some, None, slice_get, option_and_then, nat_eq, if◌then◌else◌}
 use Rattle.std.specs.Option.{option_map}
-use Rattle.std.specs.List.{All, Contains}
+use Rattle.std.specs.List.{All, Contains, IsAnyAnswer}
+use Rattle.std.proofs.lemmas.Bool.{eqb-true}
 use Rattle.std.proofs.lemmas.List.Elements.{All-push, All-same, All-weaker}
 use Rattle.std.proofs.lemmas.Option.{get_or_from_slice_get, option_and_then_some, slice_get_within}
 use Rattle.cfb_format.specs.declared.version.Version.{Version}
 use Rattle.cfb_format.specs.declared.version.Version.TheVariants.{V3, V4}
-use Rattle.cfb_format.specs.Bytes.{word_at, sector_start, words_per_sector, is_regular}
+use Rattle.cfb_format.specs.Bytes.{word_at, sector_len, sector_start, words_per_sector, is_regular}
 use Rattle.cfb_format.specs.Medium.{part}
 use Rattle.cfb_format.proofs.HeaderStart.{u32-same}
 use Rattle.cfb_format.proofs.Words.{four-words}
 use Rattle.cfb_mending.specs.declared.patches.Patch.{Patch}
-use Rattle.cfb_mending.specs.Tables.{AreInTables, IsChainLink, IsDifatEntry, IsDifatLink, IsDifatSector, IsFatSector, IsInTables, IsMark, IsOnChain, IsTablePlace, IsTableSector, chain_link, difat_link, directory_start, fat_place, link_in, minifat_start}
+use Rattle.cfb_mending.specs.Tables.{AreInTables, IsChainLink, IsDifatEntry, IsDifatLink, IsDifatSector, IsFatSector, IsInTables, IsMark, IsOnChain, IsPadded, IsTablePlace, IsTableSector, chain_link, difat_link, directory_start, fat_place, link_in, minifat_start}
 
 -- the four bytes from this place on are of tables
 abbrev pub IsWordOfTable : Version → List ℕ → List ℕ → ℕ → Type 0
@@ -39,7 +40,7 @@ tables-moved version b b' fat old new same step =
 -- a word of a table becomes a mark
 pub word-patch : (version : Version) (bytes fat : List ℕ) (at word : ℕ) → IsWordOfTable version bytes fat at → IsMark word
     → IsInTables version bytes fat (record { at = at; «end» = at + 4; word = word })
-word-patch version bytes fat at word inside mark = record { places = inside; mark = mark }
+word-patch version bytes fat at word inside mark = record { places = inside; word = inl mark }
 
 -- ---- sectors
 
@@ -64,7 +65,41 @@ pub rest-patch : (version : Version) (bytes fat : List ℕ) (s index at upto wor
     → IsInTables version bytes fat (record { at = at; «end» = upto; word = word })
 rest-patch version bytes fat s index at upto word table is ends mark = record {
   places = λ place from below. sector-place version bytes fat s place table (omega (arith, is, from)) (omega (arith, ends, below));
-  mark = mark;
+  word = inl mark;
+}
+
+-- zeros from the entry on that the end of the file cuts
+entry-start : (version : Version) (s n : ℕ) → sector_start version s < n → sector_start version s ≤ n - n % 128
+entry-start V3 s n below = omega (arith, below)
+entry-start V4 s n below = omega (arith, below)
+
+pub cut-patch : (version : Version) (bytes fat : List ℕ) (s at upto : ℕ) → IsOnChain version bytes fat directory_start s → sector_start version s < length bytes
+    → length bytes < sector_start version s + sector_len version → at ≡ length bytes - length bytes % 128 → upto ≡ sector_start version s + 4 * words_per_sector version
+    → IsInTables version bytes fat (record { at = at; «end» = upto; word = 0 })
+cut-patch version bytes fat s at upto on begun cut is ends =
+    let from : sector_start version s ≤ at = omega (arith, is, entry-start version s (length bytes) begun) in
+    record {
+      places = λ place low high. sector-place version bytes fat s place (inr (inr (inl on))) (omega (arith, from, low)) (omega (arith, ends, high));
+      word = inr (record {
+        sector = s;
+        directory = on;
+        inside = record { from = from; upto = omega (arith, is, cut) };
+        ends = omega (arith, ends, four-words version);
+        entry = omega (arith, is);
+        cut = omega (arith, is);
+        zeros = refl;
+      });
+    }
+
+-- up to the end of a sector that the end of the file cuts
+pub table-padded : (version : Version) (bytes fat : List ℕ) (s least : ℕ) → IsTableSector version bytes fat s → sector_start version s < length bytes
+    → length bytes < sector_start version s + sector_len version → least ≡ sector_start version s + 4 * words_per_sector version → IsPadded version bytes fat least
+table-padded version bytes fat s least table begun cut is = record {
+  sector = s;
+  table = table;
+  begun = begun;
+  cut = omega (arith, is, cut, four-words version);
+  ends = omega (arith, is, four-words version);
 }
 
 -- a word of the header
@@ -89,7 +124,7 @@ entries-patch version bytes fat from count index at upto word entries is ends ma
   places = λ place low high.
       let k = (place - from) / 4 in
       entry-word version bytes fat (from + 4 * k) (entries k (omega (arith, is, ends, low, high))) place (omega (arith, is, low)) (omega (arith, is, low));
-  mark = mark;
+  word = inl mark;
 }
 
 -- the link in a DIFAT sector
@@ -190,6 +225,12 @@ fat-moved version b b' old new same step = subst (λ (x : List ℕ). All (IsFatS
 
 -- ---- the sectors of a chain
 
+-- a step over the same bytes, along a chain
+pub chain-moved : (version : Version) (bytes fat : List ℕ) (start : ℕ) (b items now : List ℕ) → b ≡ bytes → now ≡ items → All (IsOnChain version b fat start) items
+    → All (IsOnChain version bytes fat start) now
+chain-moved version bytes fat start b items now same e all =
+    All-same (IsOnChain version bytes fat start) now items e (subst (λ (x : List ℕ). All (IsOnChain version x fat start) items) same all)
+
 chain-tables : (version : Version) (bytes fat : List ℕ) (start : ℕ) → ((s : ℕ) → IsOnChain version bytes fat start s → IsTableSector version bytes fat s) → (b items now : List ℕ)
     → b ≡ bytes → now ≡ items → All (IsOnChain version b fat start) items → All (IsTableSector version bytes fat) now
 chain-tables version bytes fat start is b items now same e all =
@@ -210,3 +251,23 @@ pub sectors-moved : (version : Version) (b b' fat now : List ℕ) (old new : Lis
     → All (IsTableSector version b' fat) now → AreInTables version b' fat old → AreInTables version b' fat new
 sectors-moved version b b' fat now old new same step =
     subst (λ (x : List ℕ). All (IsTableSector version x fat) now → AreInTables version x fat old → AreInTables version x fat new) same step
+
+-- the same of the directory in a file of this length
+pub directory-moved : (version : Version) (b b' fat now : List ℕ) (len : ℕ) (old new : List Patch) → b ≡ b'
+    → (len ≡ length b → All (IsOnChain version b fat directory_start) now → AreInTables version b fat old → AreInTables version b fat new) → len ≡ length b'
+    → All (IsOnChain version b' fat directory_start) now → AreInTables version b' fat old → AreInTables version b' fat new
+directory-moved version b b' fat now len old new same step =
+    subst (λ (x : List ℕ). len ≡ length x → All (IsOnChain version x fat directory_start) now → AreInTables version x fat old → AreInTables version x fat new) same step
+
+-- the same of what the file is read up to
+pub padding-moved : (version : Version) (b b' fat now now' : List ℕ) (len least : ℕ) → b ≡ b'
+    → (len ≡ length b → All (IsTableSector version b fat) now → All (IsTableSector version b fat) now' → (least ≡ 0) ⊎ IsPadded version b fat least) → len ≡ length b'
+    → All (IsTableSector version b' fat) now → All (IsTableSector version b' fat) now' → (least ≡ 0) ⊎ IsPadded version b' fat least
+padding-moved version b b' fat now now' len least same step =
+    subst (λ (x : List ℕ).
+    len ≡ length x → All (IsTableSector version x fat) now → All (IsTableSector version x fat) now' → (least ≡ 0) ⊎ IsPadded version x fat least) same step
+
+-- one of several sectors
+pub any-contains : (xs : List ℕ) (s : ℕ) (r : Bool) → IsAnyAnswer (λ (y : ℕ) (b : Bool). nat_eq y s ≡ b) xs r → r ≡ true → Contains xs s
+any-contains xs s true (k, below, holds) e = (k, below, eqb-true (get_or xs k s) s (holds s))
+any-contains xs s false h e = absurd (let w : false ≡ true = e in cc)

@@ -1,14 +1,15 @@
--- Bytes some of whose words are read as others: parts of them, and one byte after the other.
-use Rattle.std.proofs.Common.{◌≡◌, ◌<◌, ◌≤◌, ℕ, zero, suc, ◌+◌, List, [], ◌∷◌, ◌++◌, Bool, true, false, length, take, drop, get_or, min, inl, inr, refl, sym, ◌∙◌, ap, arith, append_assoc, append-nil, drop-cons, length-append, length-drop, length-take, zero-add, add-one}
-use Rattle.std.specs.Prelude.{◌&&◌, nat_le, nat_lt, if◌then◌else◌, Result, Ok, Err, MatchResult}
+-- Bytes some of whose words are read as others, and zeros behind them: parts of them, and one byte after the other.
+use Rattle.std.proofs.Common.{◌≡◌, ◌<◌, ◌≤◌, ℕ, zero, suc, ◌+◌, ◌-◌, List, [], ◌∷◌, ◌++◌, Bool, true, false, length, take, drop, get_or, min, max, replicate, inl, inr, refl, sym, ◌∙◌, ap, subst, arith, append_assoc, append-nil, drop-cons, length-append, length-drop, length-take, zero-add, add-one}
+use Rattle.std.specs.Prelude.{◌&&◌, ◌⊎◌, nat_le, nat_lt, if◌then◌else◌}
 use Rattle.std.proofs.lemmas.Bool.{cases_lt, leb-true, ltb-true}
-use Rattle.std.proofs.lemmas.List.{drop_all, take-append-le, take_all, take_more}
+use Rattle.std.proofs.lemmas.List.{drop-append-le, drop-replicate, drop_all, length-replicate, take-append-le, take-replicate, take_all, take_more}
 use Rattle.std.proofs.Math.ListN.{set}
-use Rattle.std.proofs.Math.Seq.{get_or-append_seam, set-append_seam}
+use Rattle.std.proofs.Math.Seq.{drop-append-add, get_or-append_seam, set-append_seam}
 use Rattle.cfb_format.specs.declared.medium.MediumFault.{MediumFault}
-use Rattle.cfb_format.specs.Medium.{ReadsAt, part}
+use Rattle.cfb_format.specs.declared.medium.MediumFault.TheVariants.{Stuck}
+use Rattle.cfb_format.specs.Medium.{FailsBy, ReadsAt, part}
 use Rattle.cfb_mending.specs.declared.patches.Patch.{Patch}
-use Rattle.cfb_mending.specs.Mended.{byte_with, bytes_with, mended, mended_from}
+use Rattle.cfb_mending.specs.Mended.{byte_with, bytes_with, mended, mended_from, padded}
 
 -- ---- one patch
 
@@ -70,7 +71,7 @@ pub mended-length : (patches : List Patch) (place : ℕ) (bytes : List ℕ) → 
 mended-length [] place bytes = refl
 mended-length (p ∷ patches) place bytes = mended-length patches place (bytes_with p place bytes) ∙ with-length p place bytes
 
-pub mended-part : (patches : List Patch) (bytes : List ℕ) (at n : ℕ) → part (mended patches bytes) at n ≡ mended_from patches at (part bytes at n)
+pub mended-part : (patches : List Patch) (bytes : List ℕ) (at n : ℕ) → part (mended_from patches 0 bytes) at n ≡ mended_from patches at (part bytes at n)
 mended-part [] bytes at n = refl
 mended-part (p ∷ patches) bytes at n = mended-part patches (bytes_with p 0 bytes) at n ∙ ap (λ (l : List ℕ). mended_from patches at l) (with-part p bytes at n)
 
@@ -122,10 +123,10 @@ all-patches patches place i now all past is = sym (ap (λ (ps : List Patch). men
 
 -- what a read gave is what lies there once it is patched
 pub reads-mended : (can : MediumFault → Bool) (patches : List Patch) (bytes : List ℕ) (old new at : ℕ) (served into : List ℕ) (n : ℕ) → ReadsAt can bytes old new at served n
-    → n ≤ length served → into ≡ mended_from patches at (take n served) ++ drop n served → ReadsAt can (mended patches bytes) old new at into n
+    → n ≤ length served → into ≡ mended_from patches at (take n served) ++ drop n served → ReadsAt can (mended_from patches 0 bytes) old new at into n
 reads-mended can patches bytes old new at served into n r most is =
     let first = mended_from patches at (take n served) in
-    let same : length (mended patches bytes) ≡ length bytes = mended-length patches 0 bytes in
+    let same : length (mended_from patches 0 bytes) ≡ length bytes = mended-length patches 0 bytes in
     let count : length first ≡ n = mended-length patches at (take n served) ∙ omega (arith, most, length-take n served) in
     let long : length into ≡ length served =
     ap (λ (l : List ℕ). length l) is ∙ length-append first (drop n served) ∙ omega (arith, count, most, length-drop n served) in
@@ -139,8 +140,83 @@ reads-mended can patches bytes old new at served into n r most is =
       stuck = λ none asked inside. r.stuck none (omega (arith, asked, long)) (omega (arith, inside, same));
     }
 
--- and the length is that of the file
-pub length-mended : (patches : List Patch) (bytes : List ℕ) (P : Type 0) (Q : MediumFault → Type 0) (r : Result ℕ MediumFault)
-    → MatchResult r (λ n. (n ≡ length bytes) × P) Q → MatchResult r (λ n. (n ≡ length (mended patches bytes)) × P) Q
-length-mended patches bytes P Q (Ok n) h = (h.0 ∙ sym (mended-length patches 0 bytes), h.1)
-length-mended patches bytes P Q (Err e) h = h
+-- ---- zeros behind the end
+
+pub padded-length : (least : ℕ) (bytes : List ℕ) → length (padded least bytes) ≡ max (length bytes) least
+padded-length least bytes =
+    length-append bytes (replicate (least - length bytes) 0) ∙ omega (arith, length-replicate {A = ℕ} (least - length bytes) 0)
+
+padded-inside : (least : ℕ) (bytes : List ℕ) (at n : ℕ) → at + n ≤ length bytes → part (padded least bytes) at n ≡ part bytes at n
+padded-inside least bytes at n inside =
+    let zeros : List ℕ = replicate (least - length bytes) 0 in
+    ap (λ (l : List ℕ). take n l) (drop-append-le at bytes zeros (omega (arith, inside))) ∙ take-append-le n (drop at bytes) zeros (omega (arith, inside, length-drop at bytes))
+
+padded-behind : (least : ℕ) (bytes : List ℕ) (at n : ℕ) → length bytes ≤ at → at + n ≤ least → part (padded least bytes) at n ≡ replicate n 0
+padded-behind least bytes at n past upto =
+    let count = least - length bytes in
+    let k = at - length bytes in
+    let e : at ≡ length bytes + k = omega (arith, past) in
+    ap (λ (a : ℕ). part (padded least bytes) a n) e
+    ∙ ap (λ (l : List ℕ). take n l) (drop-append-add bytes (replicate count 0) k ∙ drop-replicate k count 0)
+    ∙ take-replicate n (count - k) 0 (omega (arith, past, upto))
+
+-- a read that gave something gave it from before the end
+pub reads-some : (can : MediumFault → Bool) (least : ℕ) (bytes : List ℕ) (old new at : ℕ) (into : List ℕ) (n : ℕ) → ReadsAt can bytes old new at into n → 0 < n
+    → ReadsAt can (padded least bytes) old new at into n
+reads-some can least bytes old new at into n r some = record {
+  gives = r.gives ∙ sym (padded-inside least bytes at n (r.within some));
+  within = λ more. omega (arith, r.within some, padded-length least bytes);
+  calm = r.calm;
+  unasked = r.unasked;
+  past_end = λ none past. absurd (omega (arith, none, some));
+  stuck = λ none asked inside. absurd (omega (arith, none, some));
+}
+
+-- one that gave nothing was asked past all zeros, or failed
+pub reads-none : (can : MediumFault → Bool) (least : ℕ) (bytes : List ℕ) (old mid new at : ℕ) (into : List ℕ) (n : ℕ) → ReadsAt can bytes old mid at into n → n ≡ 0 → new ≡ mid
+    → (least ≤ at) ⊎ (at < length bytes) → ReadsAt can (padded least bytes) old new at into 0
+reads-none can least bytes old mid new at into n r empty same spot = record {
+  gives = refl;
+  within = λ some. absurd (omega (arith, some));
+  calm = λ some. absurd (omega (arith, some));
+  unasked = λ none. same ∙ r.unasked none;
+  past_end = λ none past. same ∙ r.past_end empty (omega (arith, past, padded-length least bytes));
+  stuck = λ none asked inside.
+      subst (λ (k : ℕ). FailsBy can old k Stuck) (sym same)
+      (r.stuck empty asked (elim spot [ inl past ↦ omega (arith, past, inside, padded-length least bytes) | inr there ↦ there ]));
+}
+
+-- behind the end lie zeros
+pub reads-zeros : (can : MediumFault → Bool) (least : ℕ) (bytes : List ℕ) (old mid new at : ℕ) (served into : List ℕ) (n k : ℕ) → ReadsAt can bytes old mid at served n → n ≡ 0
+    → new ≡ mid → length bytes ≤ at → at < least → k ≡ min (least - at) (length into) → take k into ≡ replicate k 0 → ReadsAt can (padded least bytes) old new at into k
+reads-zeros can least bytes old mid new at served into n k r empty same past below is zeros =
+    let calm : new ≡ old = same ∙ r.past_end empty past in
+    record {
+      gives = zeros ∙ sym (padded-behind least bytes at k past (omega (arith, below, is)));
+      within = λ some. omega (arith, below, is, padded-length least bytes);
+      calm = λ some. calm;
+      unasked = λ none. calm;
+      past_end = λ none over. calm;
+      stuck = λ none asked inside. absurd (omega (arith, none, asked, below, is));
+    }
+
+-- a call that fails behind a read that gave nothing
+pub fails-later : (can : MediumFault → Bool) (bytes : List ℕ) (old mid new at : ℕ) (served : List ℕ) (n : ℕ) (fault : MediumFault) → ReadsAt can bytes old mid at served n → n ≡ 0
+    → FailsBy can mid new fault → FailsBy can old new fault
+fails-later can bytes old mid new at served n fault r empty f =
+    let before : old ≤ mid = elim (cases_lt 0 (length served)) [
+      | inl asked ↦ elim (cases_lt at (length bytes)) [
+        | inl inside ↦ (r.stuck empty asked inside).rises.no_less
+        | inr past ↦ omega (arith, r.past_end empty past)
+      ]
+      | inr unasked ↦ omega (arith, r.unasked (omega (arith, unasked)))
+    ] in
+    record {
+      can = f.can;
+      rises = record { no_less = omega (arith, before, f.rises.no_less); more = omega (arith, before, f.rises.more) };
+    }
+
+-- and the length is that of the longer
+pub length-mended : (patches : List Patch) (least n : ℕ) (bytes : List ℕ) → n ≡ length bytes → max n least ≡ length (mended patches least bytes)
+length-mended patches least n bytes is =
+    ap (λ (k : ℕ). max k least) is ∙ sym (mended-length patches 0 (padded least bytes) ∙ padded-length least bytes)

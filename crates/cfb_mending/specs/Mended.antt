@@ -1,5 +1,5 @@
--- The bytes of a file some of whose words are read as others.
-use Rattle.std.specs.Prelude.{ℕ, ◌+◌, ◌-◌, ◌%◌, List, [], ◌∷◌, ◌&&◌, nat_le, nat_lt, slice_index, if◌then◌else◌}
+-- The bytes of a file some of whose words are read as others, and which goes on in zeros.
+use Rattle.std.specs.Prelude.{ℕ, ◌+◌, ◌-◌, ◌%◌, List, [], ◌∷◌, ◌++◌, ◌&&◌, length, replicate, nat_le, nat_lt, slice_index, if◌then◌else◌}
 use Rattle.std.specs.Int.{to_le_bytes, w32}
 use Rattle.cfb_mending.specs.declared.patches.Patch.{Patch}
 
@@ -17,6 +17,10 @@ abbrev pub mended_from : List Patch → ℕ → List ℕ → List ℕ
 mended_from [] place bytes = bytes
 mended_from (p ∷ patches) place bytes = mended_from patches place (bytes_with p place bytes)
 
+-- zeros behind the end, up to this length
+abbrev pub padded : ℕ → List ℕ → List ℕ
+padded least bytes = bytes ++ replicate (least - length bytes) 0
+
 -- the bytes of the whole file
-abbrev pub mended : List Patch → List ℕ → List ℕ
-mended patches bytes = mended_from patches 0 bytes
+abbrev pub mended : List Patch → ℕ → List ℕ → List ℕ
+mended patches least bytes = mended_from patches 0 (padded least bytes)

@@ -1,5 +1,5 @@
 -- The tables of a file that was cut short, as far as they can be followed, and what stands in them (MS-CFB 2.2 to 2.6).
-use Rattle.std.specs.Prelude.{ℕ, zero, suc, ◌+◌, ◌-◌, ◌*◌, ◌/◌, ◌%◌, ◌≡◌, ◌<◌, ◌≤◌, ◌⊎◌, List, true, Option, Some, None, slice_get, option_and_then, if◌then◌else◌}
+use Rattle.std.specs.Prelude.{ℕ, zero, suc, ◌+◌, ◌-◌, ◌*◌, ◌/◌, ◌%◌, ◌≡◌, ◌<◌, ◌≤◌, ◌⊎◌, List, length, true, Option, Some, None, slice_get, option_and_then, if◌then◌else◌}
 use Rattle.std.specs.List.{All, Contains}
 use Rattle.std.specs.Option.{option_map}
 use Rattle.cfb_format.specs.declared.version.Version.{Version}
@@ -109,18 +109,39 @@ IsTablePlace version bytes fat place = IsInHeader place ⊎ IsInTable version by
 abbrev pub IsMark : ℕ → Type 0
 IsMark word = (word ≡ end_of_chain) ⊎ (word ≡ free_sector)
 
--- only bytes of tables are read otherwise, and as marks
+-- zeros: from the start of an entry of the directory that the file has not whole, in its sector
+pub record IsCutEntry (version : Version) (bytes fat : List ℕ) (p : Patch) : Type 0 where
+  pub sector : ℕ
+  pub directory : IsOnChain version bytes fat directory_start sector
+  pub inside : IsInSector version sector p.at
+  pub ends : p.«end» ≤ sector_start version sector + sector_len version
+  pub entry : p.at % 128 ≡ 0
+  pub cut : length bytes < p.at + 128
+  pub zeros : p.word ≡ 0
+
+-- only bytes of tables are read otherwise, and as marks, or as zeros where an entry is cut
 pub record IsInTables (version : Version) (bytes fat : List ℕ) (p : Patch) : Type 0 where
   pub places : (place : ℕ) → p.at ≤ place → place < p.«end» → IsTablePlace version bytes fat place
-  pub mark : IsMark p.word
+  pub word : IsMark p.word ⊎ IsCutEntry version bytes fat p
 
 abbrev pub AreInTables : Version → List ℕ → List ℕ → List Patch → Type 0
 AreInTables version bytes fat patches = All (IsInTables version bytes fat) patches
 
--- what is read otherwise are words of the tables
-pub record MendsTables (bytes : List ℕ) (patches : List Patch) : Type 0 where
+-- ---- the end
+
+-- the file is read up to the end of a sector of a table, of which it has the first bytes and not the last
+pub record IsPadded (version : Version) (bytes fat : List ℕ) (least : ℕ) : Type 0 where
+  pub sector : ℕ
+  pub table : IsTableSector version bytes fat sector
+  pub begun : sector_start version sector < length bytes
+  pub cut : length bytes < least
+  pub ends : least ≡ sector_start version sector + sector_len version
+
+-- what is read otherwise are words of the tables, and the file goes on only where such a sector is cut
+pub record MendsTables (bytes : List ℕ) (patches : List Patch) (least : ℕ) : Type 0 where
   pub version : Version
   pub fixed : HasFixedFields bytes version
   pub fat : List ℕ
   pub listed : All (IsFatSector version bytes) fat
   pub tables : AreInTables version bytes fat patches
+  pub padding : (least ≡ 0) ⊎ IsPadded version bytes fat least

@@ -1,38 +1,68 @@
 //! How much of a file there is, and where the words of its sectors stand.
-ghost use Rattle.std.specs.Prelude.{◌≡◌, ◌+◌, ◌*◌, ◌/◌, ◌%◌, ◌^◌, ◌<◌, ◌≤◌};
-ghost use Rattle.cfb_format.specs.Bytes.{sector_start, words_per_sector};
+ghost use Rattle.std.specs.Prelude.{◌≡◌, ◌+◌, ◌*◌, ◌/◌, ◌%◌, ◌^◌, ◌<◌, ◌≤◌, IfSome};
+ghost use Rattle.cfb_format.specs.Bytes.{sector_len, sector_start, words_per_sector};
 
 use cfb_format::version::Version;
 
-/// How many sectors a file has.
+/// How much of a file there is.
 #[derive(Clone, Copy)]
 pub(crate) struct Bounds {
     pub(crate) version: Version,
-    /// How many there are, a last one that is cut short among them.
+    /// How many bytes.
+    pub(crate) len: u64,
+    /// How many sectors, a last one that is cut short among them.
     pub(crate) sectors: u64,
-    /// How many of them are whole.
-    pub(crate) whole: u64,
 }
 
 impl Bounds {
     /// Those of a file of this length.
     pub(crate) fn of(version: Version, len: u64) -> Bounds
-        ensures { result.version ≡ version }
+        ensures version { result.version ≡ version }
+        ensures len { result.len ≡ len }
     {
-        let (all, whole) = match version {
-            Version::V3 => (len.div_ceil(512), len / 512),
-            Version::V4 => (len.div_ceil(4096), len / 4096),
+        let all = match version {
+            Version::V3 => len.div_ceil(512),
+            Version::V4 => len.div_ceil(4096),
         };
         Bounds {
             version,
+            len,
             sectors: all.saturating_sub(1),
-            whole: whole.saturating_sub(1),
         }
     }
 
-    /// Whether the file has this sector whole.
-    pub(crate) fn has_whole(self, sector: u32) -> bool {
-        u64::from(sector) < self.whole
+    /// Whether the file has this sector, or its first bytes.
+    pub(crate) fn has(self, sector: u32) -> bool {
+        u64::from(sector) < self.sectors
+    }
+
+    /// Whether the file has all of the word at this place.
+    pub(crate) fn has_word(self, at: u64) -> bool {
+        at < self.len && 4 <= self.len - at
+    }
+
+    /// How many bytes the file has of a sector.
+    pub(crate) fn bytes_of(self, sector: u32) -> usize
+        ensures { result ≤ 4096 }
+    {
+        let behind = self.len.saturating_sub(place_in(self.version, sector, 0));
+        behind.min(4 * words_in(self.version) as u64) as usize
+    }
+
+    /// The sector that the end of the file cuts, if there is one.
+    pub(crate) fn cut(self) -> Option<u32>
+        ensures begun { IfSome result (λ s. sector_start self.version s < self.len) }
+        ensures cut { IfSome result (λ s. self.len < sector_start self.version s + sector_len self.version) }
+    {
+        let (number, is_cut) = match self.version {
+            Version::V3 => (self.len / 512, self.len % 512 != 0),
+            Version::V4 => (self.len / 4096, self.len % 4096 != 0),
+        };
+        if is_cut && 0 < number {
+            u32::try_from(number - 1).ok()
+        } else {
+            None
+        }
     }
 }
 

@@ -3,17 +3,21 @@ ghost use Rattle.std.specs.Prelude.{◌≡◌, ◌+◌, ◌^◌, ◌<◌, length
 ghost use Rattle.cfb_format.specs.Bytes.{word_at};
 ghost use Rattle.cfb_format.specs.Medium.{part};
 
-use crate::bounds::place_in;
+use crate::bounds::{Bounds, place_in};
 use cfb_format::bytes::u32_at;
 use cfb_format::error::Error;
 use cfb_format::medium::{MediumFault, ReadMedium};
-use cfb_format::version::Version;
 
 /// The length of the longest sector.
 const MAX_SECTOR_LEN: usize = 4096;
 
 /// How many words a slot of the directory has.
 pub(crate) const SLOT_WORDS: usize = 32;
+
+/// How many bytes a slot of the directory has, and a word.
+pub(crate) const SLOT_LEN: usize = 128;
+
+pub(crate) const WORD_LEN: usize = 4;
 
 // Which words of a slot have its type and its length (MS-CFB 2.6.1).
 const TYPE_WORD: usize = 16;
@@ -24,9 +28,16 @@ const LEN_WORDS: [usize; 2] = [30, 31];
 #[derive(Drop)]
 pub(crate) struct Loaded {
     bytes: [u8; MAX_SECTOR_LEN],
+    /// How many of its bytes the file has.
+    len: usize,
 }
 
 impl Loaded {
+    /// Whether the file has the word of this number.
+    pub(crate) fn has(&self, index: usize) -> bool {
+        index < self.len / WORD_LEN
+    }
+
     /// The word of this number.
     pub(crate) fn word(&self, index: usize) -> u32 {
         let at = (index % 1024) * 4;
@@ -75,21 +86,25 @@ pub(crate) fn read_whole<F: ReadMedium>(
     Ok(())
 }
 
-/// What the sector of this number holds.
+/// What the sector of this number holds. Of one that is cut short only what is whole of the parts that it has, each of so many bytes.
 pub(crate) fn load<F: ReadMedium>(
     medium: &mut F,
-    version: Version,
+    bounds: Bounds,
     sector: u32,
+    part_len: usize,
 ) -> Result<Loaded, Error>
+    requires { 0 < part_len }
     ensures { IsTrue F.tells → F.bytes medium.new ≡ F.bytes medium.old }
 {
     let mut bytes = [0; MAX_SECTOR_LEN];
-    let at = place_in(version, sector, 0);
-    match version {
-        Version::V3 => read_whole(medium, at, &mut bytes[..512])?,
-        Version::V4 => read_whole(medium, at, &mut bytes)?,
-    }
-    Ok(Loaded { bytes })
+    let there = bounds.bytes_of(sector);
+    let len = there - there % part_len;
+    read_whole(
+        medium,
+        place_in(bounds.version, sector, 0),
+        &mut bytes[..len],
+    )?;
+    Ok(Loaded { bytes, len })
 }
 
 /// The word at this place.

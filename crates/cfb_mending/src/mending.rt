@@ -1,5 +1,5 @@
 //! Which words of a file that was cut short lead past its end.
-ghost use Rattle.std.specs.Prelude.{◌≡◌, IsTrue, IfOk};
+ghost use Rattle.std.specs.Prelude.{◌≡◌, length, IsTrue, IfOk};
 ghost use Rattle.cfb_format.specs.Header.{HasFixedFields};
 ghost use Rattle.cfb_mending.specs.Tables.{MendsTables};
 
@@ -25,6 +25,8 @@ fn start<F: ReadMedium>(medium: &mut F) -> Result<(Header, Bounds), Error>
     ensures same { IsTrue F.tells → F.bytes medium.new ≡ F.bytes medium.old }
     ensures version { IsTrue F.tells → IfOk result (λ started.
         HasFixedFields (F.bytes medium.old) started.1.version) }
+    ensures len { IsTrue F.tells → IfOk result (λ started.
+        started.1.len ≡ length (F.bytes medium.old)) }
 {
     let len = medium.length()?;
     if len < HEADER_LEN as u64 {
@@ -40,8 +42,9 @@ fn start<F: ReadMedium>(medium: &mut F) -> Result<(Header, Bounds), Error>
 }
 
 /// The file with those words set that lead past its end: what the FAT says of sectors that are not there is free, the lists of FAT and
-/// DIFAT sectors, the directory, the MiniFAT and all chains end where the file does, and no link leads to a slot that is missing. No other
-/// bytes are read otherwise than those of tables.
+/// DIFAT sectors, the directory, the MiniFAT and all chains end where the file does, and no link leads to a slot that is missing. A last
+/// sector of a table is read to its end, where it is cut short: what is missing of it ends chains, is free, or is an entry that is none. No
+/// other bytes are read otherwise than those of tables, and none behind the end of the file.
 ///
 /// # Errors
 ///
@@ -49,7 +52,7 @@ fn start<F: ReadMedium>(medium: &mut F) -> Result<(Header, Bounds), Error>
 pub fn mended<F: ReadMedium, A: Heap + Clone>(heap: A, medium: F) -> Result<Mended<F, A>, Error>
     ensures same { IsTrue F.tells → IfOk result (λ new. F.bytes new.medium ≡ F.bytes medium) }
     ensures tables { IsTrue F.tells
-        → IfOk result (λ new. MendsTables (F.bytes medium) new.patches.items) }
+        → IfOk result (λ new. MendsTables (F.bytes medium) new.patches.items new.least) }
 {
     let mut medium = medium;
     let (header, bounds) = start(&mut medium)?;
@@ -63,15 +66,20 @@ pub fn mended<F: ReadMedium, A: Heap + Clone>(heap: A, medium: F) -> Result<Mend
     let tables = Tables { bounds, fat };
     scan.mend_fat(&tables)?;
     let directory = scan.mend_chain(&tables, FIRST_DIR_AT)?;
-    let (kinds, root_len) = scan.kinds(&tables, &directory)?;
-    scan.mend_slots(&tables, &directory, &kinds)?;
+    let (lost, root_len) = scan.mend_directory(&tables, &directory)?;
     let minifat = scan.mend_chain(&tables, FIRST_MINIFAT_AT)?;
     let len = scan.minifat_len(&tables, &minifat)?;
     scan.mend_minifat(&tables, &minifat, len.min(root_len / 64))?;
+    let least = scan.least(&tables, &directory, &minifat)?;
     let Scan {
         medium,
         patches,
         heap: _,
     } = scan;
-    Ok(Mended { medium, patches })
+    Ok(Mended {
+        medium,
+        patches,
+        least,
+        lost,
+    })
 }

@@ -1,7 +1,7 @@
 //! Where a file has its tables, and of which sectors these say something.
-ghost use Rattle.std.specs.Prelude.{◌≡◌, ◌<◌, ◌*◌, ◌+◌, ◌^◌, ℕ, List, length, take, IsTrue, IfOk, IfSome, OnOk};
+ghost use Rattle.std.specs.Prelude.{◌≡◌, ◌<◌, ◌*◌, ◌+◌, ◌^◌, ℕ, true, List, length, take, IsTrue, IfOk, IfSome, OnOk};
 ghost use Rattle.std.specs.List.{All};
-ghost use Rattle.cfb_mending.specs.Tables.{IsDifatEntry, IsDifatLink, IsFatSector, AreInTables, fat_place};
+ghost use Rattle.cfb_mending.specs.Tables.{IsDifatEntry, IsDifatLink, IsDifatSector, IsFatSector, AreInTables, fat_place};
 
 use crate::bounds::{Bounds, holder_of, index_of, place_in, words_in};
 use crate::loaded::word_at;
@@ -35,10 +35,9 @@ impl<A: Heap> Tables<A> {
         self.bounds.sectors.min(covered)
     }
 
-    /// Whether the word names a sector that the file has not whole, or of which the FAT says nothing.
+    /// Whether the word names a sector that the file has not, or of which the FAT says nothing.
     pub(crate) fn is_missing(&self, word: u32) -> bool {
-        let is_known = self.bounds.has_whole(word) && u64::from(word) < self.known();
-        word <= MAX_REGULAR_SECTOR && !is_known
+        word <= MAX_REGULAR_SECTOR && self.known() <= u64::from(word)
     }
 
     /// Where the FAT has the word of a sector, if it has one.
@@ -53,8 +52,8 @@ impl<A: Heap> Tables<A> {
 }
 
 impl<F: ReadMedium, A: Heap + Clone> Scan<F, A> {
-    /// Adds the FAT sectors that so many words name, the first of which stands at `at`, up to one that is no number. Where a sector is
-    /// missing the list ends with it: whether that is so.
+    /// Adds the FAT sectors that so many words name, the first of which stands at `at`, up to one that is no number. Where a sector or a word
+    /// is missing the list ends with it: whether that is so.
     fn list_in(
         &mut self,
         bounds: Bounds,
@@ -77,12 +76,17 @@ impl<F: ReadMedium, A: Heap + Clone> Scan<F, A> {
     {
         for index in 0..count {
             let place = at + 4 * index as u64;
+            let end = at + 4 * count as u64;
+            if !bounds.has_word(place) {
+                self.set(place, end, FREE_SECTOR)?;
+                return Ok(true);
+            }
             let word = word_at(&mut self.medium, place)?;
             if word > MAX_REGULAR_SECTOR {
                 return Ok(false);
             }
-            if !bounds.has_whole(word) {
-                self.set(place, at + 4 * count as u64, FREE_SECTOR)?;
+            if !bounds.has(word) {
+                self.set(place, end, FREE_SECTOR)?;
                 return Ok(true);
             }
             fat.push(word)?;
@@ -137,7 +141,7 @@ impl<F: ReadMedium, A: Heap + Clone> Scan<F, A> {
     }
 
     /// Adds the FAT sectors that the DIFAT sector lists whose number stands at `link`, and tells where that of the next one stands, and whether
-    /// the list ends with a missing one. None where there is no such sector; where it is missing, or the list has ended, so does the DIFAT.
+    /// the list ends with a missing one. None where there is no such sector; where it or the link is missing, or the list has ended, so does the DIFAT.
     fn list_behind(
         &mut self,
         bounds: Bounds,
@@ -161,17 +165,45 @@ impl<F: ReadMedium, A: Heap + Clone> Scan<F, A> {
             → OnOk result (AreInTables bounds.version (F.bytes self.old.medium) table
             self.new.patches.items) }
     {
+        if !bounds.has_word(link) {
+            self.set(link, link + 4, END_OF_CHAIN)?;
+            return Ok(None);
+        }
         let next = word_at(&mut self.medium, link)?;
         if next > MAX_REGULAR_SECTOR {
             return Ok(None);
         }
-        if is_cut || !bounds.has_whole(next) {
+        if is_cut || !bounds.has(next) {
             self.set(link, link + 4, END_OF_CHAIN)?;
             return Ok(None);
         }
         let count = words_in(bounds.version) - 1;
         let ends = self.list_in(bounds, place_in(bounds.version, next, 0), count, fat)?;
         Ok(Some((place_in(bounds.version, next, count), ends)))
+    }
+
+    /// Whether this sector is one of the DIFAT.
+    pub(crate) fn is_of_difat(&mut self, bounds: Bounds, sector: u32) -> Result<bool, Error>
+        ensures same { IsTrue F.tells → F.bytes self.new.medium ≡ F.bytes self.old.medium }
+        ensures stays { self.new.patches.items ≡ self.old.patches.items }
+        ensures is { IsTrue F.tells → IfOk result (λ is_one. is_one ≡ true
+            → IsDifatSector bounds.version (F.bytes self.old.medium) sector) }
+    {
+        let mut link = FIRST_DIFAT_AT;
+        for _turn in 0..bounds.sectors {
+            if !bounds.has_word(link) {
+                return Ok(false);
+            }
+            let next = word_at(&mut self.medium, link)?;
+            if next > MAX_REGULAR_SECTOR {
+                return Ok(false);
+            }
+            if next == sector {
+                return Ok(true);
+            }
+            link = place_in(bounds.version, next, words_in(bounds.version) - 1);
+        }
+        Ok(false)
     }
 }
 

@@ -294,6 +294,7 @@ Copies what can be read of FILE into the new file NEW: each storage, and of each
 stream the bytes up to the first that cannot be read. FILE is only read.
 Of a file that was cut short it reads what is left. NEW gets its name last.
 'cut' GOT OF PATH, 'lost' 0 OF PATH: GOT of OF bytes of a stream were read.
+'missing' N objects or more: their entries are cut off, so no line has a name.
 
 Example: cfbtool salvage a.cfb b.cfb
 kept\t1 of 1 streams\t6 of 6 bytes

@@ -33,7 +33,7 @@ pub(super) fn salvage<H: System, W: Write>(
     if !is_of_bytes(refused) {
         return Err(Refusal::Opening(refused).because(medium.file().last_error()));
     }
-    // what a file that was cut short lost can't be told, so not all of it is kept
+    // not all that a file that was cut short lost can be told, so not all of it is kept
     match salvage_cut(rt, Lent(&mut medium), target) {
         Ok(told) => print_told(told, medium.file().last_error(), out),
         Err(e) if is_of_bytes(e) => Err(Refusal::Opening(refused)),
@@ -88,19 +88,25 @@ fn salvage_cut<H: System, F: ReadMedium>(
     target: Target<'_>,
 ) -> Result<Result<Report, Refusal>, Error> {
     let whole = mended(rt.alloc(), medium)?;
+    let lost = whole.lost;
     let mut file = seeded_options(rt).open_with(rt.alloc(), whole)?;
     match salvage_to(rt, &mut file, target) {
-        Ok(report) => Ok(Ok(not_whole(report))),
+        Ok(report) => Ok(Ok(not_whole(report, lost)?)),
         Err(refusal) => Ok(Err(refusal)),
     }
 }
 
-fn not_whole(report: Report) -> Report {
+/// The same of a file that is not whole, which has lost at least so many objects with their entries. `Memory`.
+fn not_whole(report: Report, lost: usize) -> Result<Report, Error> {
     let Report { lines, is_whole: _ } = report;
-    Report {
+    let mut lines = lines;
+    if 0 < lost {
+        writeln!(lines, "missing\t{lost} objects or more")?;
+    }
+    Ok(Report {
         lines,
         is_whole: false,
-    }
+    })
 }
 
 /// Whether a file was refused for its bytes.

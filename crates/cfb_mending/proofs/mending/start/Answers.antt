@@ -10,5 +10,5 @@ returns-clause-version g c told =
     let bytes = g.F.ReadMedium.bytes c.length.new.self in
     let first = subst (λ (b : List ℕ). AcceptsHeader Permissive b c.in_ok-header.header) (c.in_ok-read_whole.ensures.ok told) c.in_ok-header.ensures.ok in
     let whole = (header_at_start Permissive bytes c.in_ok-header.header).0 first in
-    subst (λ (v : Version). HasFixedFields (g.F.ReadMedium.bytes c.args.medium.now) v) (sym c.of.ensures)
+    subst (λ (v : Version). HasFixedFields (g.F.ReadMedium.bytes c.args.medium.now) v) (sym c.of.ensures.version)
     (subst (λ (b : List ℕ). HasFixedFields b c.in_ok-header.header.version) (c.in_ok-len.ensures.same told) whole.header.fixed)

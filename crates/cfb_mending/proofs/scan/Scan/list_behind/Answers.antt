@@ -5,11 +5,18 @@ use Rattle.cfb_mending.specs.Tables.{IsDifatEntry, IsDifatLink}
 use Rattle.cfb_mending.proofs.InTables.{difat-entry, difat-link-word, difat-next, tables-more, tables-moved, word-patch}
 use Rattle.cfb_mending.proofs.scan.Scan.list_behind.Goals as goal
 
+pub returns-then-not-has_word-clause-mends : goal.returns-then-not-has_word-clause-mends
+returns-then-not-has_word-clause-mends g c told table before =
+    let version = c.args.bounds.version in
+    let bytes = g.F.ReadMedium.bytes c.args.self.now.medium in
+    tables-more version bytes table _ c.args.self.now.patches.items _ c.in_ok-set.ensures.added
+    (word-patch version bytes table c.args.link _ (difat-link-word version bytes table c.args.link (c.requires.link told)) (inl refl)) before
+
 pub returns-then-is_cut-clause-mends : goal.returns-then-is_cut-clause-mends
 returns-then-is_cut-clause-mends g c told table before =
     let version = c.args.bounds.version in
     let bytes = g.F.ReadMedium.bytes c.args.self.now.medium in
-    tables-more version bytes table _ c.args.self.now.patches.items _ c.in_ok-set.ensures.added
+    tables-more version bytes table _ c.args.self.now.patches.items _ c.in_ok-set-2.ensures.added
     (word-patch version bytes table c.args.link _ (difat-link-word version bytes table c.args.link (c.requires.link told)) (inl refl)) before
 
 pub list_in-requires-clause-entries : goal.list_in-requires-clause-entries

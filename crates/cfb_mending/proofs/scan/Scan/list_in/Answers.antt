@@ -3,10 +3,17 @@ use Rattle.cfb_format.specs.Bytes.{word_at}
 use Rattle.cfb_mending.proofs.InTables.{entries-patch, fat-more, tables-more}
 use Rattle.cfb_mending.proofs.scan.Scan.list_in.Goals as goal
 
-pub returns-then-not-has_whole-clause-mends : goal.returns-then-not-has_whole-clause-mends
-returns-then-not-has_whole-clause-mends g c told table before =
+pub returns-then-not-has_word-clause-mends : goal.returns-then-not-has_word-clause-mends
+returns-then-not-has_word-clause-mends g c told table before =
     let bytes = g.F.ReadMedium.bytes c.args.self.now.medium in
     tables-more c.args.bounds.version bytes table _ c.loop-index.self.patches.items _ c.in_ok-set.ensures.added
+    (entries-patch c.args.bounds.version bytes table c.args.at c.args.count c.loop-index.index _ _ _ (c.requires.entries told) refl refl (inr refl))
+    (c.loop-index.invariant.mends told table before)
+
+pub returns-then-not-has-clause-mends : goal.returns-then-not-has-clause-mends
+returns-then-not-has-clause-mends g c told table before =
+    let bytes = g.F.ReadMedium.bytes c.args.self.now.medium in
+    tables-more c.args.bounds.version bytes table _ c.loop-index.self.patches.items _ c.in_ok-set-2.ensures.added
     (entries-patch c.args.bounds.version bytes table c.args.at c.args.count c.loop-index.index _ _ _ (c.requires.entries told) refl refl (inr refl))
     (c.loop-index.invariant.mends told table before)
 
