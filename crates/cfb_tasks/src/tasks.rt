@@ -53,8 +53,8 @@ fn metadata(rt: &HostRuntime, file: &CompoundFile<FileMedium>) -> io::Result<()>
 }
 
 /// Gives a storage a class id.
-fn set_clsid(file: &mut CompoundFile<FileMedium>, id: Uuid) -> io::Result<()> {
-    Ok(file.set_storage_clsid("/s", id)?)
+fn set_clsid(file: &mut CompoundFile<FileMedium>) -> io::Result<()> {
+    Ok(file.set_storage_clsid("/s", Uuid::from_u128(7))?)
 }
 
 /// Removes a storage with all that is in it.
@@ -87,27 +87,51 @@ fn first_line(alloc: Global, file: &mut CompoundFile<SliceMedium<'_>>) -> io::Re
     Ok(line)
 }
 
-/// Does all of them.
-pub fn all(rt: &HostRuntime) -> io::Result<()> {
-    let path = "first.cfb";
-    let mut file = cfb::create(rt, rt.alloc(), path)?;
+const PATH: &str = "first.cfb";
+
+/// Makes what the tasks are done with.
+fn make(file: &mut CompoundFile<FileMedium>) -> io::Result<()> {
     file.create_storage("/s", Timestamp::zero())?;
-    write_stream(&mut file, "/s/x", b"hello\nworld")?;
-    set_clsid(&mut file, Uuid::from_u128(7))?;
-    metadata(rt, &file)?;
-    list(rt, path)?;
-    let bytes = read_stream(rt.alloc(), &mut file, "/s/x")?;
+    write_stream(file, "/s/x", b"hello\nworld")?;
+    set_clsid(file)
+}
+
+fn tell_length(rt: &HostRuntime, file: &mut CompoundFile<FileMedium>) -> io::Result<()> {
+    let bytes = read_stream(rt.alloc(), file, "/s/x")?;
     println!(rt; "{}", bytes.len())?;
+    Ok(())
+}
+
+/// Copies the stream into another file, which is made.
+fn copy(rt: &HostRuntime, file: &mut CompoundFile<FileMedium>) -> io::Result<u64> {
     let mut to = cfb::create(rt, rt.alloc(), "second.cfb")?;
     to.create_storage("/s", Timestamp::zero())?;
-    println!(rt; "{}", copy_stream(rt.alloc(), &mut file, &mut to, "/s/x")?)?;
-    let whole = std::fs::read(rt, path)?;
-    let mut mem = from_bytes(rt.alloc(), &whole)?;
-    println!(rt;
-        "{} {}",
-        root_streams(&mem)?,
-        first_line(rt.alloc(), &mut mem)?
-    )?;
-    remove(&mut file)?;
-    list(rt, path)
+    copy_stream(rt.alloc(), file, &mut to, "/s/x")
+}
+
+/// Tells of the file's bytes, which are read at once.
+fn tell_bytes(rt: &HostRuntime) -> io::Result<()> {
+    let whole = std::fs::read(rt, PATH)?;
+    let mut file = from_bytes(rt.alloc(), &whole)?;
+    let count = root_streams(&file)?;
+    let line = first_line(rt.alloc(), &mut file)?;
+    println!(rt; "{count} {line}")?;
+    Ok(())
+}
+
+fn do_all(rt: &HostRuntime, file: &mut CompoundFile<FileMedium>) -> io::Result<()> {
+    make(file)?;
+    metadata(rt, file)?;
+    list(rt, PATH)?;
+    tell_length(rt, file)?;
+    println!(rt; "{}", copy(rt, file)?)?;
+    tell_bytes(rt)?;
+    remove(file)?;
+    list(rt, PATH)
+}
+
+/// Does all of them.
+pub fn all(rt: &HostRuntime) -> io::Result<()> {
+    let mut file = cfb::create(rt, rt.alloc(), PATH)?;
+    do_all(rt, &mut file)
 }
