@@ -1,8 +1,9 @@
 //! What is salvaged of files that were cut short.
 use crate::objects::{STREAMS, filled};
 use cfb_compound_file::compound_file::CompoundFile;
-use cfb_compound_file::salvaging::Salvaged;
+use cfb_compound_file::salvaging::{Extent, Salvaged};
 use cfb_format::error::Error;
+use cfb_format::medium::ReadMedium;
 use cfb_format::memory::MemoryMedium;
 use cfb_format::version::Version;
 use cfb_media::bytes::numbered;
@@ -17,8 +18,23 @@ struct Found {
     whole: usize,
 }
 
-/// All bytes of each stream of a copy, where each is to be a beginning of the numbered bytes.
-pub fn are_beginnings(
+/// Whether a stream of a copy is a beginning of the numbered bytes.
+fn is_beginning(
+    alloc: Global,
+    copy: &mut CompoundFile<MemoryMedium>,
+    path: &str,
+    numbers: &[u8],
+) -> Result<bool, Error> {
+    let mut found = Vec::new(alloc);
+    let mut stream = copy.open_read_stream(path)?;
+    let read = stream.read_to_end(&mut found);
+    stream.close()?;
+    read?;
+    Ok(numbers.get(..found.len()) == Some(found.as_slice()))
+}
+
+/// Whether each stream of a copy is a beginning of the numbered bytes.
+fn are_beginnings(
     alloc: Global,
     copy: &mut CompoundFile<MemoryMedium>,
     numbers: &[u8],
@@ -28,33 +44,36 @@ pub fn are_beginnings(
         .filter(|entry| entry.is_stream())
         .collect(alloc)?;
     for entry in &streams {
-        let mut found = Vec::new(alloc);
-        let mut stream = copy.open_read_stream(entry.path())?;
-        let read = stream.read_to_end(&mut found);
-        stream.close()?;
-        read?;
-        if numbers.get(..found.len()) != Some(found.as_slice()) {
+        if !is_beginning(alloc, copy, entry.path(), numbers)? {
             return Ok(false);
         }
     }
     Ok(true)
 }
 
-/// What is salvaged of the first bytes of a file, and whether that is sound and each stream of it a beginning of what it was.
-fn salvaged(alloc: Global, bytes: &[u8], numbers: &[u8]) -> Result<(Found, bool), Error> {
-    let medium = MemoryMedium::from_bytes(Vec::from_slice(alloc, bytes)?);
-    let Ok(mut file) = CompoundFile::open(alloc, mended(alloc, medium)?) else {
-        return Ok((
-            Found {
-                streams: 0,
-                whole: 0,
-            },
-            true,
-        ));
-    };
+/// Whether a copy can be opened strictly, is sound, and each stream of it is a beginning of the numbered bytes.
+fn is_right_copy(alloc: Global, copy: MemoryMedium, numbers: &[u8]) -> Result<bool, Error> {
+    let mut copy = CompoundFile::open_strict(alloc, copy)?;
+    Ok(copy.is_sound() && are_beginnings(alloc, &mut copy, numbers)?)
+}
+
+/// What is told to be salvaged of a file, and whether the copy is right.
+pub fn salvaged_of<F: ReadMedium>(
+    alloc: Global,
+    file: &mut CompoundFile<F>,
+    numbers: &[u8],
+) -> Result<(Vec<Extent>, bool), Error> {
     let Salvaged { file, extents } = file.salvage_to(MemoryMedium::new(alloc))?;
-    let mut copy = CompoundFile::open_strict(alloc, file.into_inner())?;
-    let is_right = copy.is_sound() && are_beginnings(alloc, &mut copy, numbers)?;
+    let is_right = is_right_copy(alloc, file.into_inner(), numbers)?;
+    Ok((extents, is_right))
+}
+
+fn found_in<F: ReadMedium>(
+    alloc: Global,
+    file: &mut CompoundFile<F>,
+    numbers: &[u8],
+) -> Result<(Found, bool), Error> {
+    let (extents, is_right) = salvaged_of(alloc, file, numbers)?;
     let whole = extents
         .iter()
         .filter(|extent| extent.kept == extent.len)
@@ -66,6 +85,21 @@ fn salvaged(alloc: Global, bytes: &[u8], numbers: &[u8]) -> Result<(Found, bool)
         },
         is_right,
     ))
+}
+
+/// What is salvaged of the first bytes of a file, and whether that is sound and each stream of it a beginning of what it was.
+fn salvaged(alloc: Global, bytes: &[u8], numbers: &[u8]) -> Result<(Found, bool), Error> {
+    let medium = MemoryMedium::from_bytes(Vec::from_slice(alloc, bytes)?);
+    match CompoundFile::open(alloc, mended(alloc, medium)?) {
+        Ok(mut file) => found_in(alloc, &mut file, numbers),
+        Err(_) => Ok((
+            Found {
+                streams: 0,
+                whole: 0,
+            },
+            true,
+        )),
+    }
 }
 
 /// Cuts a file at each of many places: how many streams are found then, whether none is found that was not there, and whether more bytes

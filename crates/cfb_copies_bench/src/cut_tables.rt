@@ -1,7 +1,8 @@
 //! What is salvaged of files that were cut inside a sector of a table.
-use crate::cut::are_beginnings;
+use crate::cut::salvaged_of;
 use cfb_compound_file::compound_file::CompoundFile;
-use cfb_compound_file::salvaging::{Extent, Salvaged};
+use cfb_compound_file::salvaging::Extent;
+use cfb_format::medium::ReadMedium;
 use cfb_format::memory::MemoryMedium;
 use cfb_media::bytes::numbered;
 use cfb_mending::mending::mended;
@@ -250,20 +251,28 @@ impl Last {
     }
 }
 
-/// What is told of the streams of the first bytes of a file, and how many links lead to none. None where the copy is not sound, or a stream
-/// of it is no beginning of what it was.
+/// What is told of the streams of a file. None where the copy is not sound, or a stream of it is no beginning of what it was.
+fn extents_of<F: ReadMedium>(
+    alloc: Global,
+    file: &mut CompoundFile<F>,
+) -> Result<Option<Vec<Extent>>, Fail> {
+    let numbers = numbered(alloc, 5000)?;
+    let (extents, is_right) = salvaged_of(alloc, file, &numbers)?;
+    Ok(if is_right { Some(extents) } else { None })
+}
+
+/// The same of the first bytes of a file, and how many links lead to none.
 fn salvaged(alloc: Global, bytes: &[u8], len: usize) -> Result<Option<(Vec<Extent>, usize)>, Fail> {
     let first = bytes.get(..len).unwrap_or(bytes);
-    let medium = MemoryMedium::from_bytes(Vec::from_slice(alloc, first)?);
-    let medium = mended(alloc, medium)?;
+    let medium = mended(
+        alloc,
+        MemoryMedium::from_bytes(Vec::from_slice(alloc, first)?),
+    )?;
     let lost = medium.lost;
     let mut file = CompoundFile::open(alloc, medium)?;
-    let Salvaged { file, extents } = file.salvage_to(MemoryMedium::new(alloc))?;
-    let mut copy = CompoundFile::open_strict(alloc, file.into_inner())?;
-    if copy.is_sound() && are_beginnings(alloc, &mut copy, &numbered(alloc, 5000)?)? {
-        Ok(Some((extents, lost)))
-    } else {
-        Ok(None)
+    match extents_of(alloc, &mut file)? {
+        Some(extents) => Ok(Some((extents, lost))),
+        None => Ok(None),
     }
 }
 

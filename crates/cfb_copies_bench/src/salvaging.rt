@@ -86,29 +86,52 @@ fn is_beginning(
     Ok(found.len() as u64 == kept && found.get(..shared) == bytes.get(..shared))
 }
 
-/// Whether a copy can be opened strictly, is sound, and has these beginnings.
-fn has_beginnings(
+/// Whether a copy is sound, and has these beginnings.
+fn are_beginnings(
     alloc: Global,
-    copy: CompoundFile<MemoryMedium>,
+    copy: &mut CompoundFile<MemoryMedium>,
     wanted: &[(u64, u64); 2],
 ) -> Result<bool, Fail> {
     let bytes = numbered(alloc, 5000)?;
-    let mut copy = CompoundFile::open_strict(alloc, copy.into_inner())?;
-    let a = is_beginning(alloc, &mut copy, &bytes, "/a", wanted[0].0)?;
-    let b = is_beginning(alloc, &mut copy, &bytes, "/b", wanted[1].0)?;
+    let a = is_beginning(alloc, copy, &bytes, "/a", wanted[0].0)?;
+    let b = is_beginning(alloc, copy, &bytes, "/b", wanted[1].0)?;
     Ok(a && b && copy.is_sound())
 }
 
-/// Whether so much is salvaged of a file that was damaged so, and the file stays as it was.
+/// The same of a copy that is opened strictly.
+fn has_beginnings(
+    alloc: Global,
+    copy: MemoryMedium,
+    wanted: &[(u64, u64); 2],
+) -> Result<bool, Fail> {
+    let mut copy = CompoundFile::open_strict(alloc, copy)?;
+    are_beginnings(alloc, &mut copy, wanted)
+}
+
+/// Whether so much is salvaged of a file.
+fn gives(
+    alloc: Global,
+    source: &mut CompoundFile<MemoryMedium>,
+    wanted: &[(u64, u64); 2],
+) -> Result<bool, Fail> {
+    let Salvaged { file, extents } = source.salvage_to(MemoryMedium::new(alloc))?;
+    let are_right = are_told(&extents, wanted);
+    Ok(has_beginnings(alloc, file.into_inner(), wanted)? && are_right)
+}
+
+/// Whether so much is salvaged of the file that these bytes are, and it stays as it was.
+fn is_salvaged_of(alloc: Global, bytes: &[u8], wanted: &[(u64, u64); 2]) -> Result<bool, Fail> {
+    let medium = MemoryMedium::from_bytes(Vec::from_slice(alloc, bytes)?);
+    let mut source = CompoundFile::open(alloc, medium)?;
+    let is_right = gives(alloc, &mut source, wanted)?;
+    Ok(is_right && source.into_inner().into_bytes().as_slice() == bytes)
+}
+
+/// Whether so much is salvaged of a file that was damaged so.
 fn is_salvaged(alloc: Global, words: Words, wanted: &[(u64, u64); 2]) -> Result<bool, Fail> {
     let mut bytes = two_streams(alloc)?;
     damage(&mut bytes, words);
-    let before = Vec::from_slice(alloc, &bytes)?;
-    let mut source = CompoundFile::open(alloc, MemoryMedium::from_bytes(bytes))?;
-    let Salvaged { file, extents } = source.salvage_to(MemoryMedium::new(alloc))?;
-    let is_right = are_told(&extents, wanted) && has_beginnings(alloc, file, wanted)?;
-    let left = source.into_inner().into_bytes();
-    Ok(is_right && left.as_slice() == before.as_slice())
+    is_salvaged_of(alloc, &bytes, wanted)
 }
 
 /// Of each stream the longest beginning is kept that can be read.
@@ -120,14 +143,26 @@ fn beginnings_are_salvaged(rt: HostRuntime) -> Result<(), Fail> {
     Ok(())
 }
 
+fn is_whole(
+    alloc: Global,
+    source: &mut CompoundFile<MemoryMedium>,
+    wanted: &[u8],
+) -> Result<bool, Fail> {
+    let Salvaged { mut file, extents } = source.salvage_to(MemoryMedium::new(alloc))?;
+    let are_whole = extents.iter().all(|extent| extent.kept == extent.len);
+    Ok(tells(alloc, &mut file, wanted)? && are_whole && extents.len() == STREAMS.len())
+}
+
+fn keeps_all(alloc: Global, source: &mut CompoundFile<MemoryMedium>) -> Result<bool, Fail> {
+    let wanted = told(alloc, source)?;
+    is_whole(alloc, source, &wanted)
+}
+
 /// Whether what is salvaged of a file tells the same as the file, and each stream is told to be kept whole.
 fn is_kept_whole(alloc: Global, version: Version) -> Result<bool, Fail> {
     let bytes = filled(alloc, version, &STREAMS)?;
     let mut source = CompoundFile::open(alloc, MemoryMedium::from_bytes(bytes))?;
-    let wanted = told(alloc, &mut source)?;
-    let Salvaged { mut file, extents } = source.salvage_to(MemoryMedium::new(alloc))?;
-    let are_whole = extents.iter().all(|extent| extent.kept == extent.len);
-    Ok(tells(alloc, &mut file, &wanted)? && are_whole && extents.len() == STREAMS.len())
+    keeps_all(alloc, &mut source)
 }
 
 /// All is kept of a sound file.
