@@ -1,7 +1,7 @@
 /* cfb.h: compound files (MS-CFB), the container of .doc, .xls, .msg, .msi and Thumbs.db, by a
    library that is proved. docs/BINDINGS.md says what the proofs cover.
 
-   A handle is one pointer in memory of your own. Initialize it with CFB_CLOSED, pass its address,
+   A handle is a struct in memory of your own. Initialize it with CFB_CLOSED, pass its address,
    and end it with cfb_close or cfb_entries_close. It is closed then and can be opened again.
    Closing a closed handle does nothing. Do not copy an open handle, and do not write to it.
 
@@ -16,10 +16,11 @@
 
    A NULL handle is CFB_NOT_OPEN and any other NULL is CFB_INVALID_INPUT, except where the length
    beside it is 0. A handle that is closed, or holds another kind of thing, is CFB_NOT_OPEN.
-   Two things no call can check: a length must be that of the memory that it describes, and no
-   pointer may point into a handle or overlap what another pointer of the call reports to.
+   Three things no call can check: a length must be that of the memory that it describes; no
+   pointer may point into a handle or overlap what another pointer of the call reports to; and what
+   is lent or mapped must stay as it is until cfb_close.
 
-   No call keeps a pointer. A handle stays on the thread that opened it; other threads can use
+   No call but cfb_open_lent keeps a pointer. A handle stays on the thread that opened it; other threads can use
    other handles at the same time. Make no call from a signal handler, nor in the child of fork in
    a program with threads. */
 #ifndef CFB_H
@@ -33,10 +34,14 @@
 extern "C" {
 #endif
 
-/* An open file, and a list of objects. */
-typedef struct cfb_file { void *at; } cfb_file;
+/* An open file, with what cfb_open has mapped; and a list of objects. */
+typedef struct cfb_file { void *at; void *map; size_t map_len; } cfb_file;
 typedef struct cfb_entries { void *at; } cfb_entries;
-#define CFB_CLOSED { NULL }
+#ifdef __cplusplus
+#define CFB_CLOSED {}
+#else
+#define CFB_CLOSED { 0 }
+#endif
 
 /* What calls return. */
 enum {
@@ -74,7 +79,10 @@ typedef struct cfb_entry_info {
    the reason until cfb_close. A file is read and changed in memory. */
 uint8_t cfb_open_bytes(cfb_file *file, const uint8_t *bytes, size_t len, bool is_strict);
 uint8_t cfb_create_bytes(cfb_file *file, uint32_t version); /* version 3 or 4 */
-/* The same without a copy of all bytes: begin with memory for `room` bytes (more is taken as
+/* The same without a copy: the bytes must stay as they are until cfb_close. The first change of the
+   file copies them, and never writes to them. */
+uint8_t cfb_open_lent(cfb_file *file, const uint8_t *bytes, size_t len, bool is_strict);
+/* The same with bytes that come in pieces: begin with memory for `room` bytes (more is taken as
    needed), add the bytes in pieces, then open. If opening fails the bytes are gone. */
 uint8_t cfb_bytes_begin(cfb_file *file, size_t room);
 uint8_t cfb_bytes_add(cfb_file *file, const uint8_t *bytes, size_t len);
@@ -90,8 +98,10 @@ uint8_t cfb_image(cfb_file *file, uint64_t at, uint8_t *into, size_t room, size_
 void cfb_close(cfb_file *file);
 
 /* ---- Files of the system, by their paths (C in cfb_files.c, tested and not proved).
-   A file is read whole. is_strict also rejects what other writers are known to leave behind and
-   what does no harm. Nothing changes a file in place: the proved part cannot reach files of the
+   A file is mapped, so that only what is asked for is read: it must stay as it is until cfb_close
+   (replacing it is no change of it; if it is cut, reading it ends the program with SIGBUS). What
+   cannot be mapped is read whole. is_strict also rejects what other writers are known to leave
+   behind and what does no harm. Nothing changes a file in place: the proved part cannot reach files of the
    system from a static library, so a change reaches the disk by cfb_save alone. */
 uint8_t cfb_open(cfb_file *file, const char *path, bool is_strict);
 /* Replaces the file at the path with a copy without free sectors: all of it, or nothing. The copy
@@ -177,7 +187,8 @@ CFB_BY_TEXT(cfb_set_modified, (cfb_file *file, const char *path, uint64_t moment
 /* Closes a list. */
 static inline void cfb_entries_close(cfb_entries *entries) {
     if (!entries) return;
-    cfb_file rest = { entries->at };
+    cfb_file rest = CFB_CLOSED;
+    rest.at = entries->at;
     entries->at = NULL;
     cfb_close(&rest);
 }

@@ -2,6 +2,7 @@
    no length is past the greatest object, and two handles are two. No proof covers this file. build.sh
    renames the calls of the proved library to cfb_proved_*, and hides them. */
 #include "cfb.h"
+#include <sys/mman.h>
 
 #define HANDLE(handle) if (!(handle)) return CFB_NOT_OPEN
 /* what is reported is 0 if the call fails */
@@ -13,7 +14,16 @@
 
 static uint8_t no_bytes[1];
 
+/* What cfb_open has mapped is read no more: the handle was closed, or holds something else. */
+static uint8_t unmapped(cfb_file *file, uint8_t number) {
+    if (file->map) munmap(file->map, file->map_len);
+    file->map = NULL;
+    file->map_len = 0;
+    return number;
+}
+
 uint8_t cfb_proved_open_bytes(cfb_file *file, const uint8_t *bytes, size_t len, bool is_strict);
+uint8_t cfb_proved_open_lent(cfb_file *file, const uint8_t *bytes, size_t len, bool is_strict);
 uint8_t cfb_proved_create_bytes(cfb_file *file, uint32_t version);
 uint8_t cfb_proved_bytes_begin(cfb_file *file, size_t room);
 uint8_t cfb_proved_bytes_add(cfb_file *file, const uint8_t *bytes, size_t len);
@@ -56,17 +66,23 @@ uint8_t cfb_proved_set_modified_n(cfb_file *file, const char *path, size_t path_
 uint8_t cfb_open_bytes(cfb_file *file, const uint8_t *bytes, size_t len, bool is_strict) {
     HANDLE(file);
     BYTES(bytes, len);
-    return cfb_proved_open_bytes(file, bytes, len, is_strict);
+    return unmapped(file, cfb_proved_open_bytes(file, bytes, len, is_strict));
+}
+
+uint8_t cfb_open_lent(cfb_file *file, const uint8_t *bytes, size_t len, bool is_strict) {
+    HANDLE(file);
+    BYTES(bytes, len);
+    return unmapped(file, cfb_proved_open_lent(file, bytes, len, is_strict));
 }
 
 uint8_t cfb_create_bytes(cfb_file *file, uint32_t version) {
     HANDLE(file);
-    return cfb_proved_create_bytes(file, version);
+    return unmapped(file, cfb_proved_create_bytes(file, version));
 }
 
 uint8_t cfb_bytes_begin(cfb_file *file, size_t room) {
     HANDLE(file);
-    return cfb_proved_bytes_begin(file, room);
+    return unmapped(file, cfb_proved_bytes_begin(file, room));
 }
 
 uint8_t cfb_bytes_add(cfb_file *file, const uint8_t *bytes, size_t len) {
@@ -84,7 +100,8 @@ uint8_t cfb_copy_bytes(cfb_file *file, cfb_file *copy) {
     HANDLE(file);
     if (!copy) return CFB_NOT_OPEN;
     if ((void *)file == (void *)copy) return CFB_INVALID_INPUT;
-    return cfb_proved_copy_bytes(file, copy);
+    uint8_t refused = cfb_proved_copy_bytes(file, copy);
+    return refused && copy->at ? refused : unmapped(copy, refused); /* else it holds what it held */
 }
 
 uint8_t cfb_into_bytes(cfb_file *file, size_t *len) {
@@ -114,7 +131,9 @@ uint8_t cfb_image(cfb_file *file, uint64_t at, uint8_t *into, size_t room, size_
 }
 
 void cfb_close(cfb_file *file) {
-    if (file) cfb_proved_close(file);
+    if (!file) return;
+    cfb_proved_close(file);
+    unmapped(file, CFB_DONE);
 }
 
 uint8_t cfb_version(cfb_file *file, uint32_t *version) {

@@ -1,10 +1,11 @@
-/* Files of the system for cfb.h. No proof covers this file. A file is read whole and saved whole. */
+/* Files of the system for cfb.h. No proof covers this file. A file is mapped or read whole, and saved whole. */
 #define _GNU_SOURCE
 #include "cfb.h"
 #include <errno.h>
 #include <fcntl.h>
 #include <limits.h>
 #include <stdio.h>
+#include <sys/mman.h>
 #include <sys/stat.h>
 #include <unistd.h>
 
@@ -26,19 +27,49 @@ static uint8_t add_all(cfb_file *file, int fd, uint8_t *piece) {
     return refused;
 }
 
+/* Opens the bytes of what is open, read through a piece of memory. */
+static uint8_t open_read(cfb_file *file, int fd, bool is_strict) {
+    uint8_t *piece = malloc(PIECE);
+    uint8_t refused = piece ? add_all(file, fd, piece) : CFB_MEMORY;
+    int fault = errno;
+    free(piece);
+    if (refused) cfb_close(file);
+    else refused = cfb_bytes_open(file, is_strict);
+    errno = fault;
+    return refused;
+}
+
+/* The same, mapped: for the library these are lent bytes. NULL stands for what cannot be mapped. */
+static void *map_of(int fd, size_t *len) {
+    struct stat now;
+    if (fstat(fd, &now) != 0 || !S_ISREG(now.st_mode) || now.st_size <= 0 || (uint64_t)now.st_size > PTRDIFF_MAX) return NULL;
+    *len = (size_t)now.st_size;
+    void *map = mmap(NULL, *len, PROT_READ, MAP_PRIVATE, fd, 0);
+    return map == MAP_FAILED ? NULL : map;
+}
+
+static uint8_t open_map(cfb_file *file, void *map, size_t len, bool is_strict) {
+    uint8_t refused = cfb_open_lent(file, map, len, is_strict);
+    if (refused) {
+        munmap(map, len);
+    } else {
+        file->map = map;
+        file->map_len = len;
+    }
+    return refused;
+}
+
 uint8_t cfb_open(cfb_file *file, const char *path, bool is_strict) {
     if (!file) return CFB_NOT_OPEN;
     cfb_close(file);
     if (!path) return CFB_INVALID_INPUT;
     int fd = open(path, O_RDONLY | O_CLOEXEC | O_NOCTTY);
     if (fd < 0) return CFB_MEDIUM;
-    uint8_t *piece = malloc(PIECE);
-    uint8_t refused = piece ? add_all(file, fd, piece) : CFB_MEMORY;
+    size_t len = 0;
+    void *map = map_of(fd, &len);
+    uint8_t refused = map ? open_map(file, map, len, is_strict) : open_read(file, fd, is_strict);
     int fault = errno;
     close(fd);
-    free(piece);
-    if (refused) cfb_close(file);
-    else refused = cfb_bytes_open(file, is_strict);
     errno = fault;
     return refused;
 }

@@ -25,7 +25,7 @@ static const struct { const char *text; size_t len; } paths[] = {
     { "/aaaaaaaaaaaaaaaaaaaaaaaaaaaaaaaa", 33 }, { NULL, 0 }, { NULL, 3 },
 };
 
-static uint8_t pool[70000], room[70000], image[400000], before[400000], after[400000];
+static uint8_t pool[70000], room[70000], image[400000], before[400000], after[400000], lent[4][400000], as_lent[4][400000];
 
 /* The bytes of a file as they stand; 0 where none is open, or they are too many to keep. */
 static size_t image_of(cfb_file *file, uint8_t *into, size_t most) {
@@ -78,7 +78,16 @@ int main(int argc, char **argv) {
         case 7: number = cfb_bytes_add(file, pool, len); break;
         case 8: number = cfb_bytes_open(file, next(2)); break;
         case 9: number = cfb_open_bytes(next(9) ? other : file, pool, len, next(2)); break;
-        case 10: case 11: /* a file with some bytes changed */
+        case 10: /* a file over bytes that are lent, and must stay as they are */
+            if (cfb_image(file, 0, image, sizeof image, &got) == CFB_DONE && got > 0) {
+                uint32_t to = next(4);
+                cfb_close(&f[to]);
+                memcpy(lent[to], image, got);
+                memcpy(as_lent[to], image, got);
+                number = cfb_open_lent(&f[to], lent[to], got, next(2));
+            }
+            break;
+        case 11: /* a file with some bytes changed */
             if (cfb_image(file, 0, image, sizeof image, &got) == CFB_DONE && got > 0) {
                 for (uint32_t left = next(6); left; left--) image[next(2) ? next(512) : next((uint32_t)got)] = (uint8_t)next(256);
                 number = cfb_open_bytes(next(4) ? other : file, image, next(3) ? got : next((uint32_t)got), next(2));
@@ -129,6 +138,7 @@ int main(int argc, char **argv) {
         case 47: number = cfb_set_modified_n(file, path, n, moment); break;
         }
         CHECK(number <= CFB_NOT_OPEN);
+        if (step % 64 == 0) CHECK(memcmp(lent, as_lent, sizeof lent) == 0);
         counts[number]++;
         if (number == CFB_NOT_OPEN && (file == &f[0] || file == &f[1]) && next(2)) CHECK(cfb_create_bytes(file, 3 + next(2)) == CFB_DONE);
         /* A whole write that runs out of room midway, and storages that are made one after the other, leave a part. */

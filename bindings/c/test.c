@@ -3,6 +3,7 @@
 #include "cfb.h"
 #include <errno.h>
 #include <stdio.h>
+#include <sys/mman.h>
 #include <sys/stat.h>
 #include <unistd.h>
 
@@ -213,6 +214,51 @@ static void pieces(uint8_t *bytes, size_t len) {
     cfb_entries_close(&list);
 }
 
+/* Bytes that are lent: they can be in memory that nothing writes to, and a file over them can be changed. */
+static void lent(const uint8_t *bytes, size_t len) {
+    cfb_file f = CFB_CLOSED, g = CFB_CLOSED;
+    uint8_t room[8], *there = mmap(NULL, len, PROT_READ | PROT_WRITE, MAP_PRIVATE | MAP_ANONYMOUS, -1, 0);
+    size_t got = 0;
+    uint64_t all = 0;
+    bool is = false;
+    CHECK(there != MAP_FAILED);
+    memcpy(there, bytes, len);
+    CHECK(mprotect(there, len, PROT_READ) == 0);
+    CHECK(cfb_open_lent(NULL, there, len, false) == CFB_NOT_OPEN && cfb_open_lent(&f, NULL, 1, false) == CFB_INVALID_INPUT);
+    CHECK(cfb_open_lent(&f, there, 100, false) == CFB_INVALID_DATA);
+    refuses_all(&f);
+    CHECK(cfb_open_lent(&f, there, len, true) == CFB_DONE && cfb_get(&f, "/z", room, 8, &got) == CFB_DONE && got == 2);
+    CHECK(cfb_open_lent(&g, there, len, true) == CFB_DONE && cfb_image_len(&g, &all) == CFB_DONE && all == len);
+    CHECK(cfb_put(&f, "/w", there, 5000) == CFB_DONE && cfb_remove_stream(&f, "/z") == CFB_DONE);
+    CHECK(cfb_is_stream(&f, "/z", &is) == CFB_DONE && !is && cfb_is_stream(&g, "/z", &is) == CFB_DONE && is);
+    CHECK(memcmp(there, bytes, len) == 0);
+    /* closed and kept, they are lent still */
+    CHECK(cfb_into_bytes(&g, &got) == CFB_DONE && got == len && cfb_bytes_open(&g, true) == CFB_DONE);
+    CHECK(cfb_into_bytes(&g, &got) == CFB_DONE && cfb_bytes_add(&g, room, 1) == CFB_DONE && cfb_bytes(&g, room, 0, &got) == CFB_TOO_SMALL && got == len + 1);
+    CHECK(cfb_open_lent(&g, there, len, false) == CFB_DONE && cfb_copy_bytes(&g, &f) == CFB_DONE && cfb_is_stream(&f, "/z", &is) == CFB_DONE && is);
+    cfb_close(&g);
+    CHECK(munmap(there, len) == 0);
+    /* a copy has bytes of its own */
+    CHECK(cfb_get(&f, "/z", room, 8, &got) == CFB_DONE && got == 2);
+    cfb_close(&f);
+}
+
+/* What cfb_open has mapped goes when the handle holds something else, and stays when that is refused. */
+static void mapped(const char *path) {
+    cfb_file f = CFB_CLOSED, g = CFB_CLOSED;
+    bool is = false;
+    size_t got = 0;
+    CHECK(cfb_open(&f, path, true) == CFB_DONE && f.map && cfb_create_bytes(&f, 3) == CFB_DONE && !f.map);
+    CHECK(cfb_open(&g, path, true) == CFB_DONE && g.map && cfb_copy_bytes(&f, &g) == CFB_DONE && !g.map);
+    CHECK(cfb_open(&g, path, true) == CFB_DONE && cfb_into_bytes(&f, &got) == CFB_DONE);
+    CHECK(cfb_copy_bytes(&f, &g) == CFB_NOT_OPEN && g.map && cfb_is_stream(&g, "/z", &is) == CFB_DONE && is);
+    CHECK(cfb_into_bytes(&g, &got) == CFB_DONE && g.map && cfb_bytes_open(&g, true) == CFB_DONE && g.map);
+    CHECK(cfb_put(&g, "/w", NULL, 0) == CFB_DONE && cfb_save(&g, path) == CFB_DONE && cfb_is_stream(&g, "/w", &is) == CFB_DONE && is);
+    CHECK(cfb_open(&g, "/dev/null", false) == CFB_INVALID_DATA && !g.map);
+    cfb_close(&f);
+    cfb_close(&g);
+}
+
 int main(int argc, char **argv) {
     const char *dir = argc > 1 ? argv[1] : "/tmp";
     char made[512];
@@ -242,6 +288,7 @@ int main(int argc, char **argv) {
         CHECK(cfb_bytes(&f, bytes, len, &len) == CFB_DONE && cfb_version(&f, &version) == CFB_NOT_OPEN);
         CHECK(cfb_open_bytes(&g, bytes, len, true) == CFB_DONE && cfb_is_stream(&g, "/z", &is) == CFB_DONE && is);
         pieces(bytes, len);
+        lent(bytes, len);
         cfb_open_bytes(&g, bytes, len / 2, false);
         bytes[0] ^= 1;
         CHECK(cfb_open_bytes(&g, bytes, len, false) == CFB_INVALID_DATA && !says(&g, "no such text"));
@@ -258,6 +305,7 @@ int main(int argc, char **argv) {
         CHECK(cfb_save(&f, "/nowhere/x") == CFB_MEDIUM && errno == ENOENT);
         CHECK(cfb_save(&f, "/dev/null") == CFB_MEDIUM && errno == EINVAL);
         CHECK(cfb_open(&g, made, true) == CFB_DONE && cfb_is_stream(&g, "/y", &is) == CFB_DONE && is);
+        mapped(made);
         CHECK(unlink(made) == 0);
     }
     cfb_close(&f);

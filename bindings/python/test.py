@@ -411,6 +411,20 @@ def beside_olefile(paths):
     print(f"python: {count} files as olefile reads them")
 
 
+def lent():
+    """Bytes are read where they stand, also when nobody else has them, and never written to."""
+    data = made(3).into_bytes()
+    f = cfb.OleFileIO(bytes(bytearray(data)))
+    others = [bytes(len(data)) for _ in range(9)]
+    assert f.read("s") == b"hello there" and len(others) == 9
+    f.open(data)
+    with cfb.OleFileIO(data) as g, f.copied() as copy:
+        g.put("new", b"n" * 5000)
+        f.close()
+        assert g.read("new") == b"n" * 5000 and copy.read("s") == g.read("s") == b"hello there"
+        assert not cfb.OleFileIO(data).exists("new") and not copy.exists("new")
+
+
 def main(listing=None, *paths):
     for version in (3, 4):
         f = made(version)
@@ -423,6 +437,7 @@ def main(listing=None, *paths):
     odd_files()
     closed()
     shared()
+    lent()
     subprocess.run([sys.executable, os.path.abspath(__file__), "--without-memory"], check=True)
     if olefile:
         beside_olefile(list(paths))

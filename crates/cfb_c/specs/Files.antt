@@ -49,8 +49,8 @@ pub record StaysHeld (old : Option Held) (number : ℕ) (new : Option Held) : Ty
 
 -- the bytes that are held were opened as a file, or not
 abbrev pub OpensKept : (is_strict : Bool) → Option Held → Kept → ℕ → Option Held → Type 0
-OpensKept is_strict old (Bytes bytes) number new = Makes (IsFileAnd (IsOpenedWith (options_of is_strict) bytes.items 0))
-    (IsLibraryAnd (IsNotOpened is_strict bytes.items)) number new
+OpensKept is_strict old (Bytes bytes) number new = Makes (IsFileAnd (IsOpenedWith (options_of is_strict) bytes.bytes 0))
+    (IsLibraryAnd (IsNotOpened is_strict bytes.bytes)) number new
 OpensKept is_strict old kept number new = StaysHeld old number new
 
 abbrev pub OpensHeld : (is_strict : Bool) → Option Held → ℕ → Option Held → Type 0

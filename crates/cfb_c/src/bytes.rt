@@ -12,7 +12,8 @@ use crate::handle::Handle;
 use crate::held::Kept;
 use crate::opening::opened_over;
 use crate::refusal::{NOT_OPEN, Refusal};
-use cfb::{Error, MemoryMedium};
+use cfb::Error;
+use cfb_lent::lent::LentMedium;
 use std::alloc::Global;
 use std::mem;
 
@@ -36,7 +37,7 @@ fn begun(alloc: Global, room: usize) -> Result<Kept, Refusal>
     ensures { MatchResult result (IsBytesAnd (λ bytes. bytes ≡ [])) (IsLibraryAnd IsMemory) }
 {
     match Vec::with_capacity(alloc, room) {
-        Ok(bytes) => Ok(Kept::Bytes(bytes)),
+        Ok(bytes) => Ok(Kept::Bytes(LentMedium::from_bytes(bytes))),
         Err(_) => Err(Refusal::Library(Error::Memory)),
     }
 }
@@ -63,7 +64,7 @@ fn append(kept: &mut Kept, more: &[u8]) -> Result<(), Refusal>
     let Kept::Bytes(bytes) = kept else {
         return Err(Refusal::NotOpen);
     };
-    match bytes.extend_from_slice(more) {
+    match bytes.append(more) {
         Ok(()) => Ok(()),
         Err(_) => Err(Refusal::Library(Error::Memory)),
     }
@@ -110,8 +111,8 @@ fn leave_bytes(kept: &mut Kept, len: &mut usize) -> Result<(), Refusal>
 {
     match mem::replace(kept, Kept::Nothing) {
         Kept::File(file) => {
-            let bytes = file.into_inner().into_bytes();
-            *len = bytes.len();
+            let bytes = file.into_inner();
+            *len = bytes.bytes().len();
             *kept = Kept::Bytes(bytes);
             Ok(())
         }
@@ -150,7 +151,7 @@ fn give_bytes(kept: &Kept, into: &mut [u8], len: &mut usize) -> Result<(), Refus
     let Kept::Bytes(bytes) = kept else {
         return Err(Refusal::NotOpen);
     };
-    give(bytes, into, len)
+    give(bytes.bytes(), into, len)
 }
 
 /// Copies a file, without its free sectors, to a file in memory, which `copy` holds then in place
@@ -177,7 +178,7 @@ fn copy_into(alloc: Global, kept: &mut Kept, copy: &mut Handle) -> Result<(), Re
     let Kept::File(file) = kept else {
         return Err(Refusal::NotOpen);
     };
-    let copied = file.copy_to(MemoryMedium::new(alloc))?;
+    let copied = file.copy_to(LentMedium::from_bytes(Vec::new(alloc)))?;
     if copy.hold(alloc, Ok(Kept::File(copied))) == 0 {
         Ok(())
     } else {

@@ -7,7 +7,8 @@ ghost use Rattle.cfb_c.specs.Calls.{AtPath, Calls, OnFile};
 use crate::handle::Handle;
 use crate::held::Kept;
 use crate::refusal::{NOT_OPEN, Refusal, text};
-use cfb::{CompoundFile, Error, MemoryMedium, Timestamp};
+use cfb::{CompoundFile, Error, Timestamp};
+use cfb_lent::lent::LentMedium;
 use std::alloc::Global;
 use uuid::Uuid;
 
@@ -321,7 +322,7 @@ fn set_modified_time(kept: &mut Kept, path: &[u8], moment: u64) -> Result<(), Re
 }
 
 fn create_storage_all_at(
-    file: &mut CompoundFile<MemoryMedium>,
+    file: &mut CompoundFile<LentMedium>,
     path: &str,
     moment: Timestamp,
 ) -> Result<(), Error>
@@ -330,20 +331,20 @@ fn create_storage_all_at(
     file.create_storage_all(path, moment)
 }
 
-fn remove_storage_all_at(file: &mut CompoundFile<MemoryMedium>, path: &str) -> Result<(), Error>
+fn remove_storage_all_at(file: &mut CompoundFile<LentMedium>, path: &str) -> Result<(), Error>
     ensures { IsAnswered (calls.remove_storage_all (chars path.now)) file.old result file.new }
 {
     file.remove_storage_all(path)
 }
 
-fn remove_stream_at(file: &mut CompoundFile<MemoryMedium>, path: &str) -> Result<(), Error>
+fn remove_stream_at(file: &mut CompoundFile<LentMedium>, path: &str) -> Result<(), Error>
     ensures { IsAnswered (calls.remove_stream (chars path.now)) file.old result file.new }
 {
     file.remove_stream(path)
 }
 
 fn create_storage_at(
-    file: &mut CompoundFile<MemoryMedium>,
+    file: &mut CompoundFile<LentMedium>,
     path: &str,
     moment: Timestamp,
 ) -> Result<(), Error>
@@ -352,14 +353,14 @@ fn create_storage_at(
     file.create_storage(path, moment)
 }
 
-fn remove_storage_at(file: &mut CompoundFile<MemoryMedium>, path: &str) -> Result<(), Error>
+fn remove_storage_at(file: &mut CompoundFile<LentMedium>, path: &str) -> Result<(), Error>
     ensures { IsAnswered (calls.remove_storage (chars path.now)) file.old result file.new }
 {
     file.remove_storage(path)
 }
 
 fn set_state_bits_at(
-    file: &mut CompoundFile<MemoryMedium>,
+    file: &mut CompoundFile<LentMedium>,
     path: &str,
     bits: u32,
 ) -> Result<(), Error>
@@ -369,7 +370,7 @@ fn set_state_bits_at(
 }
 
 fn set_created_time_at(
-    file: &mut CompoundFile<MemoryMedium>,
+    file: &mut CompoundFile<LentMedium>,
     path: &str,
     moment: Timestamp,
 ) -> Result<(), Error>
@@ -379,7 +380,7 @@ fn set_created_time_at(
 }
 
 fn set_modified_time_at(
-    file: &mut CompoundFile<MemoryMedium>,
+    file: &mut CompoundFile<LentMedium>,
     path: &str,
     moment: Timestamp,
 ) -> Result<(), Error>
@@ -389,7 +390,7 @@ fn set_modified_time_at(
 }
 
 fn set_storage_clsid_at(
-    file: &mut CompoundFile<MemoryMedium>,
+    file: &mut CompoundFile<LentMedium>,
     path: &str,
     clsid: Uuid,
 ) -> Result<(), Error>

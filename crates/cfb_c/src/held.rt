@@ -1,13 +1,14 @@
 //! What a handle holds.
-use cfb::{CompoundFile, Entry, Error, MemoryMedium};
+use cfb::{CompoundFile, Entry, Error};
+use cfb_lent::lent::LentMedium;
 
 /// What a handle holds.
 #[derive(Drop)]
 pub enum Kept {
-    /// An open file, whose bytes are in memory.
-    File(CompoundFile<MemoryMedium>),
+    /// An open file, whose bytes are in memory: lent by the caller, or its own.
+    File(CompoundFile<LentMedium>),
     /// The bytes of a file that is to be opened, or was open.
-    Bytes(Vec<u8>),
+    Bytes(LentMedium),
     /// What is told of objects, in order.
     Entries(Vec<Entry>),
     /// Nothing was opened.

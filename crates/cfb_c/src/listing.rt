@@ -11,7 +11,8 @@ use crate::giving::give;
 use crate::handle::Handle;
 use crate::held::Kept;
 use crate::refusal::{NOT_OPEN, Refusal, text, wrong};
-use cfb::{Entries, Entry, Error, MemoryMedium};
+use cfb::{Entries, Entry, Error};
+use cfb_lent::lent::LentMedium;
 use std::alloc::Global;
 
 /// How many bytes a name has room for. A stored name has at most 31 UTF-16 units, of at most 3
@@ -195,7 +196,7 @@ fn walk(alloc: Global, kept: &Kept, path: &[u8], entries: &mut Handle) -> Result
     Ok(())
 }
 
-fn collected(alloc: Global, entries: Entries<'_, MemoryMedium>) -> Result<Vec<Entry>, Error>
+fn collected(alloc: Global, entries: Entries<'_, LentMedium>) -> Result<Vec<Entry>, Error>
     ensures { MatchResult result (λ list. list.items ≡ entries_left entries.entry) IsMemory }
 {
     match entries.collect(alloc) {

@@ -13,9 +13,8 @@ use crate::giving::give;
 use crate::handle::Handle;
 use crate::held::Kept;
 use crate::refusal::{NOT_OPEN, Refusal, text};
-use cfb::{
-    CompoundFile, Detail, Error, MemoryMedium, ReadStream, Stream, read_stream, write_stream,
-};
+use cfb::{CompoundFile, Detail, Error, ReadStream, Stream, read_stream, write_stream};
+use cfb_lent::lent::LentMedium;
 use std::alloc::Global;
 use std::io::SeekFrom;
 
@@ -89,7 +88,7 @@ fn put(kept: &mut Kept, path: &[u8], bytes: &[u8]) -> Result<(), Refusal>
     Ok(())
 }
 
-fn put_all(file: &mut CompoundFile<MemoryMedium>, path: &str, bytes: &[u8]) -> Result<(), Error>
+fn put_all(file: &mut CompoundFile<LentMedium>, path: &str, bytes: &[u8]) -> Result<(), Error>
     ensures { PutsWhole bytes.now (chars path.now) file.old result file.new }
 {
     write_stream(file, path, bytes)
@@ -128,7 +127,7 @@ fn create_stream(kept: &mut Kept, path: &[u8], is_new: bool) -> Result<(), Refus
     Ok(())
 }
 
-fn put_empty(file: &mut CompoundFile<MemoryMedium>, path: &str, is_new: bool) -> Result<(), Error>
+fn put_empty(file: &mut CompoundFile<LentMedium>, path: &str, is_new: bool) -> Result<(), Error>
     ensures { PutsEmpty is_new (chars path.now) file.old result file.new }
 {
     if is_new && !file.is_failed() && file.is_stream(path) {
@@ -180,7 +179,7 @@ fn read(
 }
 
 fn read_at(
-    file: &mut CompoundFile<MemoryMedium>,
+    file: &mut CompoundFile<LentMedium>,
     path: &str,
     at: u64,
     into: &mut [u8],
@@ -198,7 +197,7 @@ fn read_at(
 
 /// Reads from the place `at` on, until there is no more room or the stream ends.
 fn fill_from(
-    stream: &mut ReadStream<'_, MemoryMedium>,
+    stream: &mut ReadStream<'_, LentMedium>,
     at: u64,
     into: &mut [u8],
 ) -> Result<usize, Error>
@@ -258,7 +257,7 @@ fn write(kept: &mut Kept, path: &[u8], at: u64, bytes: &[u8]) -> Result<(), Refu
 }
 
 fn write_at(
-    file: &mut CompoundFile<MemoryMedium>,
+    file: &mut CompoundFile<LentMedium>,
     path: &str,
     at: u64,
     bytes: &[u8],
@@ -269,7 +268,7 @@ fn write_at(
 }
 
 /// Writes all of these bytes from the place `at` on.
-fn write_from(stream: &mut Stream<'_, MemoryMedium>, at: u64, bytes: &[u8]) -> Result<(), Error>
+fn write_from(stream: &mut Stream<'_, LentMedium>, at: u64, bytes: &[u8]) -> Result<(), Error>
     ensures { (file_of stream.new).ghost_name ≡ (file_of stream.old).ghost_name }
 {
     stream.seek(SeekFrom::Start(at))?;
@@ -304,7 +303,7 @@ fn set_len(kept: &mut Kept, path: &[u8], len: u64) -> Result<(), Refusal>
     Ok(())
 }
 
-fn set_len_at(file: &mut CompoundFile<MemoryMedium>, path: &str, len: u64) -> Result<(), Error> {
+fn set_len_at(file: &mut CompoundFile<LentMedium>, path: &str, len: u64) -> Result<(), Error> {
     let mut stream = file.open_stream(path)?;
     let resized = stream.set_len(len);
     stream.finish(resized)
