@@ -2,3 +2,5 @@ pub mod Values
 pub mod Closed
 pub mod Pieces
 pub mod Told
+pub mod Parts
+pub mod PartsStored

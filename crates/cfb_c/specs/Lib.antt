@@ -1,6 +1,7 @@
 pub mod Holding
 pub mod Numbers
 pub mod Given
+pub mod Reasons
 pub mod Calls
 pub mod Lists
 pub mod Opened
@@ -8,3 +9,4 @@ pub mod Streams
 pub mod Files
 pub mod Pieces
 pub mod Answered
+pub mod Parts

@@ -6,6 +6,7 @@ ghost use Rattle.cfb_commands.specs.cfb_mini_sectors.State.{version_of};
 ghost use Rattle.cfb_commands.specs.cfb_path_changes.Answers.{Answers};
 ghost use Rattle.cfb_commands.specs.cfb_rules.Calls as calls;
 ghost use Rattle.cfb_c.specs.Calls.{AtPath, Calls, OnFile, Tells};
+ghost use Rattle.cfb_c.specs.Reasons.{GivesReason, TellsReason};
 
 use crate::giving::give;
 use crate::handle::Handle;
@@ -196,24 +197,33 @@ pub extern "C" fn cfb_reason(
     into: &mut [u8],
     len: &mut usize,
 ) -> u8
-    ensures { file.new.value ≡ file.old.value }
+    ensures same { file.new.value ≡ file.old.value }
+    ensures told { TellsReason file.old.value into.old into.new len.new result }
 {
     *len = 0;
     let Some(held) = file.take(alloc) else {
         return NOT_OPEN;
     };
-    let told = reason(alloc, &held.refusal);
+    let told = tell_reason(alloc, &held.refusal, into, len);
     file.put(alloc, held);
-    match told {
-        Ok(text) => answer(give(text.as_bytes(), into, len)),
-        Err(e) => e.number(),
-    }
+    answer(told)
 }
 
-fn reason(alloc: Global, refusal: &Option<Error>) -> Result<String, Error> {
+#[tactic(auto, using(crate::proofs::Told::gives_some_text))]
+fn tell_reason(
+    alloc: Global,
+    refusal: &Option<Error>,
+    into: &mut [u8],
+    len: &mut usize,
+) -> Result<(), Refusal>
+    ensures { GivesReason refusal.now into.old result into.new len.new }
+{
+    let Some(e) = refusal else {
+        return give(&[], into, len);
+    };
     let mut text = String::new(alloc);
-    if let Some(e) = refusal {
-        write!(text, "{e}")?;
+    if write!(text, "{e}").is_err() {
+        return Err(Refusal::Library(Error::Memory));
     }
-    Ok(text)
+    give(text.as_bytes(), into, len)
 }

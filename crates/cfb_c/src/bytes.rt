@@ -162,7 +162,7 @@ fn give_bytes(kept: &Kept, into: &mut [u8], len: &mut usize) -> Result<(), Refus
 /// As `CompoundFile::copy_to`; `Memory` for what `copy` would hold too.
 #[unsafe(no_mangle)]
 pub extern "C" fn cfb_copy_bytes(alloc: Global, file: &mut Handle, copy: &mut Handle) -> u8
-    ensures { Calls (OnFile (CopiesInto copy.new.value)) file.old.value result file.new.value }
+    ensures { Calls (OnFile (CopiesInto copy.old.value copy.new.value)) file.old.value result file.new.value }
 {
     let Some(mut held) = file.take(alloc) else {
         return NOT_OPEN;
@@ -173,7 +173,7 @@ pub extern "C" fn cfb_copy_bytes(alloc: Global, file: &mut Handle, copy: &mut Ha
 
 #[tactic(auto, using(crate::proofs::Told::holds_copy))]
 fn copy_into(alloc: Global, kept: &mut Kept, copy: &mut Handle) -> Result<(), Refusal>
-    ensures { OnFile (CopiesInto copy.new.value) kept.old result kept.new }
+    ensures { OnFile (CopiesInto copy.old.value copy.new.value) kept.old result kept.new }
 {
     let Kept::File(file) = kept else {
         return Err(Refusal::NotOpen);

@@ -18,3 +18,4 @@ pub mod listing;
 pub mod opening;
 pub mod refusal;
 pub mod streams;
+pub mod writing;

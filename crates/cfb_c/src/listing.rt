@@ -5,7 +5,7 @@ ghost use Rattle.cfb_commands.specs.cfb_path_changes.Answers.{AnswersNot};
 ghost use Rattle.cfb_commands.specs.cfb_rules.Calls as calls;
 ghost use Rattle.cfb_listing.specs.Left.{entries_left};
 ghost use Rattle.cfb_c.specs.Calls.{Asks, AtPath, Calls, OnFile, OnList};
-ghost use Rattle.cfb_c.specs.Lists.{GivesInfo, GivesPath, HoldsList, IsInfoOf, IsNotListed, KeepsList, TellsAt, TellsOne, kind_byte};
+ghost use Rattle.cfb_c.specs.Lists.{GivesInfo, GivesPath, HoldsList, IsInfoOf, IsNamed, IsNotListed, KeepsList, TellsAt, TellsOne, kind_byte};
 
 use crate::giving::give;
 use crate::handle::Handle;
@@ -64,20 +64,29 @@ fn kind_of(entry: &Entry) -> u8
     }
 }
 
+/// The name with zeros behind it, and how many bytes it has.
+#[tactic(auto, using(crate::proofs::Told::named))]
+fn name_of(stored: &[u8]) -> ([u8; NAME_ROOM], u8)
+    ensures { IsNamed stored.now result.0 result.1 }
+{
+    let mut name = [0; NAME_ROOM];
+    let len = stored.len().min(NAME_ROOM - 1);
+    name[..len].copy_from_slice(&stored[..len]);
+    (name, len as u8)
+}
+
+#[tactic(auto, using(crate::proofs::Told::name_in_utf8))]
 fn info_of(entry: &Entry) -> ObjectInfo
     ensures { IsInfoOf entry.now result }
 {
-    let mut name = [0; 96];
-    let stored = entry.name().as_bytes();
-    let name_len = stored.len().min(NAME_ROOM - 1);
-    name[..name_len].copy_from_slice(&stored[..name_len]);
+    let (name, name_len) = name_of(entry.name().as_bytes());
     ObjectInfo {
         len: entry.len(),
         created: entry.created().value(),
         modified: entry.modified().value(),
         state_bits: entry.state_bits(),
         kind: kind_of(entry),
-        name_len: name_len as u8,
+        name_len,
         clsid: entry.clsid().into_bytes(),
         name,
     }
@@ -134,7 +143,7 @@ pub extern "C" fn cfb_list_n(
 ) -> u8
     ensures { Calls (OnFile (AtPath path.now (λ path.
         Asks (HoldsList (calls.read_storage path) entries.new.value)
-        (IsNotListed (calls.read_storage path))))) file.old.value result file.new.value }
+        (IsNotListed entries.old.value entries.new.value (calls.read_storage path))))) file.old.value result file.new.value }
 {
     let Some(held) = file.take(alloc) else {
         return NOT_OPEN;
@@ -146,7 +155,7 @@ pub extern "C" fn cfb_list_n(
 fn list(alloc: Global, kept: &Kept, path: &[u8], entries: &mut Handle) -> Result<(), Refusal>
     ensures { OnFile (AtPath path.now (λ path.
         Asks (HoldsList (calls.read_storage path) entries.new.value)
-        (IsNotListed (calls.read_storage path)))) kept.now result kept.now }
+        (IsNotListed entries.old.value entries.new.value (calls.read_storage path)))) kept.now result kept.now }
 {
     let Kept::File(file) = kept else {
         return Err(Refusal::NotOpen);
@@ -174,7 +183,7 @@ pub extern "C" fn cfb_walk_n(
 ) -> u8
     ensures { Calls (OnFile (AtPath path.now (λ path.
         Asks (HoldsList (calls.walk_storage path) entries.new.value)
-        (IsNotListed (calls.walk_storage path))))) file.old.value result file.new.value }
+        (IsNotListed entries.old.value entries.new.value (calls.walk_storage path))))) file.old.value result file.new.value }
 {
     let Some(held) = file.take(alloc) else {
         return NOT_OPEN;
@@ -186,7 +195,7 @@ pub extern "C" fn cfb_walk_n(
 fn walk(alloc: Global, kept: &Kept, path: &[u8], entries: &mut Handle) -> Result<(), Refusal>
     ensures { OnFile (AtPath path.now (λ path.
         Asks (HoldsList (calls.walk_storage path) entries.new.value)
-        (IsNotListed (calls.walk_storage path)))) kept.now result kept.now }
+        (IsNotListed entries.old.value entries.new.value (calls.walk_storage path)))) kept.now result kept.now }
 {
     let Kept::File(file) = kept else {
         return Err(Refusal::NotOpen);

@@ -1,0 +1,130 @@
+//! Parts of streams are written, and their lengths changed. Places and lengths are in bytes.
+ghost use Rattle.std.specs.Prelude.{◌≡◌, chars};
+ghost use Rattle.cfb_commands.specs.cfb_compound_file.Streams.{file_of, open_of};
+ghost use Rattle.cfb_c.specs.Calls.{AtPath, Calls, OnFile};
+ghost use Rattle.cfb_c.specs.Parts.{IsWorked, Resizes, SetsLen, WritesFrom, WritesPart};
+
+use crate::handle::Handle;
+use crate::held::Kept;
+use crate::refusal::{NOT_OPEN, Refusal, text};
+use cfb::{CompoundFile, Error, Stream};
+use cfb_lent::lent::LentMedium;
+use cfb_whole_streams::content::write_all;
+use std::alloc::Global;
+use std::io::SeekFrom;
+
+/// Writes all of these bytes into the stream at this path, from the place `at` on, which is not
+/// past its end. The stream grows where they reach past it.
+///
+/// # Errors
+///
+/// As `open_stream`, `seek`, `write` and `close`. The first of the bytes may be written then.
+#[unsafe(no_mangle)]
+pub extern "C" fn cfb_write_n(
+    alloc: Global,
+    file: &mut Handle,
+    path: &[u8],
+    at: u64,
+    bytes: &[u8],
+) -> u8
+    ensures { Calls (OnFile (AtPath path.now (WritesPart at bytes.now)))
+        file.old.value result file.new.value }
+{
+    let Some(mut held) = file.take(alloc) else {
+        return NOT_OPEN;
+    };
+    let outcome = write(&mut held.kept, path, at, bytes);
+    file.done(alloc, held, outcome)
+}
+
+fn write(kept: &mut Kept, path: &[u8], at: u64, bytes: &[u8]) -> Result<(), Refusal>
+    ensures { OnFile (AtPath path.now (WritesPart at bytes.now))
+        kept.old result kept.new }
+{
+    let Kept::File(file) = kept else {
+        return Err(Refusal::NotOpen);
+    };
+    write_at(file, text(path)?, at, bytes)?;
+    Ok(())
+}
+
+fn write_at(
+    file: &mut CompoundFile<LentMedium>,
+    path: &str,
+    at: u64,
+    bytes: &[u8],
+) -> Result<(), Error>
+    ensures changes { WritesPart at bytes.now
+        (chars path.now) file.old result file.new }
+{
+    // What the file keeps in memory is what its bytes say.
+    let _is_failed = file.is_failed();
+    let mut stream = file.open_stream(path)?;
+    let written = write_from(&mut stream, at, bytes);
+    let closed = stream.close();
+    written?;
+    closed
+}
+
+/// Writes all of these bytes from the place `at` on.
+fn write_from(stream: &mut Stream<'_, LentMedium>, at: u64, bytes: &[u8]) -> Result<(), Error>
+    ensures same_file { (file_of stream.new).ghost_name ≡ (file_of stream.old).ghost_name }
+    ensures works { IsWorked (WritesFrom at bytes.now)
+        (open_of stream.old) result (open_of stream.new) }
+{
+    let sought = stream.seek(SeekFrom::Start(at));
+    // What the file keeps in memory is what its bytes say still.
+    let _is_failed = stream.is_failed();
+    sought?;
+    write_all(stream, bytes)
+}
+
+/// Cuts the stream at this path to a length, or pads it with zeros.
+///
+/// # Errors
+///
+/// As `open_stream`, `set_len` and `close`.
+#[unsafe(no_mangle)]
+pub extern "C" fn cfb_set_len_n(alloc: Global, file: &mut Handle, path: &[u8], len: u64) -> u8
+    ensures { Calls (OnFile (AtPath path.now (Resizes len)))
+        file.old.value result file.new.value }
+{
+    let Some(mut held) = file.take(alloc) else {
+        return NOT_OPEN;
+    };
+    let outcome = set_len(&mut held.kept, path, len);
+    file.done(alloc, held, outcome)
+}
+
+fn set_len(kept: &mut Kept, path: &[u8], len: u64) -> Result<(), Refusal>
+    ensures { OnFile (AtPath path.now (Resizes len)) kept.old result kept.new }
+{
+    let Kept::File(file) = kept else {
+        return Err(Refusal::NotOpen);
+    };
+    set_len_at(file, text(path)?, len)?;
+    Ok(())
+}
+
+fn set_len_at(file: &mut CompoundFile<LentMedium>, path: &str, len: u64) -> Result<(), Error>
+    ensures changes { Resizes len (chars path.now) file.old result file.new }
+{
+    // What the file keeps in memory is what its bytes say.
+    let _is_failed = file.is_failed();
+    let mut stream = file.open_stream(path)?;
+    let resized = resize(&mut stream, len);
+    let closed = stream.close();
+    resized?;
+    closed
+}
+
+/// Gives the stream this length.
+fn resize(stream: &mut Stream<'_, LentMedium>, len: u64) -> Result<(), Error>
+    ensures same_file { (file_of stream.new).ghost_name ≡ (file_of stream.old).ghost_name }
+    ensures works { IsWorked (SetsLen len) (open_of stream.old) result (open_of stream.new) }
+{
+    let resized = stream.set_len(len);
+    // What the file keeps in memory is what its bytes say still.
+    let _is_failed = stream.is_failed();
+    resized
+}
