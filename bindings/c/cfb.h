@@ -131,8 +131,8 @@ uint8_t cfb_entries_get(cfb_entries *entries, size_t number, cfb_entry_info *inf
 uint8_t cfb_entries_path(cfb_entries *entries, size_t number, char *into, size_t room, size_t *len);
 
 /* ---- Streams, by their paths. */
-/* Up to `room` bytes from `at` on; fewer only at the end. Each call looks the stream up anew, so
-   large pieces cost less. */
+/* Up to `room` bytes from `at` on; fewer only at the end. Where pieces are read in turn, up to 1 MiB
+   is read ahead and kept, until another stream is read or a call changes the file. */
 uint8_t cfb_read_n(cfb_file *file, const char *path, size_t path_len, uint64_t at, uint8_t *into, size_t room, size_t *len);
 /* All bytes. */
 uint8_t cfb_get_n(cfb_file *file, const char *path, size_t path_len, uint8_t *into, size_t room, size_t *len);

@@ -214,6 +214,42 @@ static void pieces(uint8_t *bytes, size_t len) {
     cfb_entries_close(&list);
 }
 
+static uint8_t of(size_t at) { return (uint8_t)(at * 7 + at / 251); }
+
+/* Streams that are read in turn, in small pieces, and changed meanwhile. */
+static void in_turn(cfb_file *f) {
+    enum { LEN = 300000, PIECE = 4096 };
+    static uint8_t bytes[LEN], room[PIECE];
+    size_t got = 0, other = 0;
+    for (size_t i = 0; i < LEN; i++) bytes[i] = of(i);
+    CHECK(cfb_put(f, "/t", bytes, LEN) == CFB_DONE && cfb_put(f, "/u", bytes + 1, LEN - 1) == CFB_DONE);
+    for (size_t at = 0; at < LEN; at += got) {
+        CHECK(cfb_read(f, "/t", at, room, PIECE, &got) == CFB_DONE && got == (LEN - at < PIECE ? LEN - at : PIECE));
+        CHECK(memcmp(room, bytes + at, got) == 0);
+    }
+    CHECK(cfb_read(f, "/t", LEN, room, PIECE, &got) == CFB_DONE && got == 0);
+    CHECK(cfb_read(f, "/t", LEN + 1, room, PIECE, &got) == CFB_DONE && got == 0);
+    CHECK(cfb_read(f, "/t", UINT64_MAX, room, PIECE, &got) == CFB_DONE && got == 0);
+    /* two at once, and back and forth */
+    for (size_t at = 0; at + 500 < LEN; at += 100) {
+        CHECK(cfb_read(f, at % 300 ? "/T" : "/u", at, room, 500, &got) == CFB_DONE && got == 500);
+        CHECK(memcmp(room, bytes + at + (at % 300 ? 0 : 1), 500) == 0);
+    }
+    /* what was read ahead is not what is there after a change */
+    for (size_t at = 0; at + PIECE < LEN; at += PIECE) {
+        CHECK(cfb_read(f, "/t", at, room, PIECE, &got) == CFB_DONE && memcmp(room, bytes + at, got) == 0);
+        bytes[at + PIECE] ^= 0xff;
+        CHECK(cfb_write(f, "/t", at + PIECE, bytes + at + PIECE, 1) == CFB_DONE);
+    }
+    CHECK(cfb_read(f, "/t", LEN - PIECE, room, PIECE, &got) == CFB_DONE && cfb_set_len(f, "/t", LEN - 9) == CFB_DONE);
+    CHECK(cfb_read(f, "/t", LEN - 10, room, PIECE, &got) == CFB_DONE && got == 1);
+    CHECK(cfb_read(f, "/t", 0, room, 1, &got) == CFB_DONE && cfb_read(f, "/t", 1, room, 1, &got) == CFB_DONE && cfb_read(f, "/t", 2, room, 1, &got) == CFB_DONE);
+    CHECK(cfb_put(f, "/t", bytes, 3) == CFB_DONE && cfb_read(f, "/t", 3, room, 1, &got) == CFB_DONE && got == 0);
+    CHECK(cfb_read(f, "/t", 2, room, 9, &other) == CFB_DONE && other == 1 && room[0] == bytes[2]);
+    CHECK(cfb_remove_stream(f, "/t") == CFB_DONE && cfb_read(f, "/t", 3, room, 1, &got) == CFB_NOT_FOUND && got == 0);
+    CHECK(cfb_remove_stream(f, "/u") == CFB_DONE);
+}
+
 /* Bytes that are lent: they can be in memory that nothing writes to, and a file over them can be changed. */
 static void lent(const uint8_t *bytes, size_t len) {
     cfb_file f = CFB_CLOSED, g = CFB_CLOSED;
@@ -275,6 +311,7 @@ int main(int argc, char **argv) {
         CHECK(cfb_create_bytes(&f, 5) == CFB_INVALID_INPUT && says(&f, "version") && cfb_version(&f, &version) == CFB_NOT_OPEN);
         CHECK(cfb_create_bytes(&f, v) == CFB_DONE && cfb_version(&f, &version) == CFB_DONE && version == v);
         change(&f);
+        in_turn(&f);
         refuses_path(&f, "/\xff", 2);
         CHECK(says(&f, "UTF-8"));
         refuses_path(&f, "/a\0b", 4);

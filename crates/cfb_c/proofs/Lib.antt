@@ -1,6 +1,7 @@
 pub mod Values
 pub mod Closed
 pub mod Pieces
+pub mod Ahead
 pub mod Told
 pub mod Parts
 pub mod PartsStored

@@ -8,5 +8,6 @@ pub mod Opened
 pub mod Streams
 pub mod Files
 pub mod Pieces
+pub mod Ahead
 pub mod Answered
 pub mod Parts

@@ -36,7 +36,7 @@ fn tell_version(kept: &Kept, version: &mut u32) -> Result<(), Refusal>
     let Kept::File(file) = kept else {
         return Err(Refusal::NotOpen);
     };
-    *version = u32::from(file.version().number());
+    *version = u32::from(file.inner.version().number());
     Ok(())
 }
 
@@ -62,7 +62,7 @@ fn tell_soundness(kept: &Kept, is_so: &mut bool) -> Result<(), Refusal>
     let Kept::File(file) = kept else {
         return Err(Refusal::NotOpen);
     };
-    *is_so = file.is_sound();
+    *is_so = file.inner.is_sound();
     Ok(())
 }
 
@@ -88,7 +88,7 @@ fn tell_failure(kept: &Kept, is_so: &mut bool) -> Result<(), Refusal>
     let Kept::File(file) = kept else {
         return Err(Refusal::NotOpen);
     };
-    *is_so = file.is_failed();
+    *is_so = file.inner.is_failed();
     Ok(())
 }
 
@@ -120,7 +120,7 @@ fn tell_existence(kept: &Kept, path: &[u8], is_so: &mut bool) -> Result<(), Refu
     let Kept::File(file) = kept else {
         return Err(Refusal::NotOpen);
     };
-    *is_so = file.exists(text(path)?);
+    *is_so = file.inner.exists(text(path)?);
     Ok(())
 }
 
@@ -152,7 +152,7 @@ fn tell_stream(kept: &Kept, path: &[u8], is_so: &mut bool) -> Result<(), Refusal
     let Kept::File(file) = kept else {
         return Err(Refusal::NotOpen);
     };
-    *is_so = file.is_stream(text(path)?);
+    *is_so = file.inner.is_stream(text(path)?);
     Ok(())
 }
 
@@ -184,7 +184,7 @@ fn tell_storage(kept: &Kept, path: &[u8], is_so: &mut bool) -> Result<(), Refusa
     let Kept::File(file) = kept else {
         return Err(Refusal::NotOpen);
     };
-    *is_so = file.is_storage(text(path)?);
+    *is_so = file.inner.is_storage(text(path)?);
     Ok(())
 }
 

@@ -10,6 +10,7 @@ ghost use Rattle.cfb_c.specs.Numbers.{IsLibraryAnd};
 use crate::giving::{give, give_part};
 use crate::handle::Handle;
 use crate::held::Kept;
+use crate::open_file::OpenFile;
 use crate::opening::opened_over;
 use crate::refusal::{NOT_OPEN, Refusal};
 use cfb::Error;
@@ -111,7 +112,7 @@ fn leave_bytes(kept: &mut Kept, len: &mut usize) -> Result<(), Refusal>
 {
     match mem::replace(kept, Kept::Nothing) {
         Kept::File(file) => {
-            let bytes = file.into_inner();
+            let bytes = file.into_file().into_inner();
             *len = bytes.bytes().len();
             *kept = Kept::Bytes(bytes);
             Ok(())
@@ -178,8 +179,9 @@ fn copy_into(alloc: Global, kept: &mut Kept, copy: &mut Handle) -> Result<(), Re
     let Kept::File(file) = kept else {
         return Err(Refusal::NotOpen);
     };
-    let copied = file.copy_to(LentMedium::from_bytes(Vec::new(alloc)))?;
-    if copy.hold(alloc, Ok(Kept::File(copied))) == 0 {
+    file.ahead = None;
+    let copied = file.inner.copy_to(LentMedium::from_bytes(Vec::new(alloc)))?;
+    if copy.hold(alloc, Ok(Kept::File(OpenFile::new(copied)))) == 0 {
         Ok(())
     } else {
         Err(Refusal::Library(Error::Memory))
@@ -207,7 +209,7 @@ fn tell_image_len(kept: &Kept, len: &mut u64) -> Result<(), Refusal>
     let Kept::File(file) = kept else {
         return Err(Refusal::NotOpen);
     };
-    *len = file.medium().bytes().len() as u64;
+    *len = file.inner.medium().bytes().len() as u64;
     Ok(())
 }
 
@@ -240,6 +242,6 @@ fn give_image(kept: &Kept, at: u64, into: &mut [u8], len: &mut usize) -> Result<
     let Kept::File(file) = kept else {
         return Err(Refusal::NotOpen);
     };
-    *len = give_part(file.medium().bytes(), at, into);
+    *len = give_part(file.inner.medium().bytes(), at, into);
     Ok(())
 }

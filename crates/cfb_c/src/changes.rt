@@ -50,7 +50,8 @@ fn create_storage(kept: &mut Kept, path: &[u8], moment: u64) -> Result<(), Refus
     let Kept::File(file) = kept else {
         return Err(Refusal::NotOpen);
     };
-    create_storage_at(file, text(path)?, moment_of_units(moment))?;
+    file.ahead = None;
+    create_storage_at(&mut file.inner, text(path)?, moment_of_units(moment))?;
     Ok(())
 }
 
@@ -86,7 +87,8 @@ fn create_storage_all(kept: &mut Kept, path: &[u8], moment: u64) -> Result<(), R
     let Kept::File(file) = kept else {
         return Err(Refusal::NotOpen);
     };
-    create_storage_all_at(file, text(path)?, moment_of_units(moment))?;
+    file.ahead = None;
+    create_storage_all_at(&mut file.inner, text(path)?, moment_of_units(moment))?;
     Ok(())
 }
 
@@ -116,7 +118,8 @@ fn remove_storage(kept: &mut Kept, path: &[u8]) -> Result<(), Refusal>
     let Kept::File(file) = kept else {
         return Err(Refusal::NotOpen);
     };
-    remove_storage_at(file, text(path)?)?;
+    file.ahead = None;
+    remove_storage_at(&mut file.inner, text(path)?)?;
     Ok(())
 }
 
@@ -146,7 +149,8 @@ fn remove_storage_all(kept: &mut Kept, path: &[u8]) -> Result<(), Refusal>
     let Kept::File(file) = kept else {
         return Err(Refusal::NotOpen);
     };
-    remove_storage_all_at(file, text(path)?)?;
+    file.ahead = None;
+    remove_storage_all_at(&mut file.inner, text(path)?)?;
     Ok(())
 }
 
@@ -176,7 +180,8 @@ fn remove_stream(kept: &mut Kept, path: &[u8]) -> Result<(), Refusal>
     let Kept::File(file) = kept else {
         return Err(Refusal::NotOpen);
     };
-    remove_stream_at(file, text(path)?)?;
+    file.ahead = None;
+    remove_stream_at(&mut file.inner, text(path)?)?;
     Ok(())
 }
 
@@ -212,7 +217,8 @@ fn set_storage_clsid(kept: &mut Kept, path: &[u8], clsid: &[u8; 16]) -> Result<(
     let Kept::File(file) = kept else {
         return Err(Refusal::NotOpen);
     };
-    set_storage_clsid_at(file, text(path)?, Uuid::from_bytes(*clsid))?;
+    file.ahead = None;
+    set_storage_clsid_at(&mut file.inner, text(path)?, Uuid::from_bytes(*clsid))?;
     Ok(())
 }
 
@@ -247,7 +253,8 @@ fn set_state_bits(kept: &mut Kept, path: &[u8], bits: u32) -> Result<(), Refusal
     let Kept::File(file) = kept else {
         return Err(Refusal::NotOpen);
     };
-    set_state_bits_at(file, text(path)?, bits)?;
+    file.ahead = None;
+    set_state_bits_at(&mut file.inner, text(path)?, bits)?;
     Ok(())
 }
 
@@ -282,7 +289,8 @@ fn set_created_time(kept: &mut Kept, path: &[u8], moment: u64) -> Result<(), Ref
     let Kept::File(file) = kept else {
         return Err(Refusal::NotOpen);
     };
-    set_created_time_at(file, text(path)?, moment_of_units(moment))?;
+    file.ahead = None;
+    set_created_time_at(&mut file.inner, text(path)?, moment_of_units(moment))?;
     Ok(())
 }
 
@@ -317,7 +325,8 @@ fn set_modified_time(kept: &mut Kept, path: &[u8], moment: u64) -> Result<(), Re
     let Kept::File(file) = kept else {
         return Err(Refusal::NotOpen);
     };
-    set_modified_time_at(file, text(path)?, moment_of_units(moment))?;
+    file.ahead = None;
+    set_modified_time_at(&mut file.inner, text(path)?, moment_of_units(moment))?;
     Ok(())
 }
 

@@ -1,12 +1,13 @@
 //! What a handle holds.
-use cfb::{CompoundFile, Entry, Error};
+use crate::open_file::OpenFile;
+use cfb::{Entry, Error};
 use cfb_lent::lent::LentMedium;
 
 /// What a handle holds.
 #[derive(Drop)]
 pub enum Kept {
     /// An open file, whose bytes are in memory: lent by the caller, or its own.
-    File(CompoundFile<LentMedium>),
+    File(OpenFile),
     /// The bytes of a file that is to be opened, or was open.
     Bytes(LentMedium),
     /// What is told of objects, in order.

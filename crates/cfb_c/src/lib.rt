@@ -15,6 +15,7 @@ pub mod giving;
 pub mod handle;
 pub mod held;
 pub mod listing;
+pub mod open_file;
 pub mod opening;
 pub mod refusal;
 pub mod streams;

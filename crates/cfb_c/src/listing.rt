@@ -121,7 +121,7 @@ fn tell_entry(kept: &Kept, path: &[u8], info: &mut ObjectInfo) -> Result<(), Ref
     let Kept::File(file) = kept else {
         return Err(Refusal::NotOpen);
     };
-    let entry = file.entry(text(path)?)?;
+    let entry = file.inner.entry(text(path)?)?;
     *info = info_of(&entry);
     Ok(())
 }
@@ -160,7 +160,7 @@ fn list(alloc: Global, kept: &Kept, path: &[u8], entries: &mut Handle) -> Result
     let Kept::File(file) = kept else {
         return Err(Refusal::NotOpen);
     };
-    let listed = collected(alloc, file.read_storage(text(path)?)?)?;
+    let listed = collected(alloc, file.inner.read_storage(text(path)?)?)?;
     keep_list(alloc, entries, listed)?;
     Ok(())
 }
@@ -200,7 +200,7 @@ fn walk(alloc: Global, kept: &Kept, path: &[u8], entries: &mut Handle) -> Result
     let Kept::File(file) = kept else {
         return Err(Refusal::NotOpen);
     };
-    let listed = collected(alloc, file.walk_storage(text(path)?)?)?;
+    let listed = collected(alloc, file.inner.walk_storage(text(path)?)?)?;
     keep_list(alloc, entries, listed)?;
     Ok(())
 }

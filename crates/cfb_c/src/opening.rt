@@ -9,6 +9,7 @@ ghost use Rattle.cfb_commands.specs.cfb_compound_file.Opening.{IsCreatedWith, Is
 
 use crate::handle::Handle;
 use crate::held::Kept;
+use crate::open_file::OpenFile;
 use crate::refusal::{Refusal, wrong};
 use cfb::{CompoundFile, Error, OpenOptions, Version};
 use cfb_lent::lent::LentMedium;
@@ -80,7 +81,7 @@ pub fn opened_over(alloc: Global, bytes: LentMedium, is_strict: bool) -> Result<
         (IsLibraryAnd (IsNotOpened is_strict bytes.bytes)) }
 {
     match options(is_strict).open_with(alloc, bytes.anew()) {
-        Ok(file) => Ok(Kept::File(file)),
+        Ok(file) => Ok(Kept::File(OpenFile::new(file))),
         Err(e) => Err(Refusal::Library(e)),
     }
 }
@@ -126,7 +127,7 @@ fn created_as(alloc: Global, version: Version) -> Result<Kept, Refusal>
 {
     let medium = LentMedium::from_bytes(Vec::new(alloc));
     match CompoundFile::create_with_version(alloc, version, medium) {
-        Ok(file) => Ok(Kept::File(file)),
+        Ok(file) => Ok(Kept::File(OpenFile::new(file))),
         Err(e) => Err(Refusal::Library(e)),
     }
 }

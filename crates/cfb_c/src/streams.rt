@@ -53,7 +53,8 @@ fn get(
     let Kept::File(file) = kept else {
         return Err(Refusal::NotOpen);
     };
-    let bytes = read_stream(alloc, file, text(path)?)?;
+    file.ahead = None;
+    let bytes = read_stream(alloc, &mut file.inner, text(path)?)?;
     give(&bytes, into, len)
 }
 
@@ -81,7 +82,8 @@ fn put(kept: &mut Kept, path: &[u8], bytes: &[u8]) -> Result<(), Refusal>
     let Kept::File(file) = kept else {
         return Err(Refusal::NotOpen);
     };
-    put_all(file, text(path)?, bytes)?;
+    file.ahead = None;
+    put_all(&mut file.inner, text(path)?, bytes)?;
     Ok(())
 }
 
@@ -120,7 +122,8 @@ fn create_stream(kept: &mut Kept, path: &[u8], is_new: bool) -> Result<(), Refus
     let Kept::File(file) = kept else {
         return Err(Refusal::NotOpen);
     };
-    put_empty(file, text(path)?, is_new)?;
+    file.ahead = None;
+    put_empty(&mut file.inner, text(path)?, is_new)?;
     Ok(())
 }
 
@@ -155,11 +158,12 @@ pub extern "C" fn cfb_read_n(
     let Some(mut held) = file.take(alloc) else {
         return NOT_OPEN;
     };
-    let outcome = read(&mut held.kept, path, at, into, len);
+    let outcome = read(alloc, &mut held.kept, path, at, into, len);
     file.done(alloc, held, outcome)
 }
 
 fn read(
+    alloc: Global,
     kept: &mut Kept,
     path: &[u8],
     at: u64,
@@ -171,14 +175,18 @@ fn read(
     let Kept::File(file) = kept else {
         return Err(Refusal::NotOpen);
     };
-    *len = read_piece(file, text(path)?, at, into)?;
+    if let Some(count) = file.served(path, at, into) {
+        *len = count;
+        return Ok(());
+    }
+    *len = file.read(alloc, text(path)?, at, into)?;
     Ok(())
 }
 
 /// Reads from the place `at` on of the stream at this path, until there is no more room or the
 /// stream ends.
 #[tactic(auto, using(crate::proofs::Pieces::reads_piece, crate::proofs::Pieces::piece_not_read))]
-fn read_piece(
+pub fn read_piece(
     file: &mut CompoundFile<LentMedium>,
     path: &str,
     at: u64,

@@ -44,7 +44,8 @@ fn write(kept: &mut Kept, path: &[u8], at: u64, bytes: &[u8]) -> Result<(), Refu
     let Kept::File(file) = kept else {
         return Err(Refusal::NotOpen);
     };
-    write_at(file, text(path)?, at, bytes)?;
+    file.ahead = None;
+    write_at(&mut file.inner, text(path)?, at, bytes)?;
     Ok(())
 }
 
@@ -102,7 +103,8 @@ fn set_len(kept: &mut Kept, path: &[u8], len: u64) -> Result<(), Refusal>
     let Kept::File(file) = kept else {
         return Err(Refusal::NotOpen);
     };
-    set_len_at(file, text(path)?, len)?;
+    file.ahead = None;
+    set_len_at(&mut file.inner, text(path)?, len)?;
     Ok(())
 }
 
