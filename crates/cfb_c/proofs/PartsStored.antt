@@ -14,7 +14,7 @@ use Rattle.cfb_commands.specs.cfb_rules.Runs.{Causes, ClosedTree, IsStreamBroken
 use Rattle.cfb_commands.specs.cfb_rules.StreamCalls.{Becomes, Moves, StreamCall, StreamReply, StreamSetting, StreamState, StreamStep, Write, Wrote, answered, count, from_start, got, got, not_done, offset, opened, place_within, ready, resized, seek, set_len, write}
 use Rattle.cfb_commands.proofs.cfb_rules.ClosedFound.{closed_found, unsound_stays}
 use Rattle.cfb_format.specs.declared.error.Error.{Error}
-use Rattle.cfb_format.specs.Memory.{is_refused_growth}
+use Rattle.cfb_format.specs.declared.medium.MediumFault.{MediumFault}
 use Rattle.cfb_format.specs.Names.{Cases}
 use Rattle.cfb_format.proofs.Unique.{Means-unique}
 use Rattle.cfb_commands.specs.cfb_agreement.Files.{Agrees, FileState}
@@ -314,35 +314,33 @@ module _ (does : List StreamCall → List StreamReply → Type 0) (after : List 
         (seen new).state.failed q.1 r.closes.closes in
         (unfailed, closed_as setting tree (seen new).state path c (after c) r.stream here ends.2 ends.0 ends.1 unfailed r.closes.closed)
 
-    module _ (old new : FileState) (path c : List ℕ) where
+    module _ (can_give : MediumFault → Bool) (old new : FileState) (path c : List ℕ) where
       -- the streams are those of the tree that the bytes of the file mean
-      holds_after : {T : Type 0} (outcome : Result T Error) → Agrees old → ChangesStream does path old outcome new → refusal_of_result outcome ≡ None → HoldsStream old path c
+      holds_after : {T : Type 0} (outcome : Result T Error) → Agrees old → ChangesStream can_give does path old outcome new → refusal_of_result outcome ≡ None → HoldsStream old path c
           → (tree : Tree) → MeansTree new tree → HasStream (cases_of new.base) tree path (after c)
       holds_after outcome agrees put none holds tree means =
           let t = some_tree old agrees in
           let a = put.answers old t.0 (setting-same old) t.1 put.agrees in
-          let stays = run_stays is_refused_growth (setting_of old) (standing_at old t.0) (standing_at new a.0) (on_stream opens path put.calls ∷ []) (put.reply ∷ []) (standing_at new a.0, a.2, refl) in
-          let kept = command_holds seen_as (promised is_refused_growth) (setting_of old) (standing_at old t.0) (standing_at new a.0) path c put.calls put.reply put.does_so
+          let stays = run_stays can_give (setting_of old) (standing_at old t.0) (standing_at new a.0) (on_stream opens path put.calls ∷ []) (put.reply ∷ []) (standing_at new a.0, a.2, refl) in
+          let kept = command_holds seen_as (promised can_give) (setting_of old) (standing_at old t.0) (standing_at new a.0) path c put.calls put.reply put.does_so
           (sym put.told ∙ none) (holds.holds t.0 t.1) a.2 in
           subst (λ (u : Tree). HasStream (cases_of new.base) u path (after c))
           (Means-unique (cases_of new.base) (bytes_of new.base) a.0 tree (a.1 kept.0) (means kept.0))
           (subst (λ (cases : Cases). HasStream cases a.0 path (after c)) (sym stays.setting.limits.cases) kept.1)
 
-    content_of : {T : Type 0} (old new : FileState) (path : List ℕ) (outcome : Result T Error) → Agrees old → ChangesStream does path old outcome new
+    content_of : {T : Type 0} (can_give : MediumFault → Bool) (old new : FileState) (path : List ℕ) (outcome : Result T Error) → Agrees old → ChangesStream can_give does path old outcome new
         → OnOk outcome ((c : List ℕ) → HoldsStream old path c → HoldsStream new path (after c))
-    content_of old new path (Ok x) agrees put = λ c holds. record { holds = holds_after old new path c (Ok x) agrees put refl holds }
-    content_of old new path (Err e) agrees put = tt
+    content_of can_give old new path (Ok x) agrees put = λ c holds. record { holds = holds_after can_give old new path c (Ok x) agrees put refl holds }
+    content_of can_give old new path (Err e) agrees put = tt
 
-    changes_content : {T : Type 0} (old new : FileState) (path : List ℕ) (outcome : Result T Error) → Agrees old → ChangesStream does path old outcome new
-        → ChangesContent does after path old outcome new
-    changes_content old new path outcome agrees put = record { changes = put; holds = content_of old new path outcome agrees put }
+    changes_content : {T : Type 0} (can_give : MediumFault → Bool) (old new : FileState) (path : List ℕ) (outcome : Result T Error) → Agrees old → ChangesStream can_give does path old outcome new
+        → ChangesContent can_give does after path old outcome new
+    changes_content can_give old new path outcome agrees put = record { changes = put; holds = content_of can_give old new path outcome agrees put }
 
-pub writes_content : {T : Type 0} (at : ℕ) (bytes : List ℕ) (old new : FileState) (path : List ℕ) (outcome : Result T Error) → Agrees old → ChangesStream (WritesFrom at bytes) path old outcome new
-    → ChangesContent (WritesFrom at bytes) (λ c. written c at bytes) path old outcome new
-writes_content at bytes = changes_content (WritesFrom at bytes) (λ c. written c at bytes)
-    (λ S seen promised setting names s new file last c begins calls replies does quiet run. written_by seen promised setting names s new file last c begins at bytes calls replies does quiet run)
+pub writes_content : {T : Type 0} (can_give : MediumFault → Bool) (at : ℕ) (bytes : List ℕ) (old new : FileState) (path : List ℕ) (outcome : Result T Error) → Agrees old → ChangesStream can_give (WritesFrom at bytes) path old outcome new
+    → ChangesContent can_give (WritesFrom at bytes) (λ c. written c at bytes) path old outcome new
+writes_content can_give at bytes = changes_content (WritesFrom at bytes) (λ c. written c at bytes) (λ S seen promised setting names s new file last c begins calls replies does quiet run. written_by seen promised setting names s new file last c begins at bytes calls replies does quiet run) can_give
 
-pub resizes_content : {T : Type 0} (len : ℕ) (old new : FileState) (path : List ℕ) (outcome : Result T Error) → Agrees old → ChangesStream (SetsLen len) path old outcome new
-    → ChangesContent (SetsLen len) (λ c. resized c len) path old outcome new
-resizes_content len = changes_content (SetsLen len) (λ c. resized c len)
-    (λ S seen promised setting names s new file last c begins calls replies does quiet run. resized_by seen promised setting names s new file last c begins len calls replies does quiet run)
+pub resizes_content : {T : Type 0} (can_give : MediumFault → Bool) (len : ℕ) (old new : FileState) (path : List ℕ) (outcome : Result T Error) → Agrees old → ChangesStream can_give (SetsLen len) path old outcome new
+    → ChangesContent can_give (SetsLen len) (λ c. resized c len) path old outcome new
+resizes_content can_give len = changes_content (SetsLen len) (λ c. resized c len) (λ S seen promised setting names s new file last c begins calls replies does quiet run. resized_by seen promised setting names s new file last c begins len calls replies does quiet run) can_give

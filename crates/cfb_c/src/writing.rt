@@ -1,5 +1,6 @@
 //! Parts of streams are written, and their lengths changed. Places and lengths are in bytes.
-ghost use Rattle.std.specs.Prelude.{◌≡◌, chars};
+ghost use Rattle.std.specs.Prelude.{◌≡◌, ◌||◌, IsTrue, chars};
+ghost use Rattle.cfb_format.specs.Memory.{is_refused_growth};
 ghost use Rattle.cfb_commands.specs.cfb_compound_file.Streams.{file_of, open_of};
 ghost use Rattle.cfb_c.specs.Calls.{AtPath, Calls, OnFile};
 ghost use Rattle.cfb_c.specs.Parts.{IsWorked, Resizes, SetsLen, WritesFrom, WritesPart};
@@ -7,8 +8,7 @@ ghost use Rattle.cfb_c.specs.Parts.{IsWorked, Resizes, SetsLen, WritesFrom, Writ
 use crate::handle::Handle;
 use crate::held::Kept;
 use crate::refusal::{NOT_OPEN, Refusal, text};
-use cfb::{CompoundFile, Error, Stream};
-use cfb_lent::lent::LentMedium;
+use cfb::{CompoundFile, Error, Medium, Stream};
 use cfb_whole_streams::content::write_all;
 use std::alloc::Global;
 use std::io::SeekFrom;
@@ -27,7 +27,7 @@ pub extern "C" fn cfb_write_n(
     at: u64,
     bytes: &[u8],
 ) -> u8
-    ensures { Calls (OnFile (AtPath path.now (WritesPart at bytes.now)))
+    ensures { Calls (OnFile (AtPath path.now (WritesPart is_refused_growth at bytes.now)))
         file.old.value result file.new.value }
 {
     let Some(mut held) = file.take(alloc) else {
@@ -38,7 +38,7 @@ pub extern "C" fn cfb_write_n(
 }
 
 fn write(kept: &mut Kept, path: &[u8], at: u64, bytes: &[u8]) -> Result<(), Refusal>
-    ensures { OnFile (AtPath path.now (WritesPart at bytes.now))
+    ensures { OnFile (AtPath path.now (WritesPart is_refused_growth at bytes.now))
         kept.old result kept.new }
 {
     let Kept::File(file) = kept else {
@@ -49,14 +49,14 @@ fn write(kept: &mut Kept, path: &[u8], at: u64, bytes: &[u8]) -> Result<(), Refu
     Ok(())
 }
 
-fn write_at(
-    file: &mut CompoundFile<LentMedium>,
+fn write_at<F: Medium>(
+    file: &mut CompoundFile<F>,
     path: &str,
     at: u64,
     bytes: &[u8],
 ) -> Result<(), Error>
-    ensures changes { WritesPart at bytes.now
-        (chars path.now) file.old result file.new }
+    ensures changes { IsTrue F.tells → WritesPart (λ f. F.read_faults f || F.write_faults f)
+        at bytes.now (chars path.now) file.old result file.new }
 {
     // What the file keeps in memory is what its bytes say.
     let _is_failed = file.is_failed();
@@ -68,10 +68,10 @@ fn write_at(
 }
 
 /// Writes all of these bytes from the place `at` on.
-fn write_from(stream: &mut Stream<'_, LentMedium>, at: u64, bytes: &[u8]) -> Result<(), Error>
+fn write_from<F: Medium>(stream: &mut Stream<'_, F>, at: u64, bytes: &[u8]) -> Result<(), Error>
     ensures same_file { (file_of stream.new).ghost_name ≡ (file_of stream.old).ghost_name }
-    ensures works { IsWorked (WritesFrom at bytes.now)
-        (open_of stream.old) result (open_of stream.new) }
+    ensures works { IsTrue F.tells → IsWorked (λ f. F.read_faults f || F.write_faults f)
+        (WritesFrom at bytes.now) (open_of stream.old) result (open_of stream.new) }
 {
     let sought = stream.seek(SeekFrom::Start(at));
     // What the file keeps in memory is what its bytes say still.
@@ -87,7 +87,7 @@ fn write_from(stream: &mut Stream<'_, LentMedium>, at: u64, bytes: &[u8]) -> Res
 /// As `open_stream`, `set_len` and `close`.
 #[unsafe(no_mangle)]
 pub extern "C" fn cfb_set_len_n(alloc: Global, file: &mut Handle, path: &[u8], len: u64) -> u8
-    ensures { Calls (OnFile (AtPath path.now (Resizes len)))
+    ensures { Calls (OnFile (AtPath path.now (Resizes is_refused_growth len)))
         file.old.value result file.new.value }
 {
     let Some(mut held) = file.take(alloc) else {
@@ -98,7 +98,7 @@ pub extern "C" fn cfb_set_len_n(alloc: Global, file: &mut Handle, path: &[u8], l
 }
 
 fn set_len(kept: &mut Kept, path: &[u8], len: u64) -> Result<(), Refusal>
-    ensures { OnFile (AtPath path.now (Resizes len)) kept.old result kept.new }
+    ensures { OnFile (AtPath path.now (Resizes is_refused_growth len)) kept.old result kept.new }
 {
     let Kept::File(file) = kept else {
         return Err(Refusal::NotOpen);
@@ -108,8 +108,9 @@ fn set_len(kept: &mut Kept, path: &[u8], len: u64) -> Result<(), Refusal>
     Ok(())
 }
 
-fn set_len_at(file: &mut CompoundFile<LentMedium>, path: &str, len: u64) -> Result<(), Error>
-    ensures changes { Resizes len (chars path.now) file.old result file.new }
+fn set_len_at<F: Medium>(file: &mut CompoundFile<F>, path: &str, len: u64) -> Result<(), Error>
+    ensures changes { IsTrue F.tells → Resizes (λ f. F.read_faults f || F.write_faults f) len
+        (chars path.now) file.old result file.new }
 {
     // What the file keeps in memory is what its bytes say.
     let _is_failed = file.is_failed();
@@ -121,9 +122,10 @@ fn set_len_at(file: &mut CompoundFile<LentMedium>, path: &str, len: u64) -> Resu
 }
 
 /// Gives the stream this length.
-fn resize(stream: &mut Stream<'_, LentMedium>, len: u64) -> Result<(), Error>
+fn resize<F: Medium>(stream: &mut Stream<'_, F>, len: u64) -> Result<(), Error>
     ensures same_file { (file_of stream.new).ghost_name ≡ (file_of stream.old).ghost_name }
-    ensures works { IsWorked (SetsLen len) (open_of stream.old) result (open_of stream.new) }
+    ensures works { IsTrue F.tells → IsWorked (λ f. F.read_faults f || F.write_faults f)
+        (SetsLen len) (open_of stream.old) result (open_of stream.new) }
 {
     let resized = stream.set_len(len);
     // What the file keeps in memory is what its bytes say still.

@@ -7,10 +7,10 @@ use Rattle.cfb_c.proofs.Parts.{resized_so}
 use Rattle.cfb_c.proofs.writing.resize.Goals as goal
 
 pub returns-clause-works : goal.returns-clause-works
-returns-clause-works c =
+returns-clause-works g c =
     let s = open_of c.args.stream.now in
     let next = open_of c.set_len-resized.new.self in
     let answers = c.set_len-resized.ensures.answers in
-    resized_so c.args.len s next c.set_len-resized.result
-    (worked_on _ _ (λ _. ready) (λ _. refl) s (set_len c.args.len) next c.set_len-resized.result refl answers.stays answers.answer)
-    (c.is_failed-is_failed.ensures.agrees refl)
+    λ told. resized_so _ c.args.len s next c.set_len-resized.result
+    (worked_on _ _ (λ _. ready) (λ _. refl) s (set_len c.args.len) next c.set_len-resized.result told answers.stays answers.answer)
+    (c.is_failed-is_failed.ensures.agrees told)
