@@ -12,8 +12,8 @@ use Rattle.cfb_c.proofs.Parts.{not_opened, worked_so}
 use Rattle.cfb_c.proofs.PartsStored.{resizes_content}
 use Rattle.cfb_c.proofs.writing.set_len_at.Goals as goal
 
-pub returns-in_err-stream-clause-changes : goal.returns-in_err-stream-clause-changes
-returns-in_err-stream-clause-changes g c =
+pub returns-in_err-stream : goal.returns-in_err-stream
+returns-in_err-stream g c =
     let p = err_from_is_err_and c.from_residual.result c.from_residual.ensures.1 in
     let e = c.in_err-stream.field-0.0 in
     let why = at_error _ c.open_stream.result e c.in_err-stream.was c.open_stream.follows.holds-at-none in
@@ -21,8 +21,8 @@ returns-in_err-stream-clause-changes g c =
     (not_opened _ (SetsLen c.args.len) c.args.file.now c.open_stream.follows.lender-at-none (chars c.args.path.now) _ e refl why.0 (why.1 told)
     (c.is_failed-is_failed.ensures.agrees told)))
 
-pub returns-in_err-resized-clause-changes : goal.returns-in_err-resized-clause-changes
-returns-in_err-resized-clause-changes g c =
+pub returns-in_err-resized : goal.returns-in_err-resized
+returns-in_err-resized g c =
     let p = err_from_is_err_and c.from_residual-in_err-resized.result c.from_residual-in_err-resized.ensures.1 in
     let old = c.args.file.now in
     let at = chars c.args.path.now in
@@ -39,8 +39,8 @@ returns-in_err-resized-clause-changes g c =
     (closed_of _ _ s.file now c.close-closed.result new told closed.closes (closed.tree told s.file)) (closed.closes.agrees told)
     (ap (λ r. first_of (refusal_of_result r) (refusal_of_result c.close-closed.result)) (sym c.in_err-resized.was)))))
 
-pub returns-clause-changes : goal.returns-clause-changes
-returns-clause-changes g c =
+pub returns : goal.returns
+returns g c =
     let old = c.args.file.now in
     let at = chars c.args.path.now in
     let s = open_of c.in_ok-stream.stream in
