@@ -7,8 +7,8 @@
 
    A call returns CFB_DONE, or why it failed. cfb_error_text has a text for each number, and
    cfb_reason has the details of the last failure. A failed call leaves the file unchanged, unless
-   cfb_is_failed says that a change broke off, for example because memory ran out; cfb_write may
-   leave the first of its bytes. What a call reports through a pointer is 0 if the call fails.
+   cfb_is_failed says that a change broke off, for example because memory ran out; cfb_write and
+   cfb_put may leave the first of their bytes. What a call reports through a pointer is 0 if the call fails.
 
    Paths are UTF-8 and start at the root: "/Macros/VBA/dir". Names are compared without case, as
    the format wants. Calls whose name ends in _n take a path with its length; the macros below them
