@@ -143,17 +143,24 @@ fn comes_of_changing(rt: &HostRuntime, path: &str, step: &Step<'_>) -> bool {
     }
 }
 
+/// Whether a storage is made.
+fn is_made<F: Medium>(file: &mut CompoundFile<F>, storage: &str) -> bool {
+    file.create_storage(storage, Timestamp::zero()).is_ok()
+}
+
+fn is_journaled<F: Medium>(file: &mut CompoundFile<F>, step: &Step<'_>) -> bool {
+    match step {
+        Kept(storage) => is_made(file, storage) && file.flush().is_ok(),
+        LetGo(storage) => is_made(file, storage),
+        Gone(storage) => !file.exists(storage),
+        _ => false,
+    }
+}
+
 /// Whether this comes of a file that is opened with a journal.
 fn comes_of_journal(rt: &HostRuntime, path: &str, step: &Step<'_>) -> bool {
     match cfb::open_journaled(rt, rt.alloc(), path) {
-        Ok(mut file) => match step {
-            Kept(storage) => {
-                file.create_storage(storage, Timestamp::zero()).is_ok() && file.flush().is_ok()
-            }
-            LetGo(storage) => file.create_storage(storage, Timestamp::zero()).is_ok(),
-            Gone(storage) => !file.exists(storage),
-            _ => false,
-        },
+        Ok(mut file) => is_journaled(&mut file, step),
         Err(_) => false,
     }
 }
