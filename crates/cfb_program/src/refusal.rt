@@ -31,7 +31,7 @@ pub enum Refusal {
     TakenBack(io::Error),
     /// The journal of FILE is none that an interrupted change leaves.
     Damaged,
-    /// The system refused to read the journal of FILE.
+    /// The system refused to read the journal of FILE, to write it or to make it.
     Journal(io::Error),
     /// Another program is changing FILE.
     Busy,
@@ -74,7 +74,7 @@ impl Refusal {
         Refusal::at(Place::Other, e)
     }
 
-    /// The system refused to read the journal of FILE.
+    /// The system refused a call at the journal of FILE.
     pub(crate) fn of_journal(e: io::Error) -> Refusal {
         match e.kind() {
             ErrorKind::OutOfMemory => Refusal::Of(Error::Memory),

@@ -13,7 +13,7 @@ use cfb_journal_file::disk::{Ending, FileDisk};
 use cfb_journal_file::lent::LentDisk;
 use cfb_journal_file::place::Place;
 use std::alloc::Global;
-use std::fs::File;
+use std::fs::{File, OpenOptions};
 use std::io::ErrorKind;
 use std::rt::Files;
 use std::{fs, io};
@@ -103,8 +103,16 @@ pub(super) fn to_change<H: System>(
         Ok(disk) if syncs => Ok(disk),
         Ok(disk) => Ok(disk.without_sync()),
         Err(e) if e.kind() == ErrorKind::WouldBlock => Err(Refusal::Busy),
+        Err(e) if is_kept_by_journal(rt, place) => Err(Refusal::of_journal(e)),
         Err(e) => Err(Refusal::of_system(e)),
     }
+}
+
+/// Whether FILE can be opened to be changed, and its journal, which then was to be there, cannot.
+fn is_kept_by_journal<H: System>(rt: &H, place: &Place) -> bool {
+    let mut how = OpenOptions::new();
+    how.read(true).write(true);
+    how.open(rt, place.file()).is_ok() && how.open(rt, place.journal()).is_err()
 }
 
 /// FILE as it is, or as a change that was interrupted leaves it: all of what is written to it now is
