@@ -125,9 +125,18 @@ pub fn create_as<R: Files<File = File> + RandomSource, A: Heap + Clone>(
 /// A journal stands beside the file, at the same path with `-journal` behind it; opening first ends or takes back what an interrupted
 /// change left there. An empty journal may be removed. The file is locked as long as it is open.
 ///
+/// ```rust
+/// /// Replaces a stream of a file on disk. After a crash the file has the old bytes or the new ones.
+/// pub fn replace_notes(rt: &HostRuntime, path: &str, bytes: &[u8]) -> Result<(), Error> {
+///     let mut file = cfb::open_journaled(rt, rt.alloc(), path)?;
+///     cfb::write_stream(&mut file, "/notes/today", bytes)?;
+///     file.flush() // the commit
+/// }
+/// ```
+///
 /// # Errors
 ///
-/// - [`Error::Medium`] with [`MediumFault::Open`]: the file cannot be opened, or another program has locked it.
+/// - [`Error::Medium`] with [`MediumFault::Open`]: the file cannot be opened, its journal cannot be made, or another program has locked it.
 /// - [`Error::InvalidData`]: also if the journal is not one that an interrupted change leaves.
 /// - Otherwise as [`CompoundFile::open`].
 ///

@@ -11,6 +11,18 @@ use std::alloc::{AllocError, Allocator as Heap};
 /// (`cfb_dates::laws::texts_of_moments_are_apart`). [`Timestamp::to_unix`] gives numbers; [`Entry::created`] and [`Entry::modified`] have
 /// timestamps.
 ///
+/// ```rust
+/// /// Tells when a storage was modified, such as `2008-01-04T09:15:12.578Z`.
+/// pub fn modified_at<F: ReadMedium>(
+///     alloc: Global,
+///     file: &CompoundFile<F>,
+///     path: &str,
+/// ) -> Result<String, Error> {
+///     let modified = file.entry(path)?.modified();
+///     Ok(cfb::to_iso(alloc, modified)?)
+/// }
+/// ```
+///
 /// # Errors
 ///
 /// `AllocError`: out of memory.

@@ -10,6 +10,14 @@ use std::io::{ErrorKind, Read, Seek, SeekFrom, Write};
 
 /// A medium over anything with `Read` and `Seek`, and with `Write` if it can be written, such as a file that was opened elsewhere or a
 /// `Cursor`. Each call moves its position. A call that a signal interrupts is repeated.
+///
+/// ```rust
+/// /// Reads the stream `/data` of a file in a reader, such as a `Cursor` or a file that was opened elsewhere.
+/// pub fn data_in<R: Read + Seek + Drop>(alloc: Global, reader: R) -> Result<Vec<u8>, Error> {
+///     let mut file = CompoundFile::open(alloc, SeekMedium::new(reader))?;
+///     cfb::read_stream(alloc, &mut file, "/data")
+/// }
+/// ```
 #[derive(Debug, Drop)]
 pub struct SeekMedium<T> {
     inner: T,
