@@ -1,10 +1,17 @@
 //! What worked changes make of a stream that is opened again.
+use Change::{SetLen, Write};
 use cfb::Version::{self, V3, V4};
-use cfb::{CompoundFile, Error, MemoryMedium};
-use cfb_whole_bench::whole::Change::{self, SetLen, Write};
-use cfb_whole_bench::whole::made_and_reopened;
+use cfb::{CompoundFile, Error, MemoryMedium, Stream};
 use std::alloc::Global;
 use std::test::Fail;
+
+/// One change of a stream, at its position.
+enum Change<'a> {
+    /// All of these bytes are written.
+    Write(&'a [u8]),
+    /// The stream gets this length, in bytes.
+    SetLen(u64),
+}
 
 /// A version, what is done with a stream of a file of it, and what is in the stream then.
 type Row = (Version, [Change<'static>; 4], &'static [u8]);
@@ -29,11 +36,32 @@ fn holds(
     Ok(found.as_slice() == wanted && file.is_sound())
 }
 
+/// Makes these changes in turn.
+fn change(stream: &mut Stream<'_, MemoryMedium>, changes: &[Change<'_>]) -> Result<(), Error> {
+    for change in changes {
+        match change {
+            Write(bytes) => stream.write_all(bytes)?,
+            SetLen(len) => stream.set_len(*len)?,
+        }
+    }
+    Ok(())
+}
+
+/// Makes the one stream, and these changes of it.
+fn put(file: &mut CompoundFile<MemoryMedium>, changes: &[Change<'_>]) -> Result<(), Error> {
+    let mut stream = file.create_new_stream("/data")?;
+    let changed = change(&mut stream, changes);
+    stream.finish(changed)
+}
+
 /// Whether the changes of a row are read again.
 fn is_read_again(alloc: Global, row: &Row) -> Result<bool, Error> {
     let (version, changes, wanted) = row;
-    let mut file = made_and_reopened(alloc, *version, changes).map_err(|left| left.0)?;
-    holds(alloc, &mut file, wanted)
+    let medium = MemoryMedium::new(alloc);
+    let mut file = CompoundFile::create_with_version(alloc, *version, medium)?;
+    put(&mut file, changes)?;
+    let mut reopened = CompoundFile::open(alloc, file.into_inner())?;
+    holds(alloc, &mut reopened, wanted)
 }
 
 #[test]

@@ -1,14 +1,17 @@
 -- What a step leaves alone: the bytes of the streams that it is not about, those of the header that speak of no table, and all but an open stream's content.
-use Rattle.std.proofs.Common.{◌≡◌, ◌≢◌, ◌≤◌, ◌<◌, ◌+◌, ◌/◌, ◌%◌, ◌∙◌, ℕ, suc, List, [], Bool, true, false, refl, sym, ap, subst, arith, length, mod-lt}
-use Rattle.std.specs.Prelude.{Contains, Option, Some, None, if◌then◌else◌, option_and_then, slice_get, slice_index, unwrap_or}
+use Rattle.std.proofs.Common.{◌≡◌, ◌<◌, ◌+◌, ◌/◌, ◌%◌, ◌∙◌, ℕ, suc, List, [], Bool, true, false, refl, sym, ap, subst, arith, mod-lt}
+use Rattle.std.specs.Prelude.{Contains, Option, Some, None, if◌then◌else◌, option_and_then, unwrap_or}
 use Rattle.std.proofs.lemmas.Option.{get_or_from_slice_get, none-some, slice_get_within}
 use Rattle.cfb_format.specs.declared.error.Error.{Error}
+use Rattle.cfb_format.specs.declared.error.Error.TheVariants.{Medium, Memory}
+use Rattle.cfb_format.specs.Refused.{HasReason, at_every_error}
+use Rattle.cfb_rules.specs.Refusal.{IsRefusal, Refusal, file_full}
+use Rattle.cfb_agreement.specs.Changes.{StaysOrFails}
+use Rattle.cfb_path_changes.specs.Answers.{ForMemory, IsRefusedBy}
 use Rattle.cfb_format.specs.declared.medium.MediumFault.{MediumFault}
 use Rattle.cfb_format.specs.Bytes.{byte_at, sector_len, sector_start}
 use Rattle.cfb_format.specs.Content.{is_large, mini_chain, mini_sector_len, place_in_chain, place_in_mini_chain, place_in_stream, sector_chain}
 use Rattle.cfb_format.specs.DirectoryEntry.{Entry}
-use Rattle.cfb_format.specs.Reading.{IsOutline, Outline, stream_numbers}
-use Rattle.cfb_format.specs.Siblings.{entry_at}
 use Rattle.cfb_format.proofs.Along.{next_start}
 use Rattle.cfb_rules.specs.Calls.{Call, Reply, done, entries, flag, one_entry, refused}
 use Rattle.cfb_rules.specs.Steps.{CallKind, asking, asking_freely, changing, creating, emptying, flushing, kind_of, opening, opening_to_read}
@@ -20,10 +23,10 @@ use Rattle.cfb_content.proofs.cfb_soundness.Layouts.{large-lies, small-lies}
 use Rattle.cfb_content.specs.Contents.{KeepsContent, KeepsFixedHeader}
 use Rattle.cfb_content.proofs.Readable.{lies, mini-room}
 use Rattle.cfb_content.proofs.Kept.{nothing-is-moved}
-use Rattle.cfb_mini_sectors.specs.State.{HoldsMiniStream, MiniState, bytes_of, cases_of, entries_of, mini_place, parts_of, version_of}
+use Rattle.cfb_mini_sectors.specs.State.{HoldsMiniStream, MiniState, bytes_of, mini_place, parts_of, version_of}
 use Rattle.cfb_agreement.specs.Files.{FileState}
 use Rattle.cfb_path_changes.specs.Sparing.{SparesStreams}
-use Rattle.cfb_commands.specs.Promised.{CallKeeps, Changes, IsAnswered, IsKeptBy}
+use Rattle.cfb_commands.specs.Promised.{CallKeeps, Changes, IsKeptBy, RefusesChange}
 use Rattle.cfb_commands.proofs.CallSteps.{in_turn}
 
 -- ---- a stream that was kept
@@ -118,3 +121,37 @@ module _ (can_give : MediumFault → Bool) (old : FileState) (call : Call) (new 
 
   pub call_leaves : (reply : Reply) → CallKeeps can_give old call reply new → LeavesAlone old call new
   call_leaves reply k = leaves_by (kind_of call) reply k
+
+-- ---- where numbers lack
+
+-- the error of this number leaves all as it is
+full_same : (old new : FileState) (call : Call) (e : Error) → IsRefusal file_full e
+    → HasReason (record (at_every_error (new ≡ old)) { medium = λ f. StaysOrFails old new; memory = ForMemory call old new; full = new ≡ old }) e → new ≡ old
+full_same old new call (Medium f) is why = absurd (let five : ℕ = 5 in let w : five ≡ 7 = is in omega (arith, w))
+full_same old new call Memory is why = absurd (let six : ℕ = 6 in let w : six ≡ 7 = is in omega (arith, w))
+full_same old new call e is why = why
+
+abbrev told_refusal : Reply → Refusal
+told_refusal (refused refusal) = refusal
+told_refusal reply = file_full
+
+module _ (can_give : MediumFault → Bool) (old new : FileState) (call : Call) (plain : (e : Error) → RefusesChange can_give old call new e → IsRefusedBy can_give old call new e) where
+  change_full : (reply : Reply) → Changes can_give old call reply new → reply ≡ refused file_full → new ≡ old
+  change_full (refused refusal) (e, is, why) told = full_same old new call e (subst (λ (r : Refusal). IsRefusal r e) (ap told_refusal told) is) (plain e why).stays
+  change_full done k told = absurd (cc)
+  change_full (flag b) k told = absurd k
+  change_full (one_entry e) k told = absurd k
+  change_full (entries es) k told = absurd k
+
+  full_by : (kind : CallKind) (reply : Reply) → IsKeptBy can_give kind old call reply new → reply ≡ refused file_full → new ≡ old
+  full_by creating reply k told = change_full reply k told
+  full_by emptying reply k told = change_full reply k told
+  full_by changing reply k told = change_full reply k told
+  full_by flushing reply k told = change_full reply k.changes told
+  full_by opening reply k told = k.same
+  full_by opening_to_read reply k told = k.same
+  full_by asking reply k told = k.same
+  full_by asking_freely reply k told = k.same
+
+  pub full_stays : (reply : Reply) → CallKeeps can_give old call reply new → reply ≡ refused file_full → new ≡ old
+  full_stays reply k told = full_by (kind_of call) reply k told

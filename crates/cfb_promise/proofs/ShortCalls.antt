@@ -1,0 +1,587 @@
+-- Calls by path and on streams by the rules of the code's commands are those by the rules of calls, both ways.
+use Rattle.std.proofs.Common.{◌≡◌, ◌∙◌, ◌^◌, ◌-◌, ◌⊎◌, ℕ, List, Bool, true, false, refl, sym, ap, subst, inl, inr}
+use Rattle.std.specs.Prelude.{⊤, MatchBool, MatchOption, IsTrue, Option, Some, None, is_some, if◌then◌else◌}
+use Rattle.std.specs.Option.{option_map_or}
+use Rattle.std.specs.declared.io.traits.SeekFrom.{SeekFrom}
+use Rattle.std.specs.declared.io.traits.SeekFrom.TheVariants.{Start, End, Current}
+use Rattle.cfb_format.specs.declared.version.Version.{Version}
+use Rattle.cfb_format.specs.Bytes.{max_regular_sector, max_stream_len}
+use Rattle.cfb_format.specs.Full.{IsFull}
+use Rattle.cfb_format.specs.Medium.{Rises}
+use Rattle.cfb_format.specs.Names.{Cases}
+use Rattle.cfb_format.specs.Reading.{Reading, root_entry}
+use Rattle.cfb_format.specs.Tree.{Tree}
+use Rattle.cfb_rules.specs.CallChanges.{content_changed_at, tree_after}
+use Rattle.cfb_rules.specs.CallRefusals.{refusal_of, unless}
+use Rattle.cfb_rules.specs.CallReplies.{reply_of}
+use Rattle.cfb_rules.specs.Calls.{Call, Reply, create_storage_all, create_stream, refused}
+use Rattle.cfb_rules.specs.Lists.{CallStep, ClosingStep, Deed, FileView, IsSeenAsBefore, LacksFor, LeavesAll, LeavesFile, StreamCallStep, by_call, by_closing, by_stream_call, causes_between, names_at}
+use Rattle.cfb_rules.specs.Refusal.{Refusal, failed_earlier, file_full, invalid_input, medium_failed, not_sound}
+use Rattle.cfb_rules.specs.Runs.{BlamesOneOf, CallBreaksOff, Causes, CallRuns, Closes, FollowsRules, HasCause, IsBroken, IsStreamBroken, Setting, StreamBreaksOff, StreamCallRuns, StreamOnFailed, StreamRun, TreeState, Work, may_leave_failed}
+use Rattle.cfb_rules.specs.Runs as rules
+use Rattle.cfb_rules.specs.Steps.{CallKind, asking, asking_freely, changing, creating, emptying, flushing, is_changing, is_there, kind_of, kind_on, outcome}
+use Rattle.cfb_rules.specs.StreamCalls.{Moves, Refuses, StreamReply, StreamState, StreamStep, not_done, offset}
+use Rattle.cfb_rules.specs.StreamCalls as streams
+use Rattle.cfb_rules.proofs.LegalRuns.{call_weaker, closing_weaker, stream_call_weaker}
+use Rattle.cfb_commands.specs.Commands.{stream_call_of}
+use Rattle.cfb_commands.specs.cfb_stream_window.Windows.{whence_of}
+use Rattle.cfb_commands.specs.declared.command.StreamOp.{StreamOp}
+use Rattle.cfb_commands.specs.declared.command.StreamOp.TheVariants as op
+use Rattle.cfb_promise.specs.CallRules.{Rule}
+use Rattle.cfb_promise.specs.Files.{DiffersInContent, File, FullBy, FullCause, HasNoEntry, HasNoRoomFor, HasNoRoomForKept, HasSoundBytes, Keeps, MeansIt, StandsAt, Unfailed}
+use Rattle.cfb_promise.specs.Files as files
+use Rattle.cfb_promise.specs.Steps.{Breaks, Closing, Follows, IsLeft, IsSame, LeavesSound, LeavesUnsound, OnFailed, OpRuns, lacking, refusal_in, root_len}
+use Rattle.cfb_promise.specs.Steps as short
+use Rattle.cfb_promise.specs.StreamRules.{IsAllowed, IsLeftBy, OpBreaks, OpLeavesFile, OpOnFailed, OpStep, sought, work_of}
+use Rattle.cfb_promise.proofs.Views.{at_top, same_reading}
+
+-- ---- what the rules see
+
+-- the rule of a call
+abbrev pub rule_from : Cases → ℕ → Tree → Call → Rule
+rule_from cases n tree call =
+    record { kind = kind_on cases tree call; refusal = refusal_of cases tree call; reply = reply_of cases n tree call; tree = tree_after cases call tree }
+
+module _ (cases : Cases) (version : Version) (sound : Bool) where
+  abbrev pub setting_by : Setting
+  setting_by = record { cases = cases; stream = record { limit = max_stream_len version; sound = sound } }
+
+  -- what is seen of a file by its bytes, sound or not
+  abbrev pub seen_by : File → FileView
+  seen_by f = record {
+    state = record { tree = f.tree; root_len = (root_entry f.reading).stream_len; failed = f.failed };
+    failures = 2 ^ 64 - 1;
+    full = MatchBool sound (Unfailed f (IsFull max_regular_sector f.reading)) ⊤;
+    no_entry = MatchBool sound (Unfailed f (HasNoEntry f.reading)) ⊤;
+    too_long = λ names len. MatchBool sound (Unfailed f (HasNoRoomFor cases f.reading names len)) ⊤;
+  }
+
+  -- and what each step keeps of it
+  abbrev pub kept_by : File → Deed → File → Type 0
+  kept_by old deed new = MatchBool sound (Keeps cases version old deed new) (LeavesUnsound old new)
+
+  -- a sound one is sound by its bytes
+  abbrev pub IsSet : File → Type 0
+  IsSet f = Unfailed f (MatchBool sound (HasSoundBytes cases version f) ⊤)
+
+-- ---- kinds
+
+module _ (cases : Cases) (tree : Tree) where
+  -- the kind of a call by itself, and on a tree
+  by_kinds : (P : CallKind → CallKind → Type 0) → ((k : CallKind) → P k k) → P creating emptying → P creating changing → (call : Call) → P (kind_of call) (kind_on cases tree call)
+  by_kinds P same e c (create_stream path) = go (is_there cases tree path)
+    where
+      go : (b : Bool) → P creating (if b then emptying else creating)
+      go true = e
+      go false = same creating
+  by_kinds P same e c (create_storage_all path moment) = go (is_there cases tree path)
+    where
+      go : (b : Bool) → P creating (if b then changing else creating)
+      go true = c
+      go false = same creating
+  by_kinds P same e c call = same (kind_of call)
+
+  changing_same : (call : Call) → is_changing (kind_of call) ≡ is_changing (kind_on cases tree call)
+  changing_same call = by_kinds (λ k l. is_changing k ≡ is_changing l) (λ k. refl) refl refl call
+
+-- ---- causes
+
+module _ (sound : Bool) (old new : File) where
+  -- nothing is asked of the medium
+  no_rise : ⊤ → Rises (2 ^ 64 - 1) (2 ^ 64 - 1)
+  no_rise x = at_top
+
+  -- what lacks once the file has failed needs no cause
+  lacks_there : (P : Type 0) → new.failed ≡ true → MatchBool sound (Unfailed new P) ⊤
+  lacks_there P failed = go sound
+    where
+      go : (b : Bool) → MatchBool b (Unfailed new P) ⊤
+      go true = λ calm. absurd (let w : true ≡ false = sym failed ∙ calm in cc)
+      go false = tt
+
+has_cause : (full : Type 0) → full → (reply : Reply) → HasCause (record { medium = ⊤; full = full }) reply
+has_cause full x (refused medium_failed) = tt
+has_cause full x (refused file_full) = x
+has_cause full x (refused refusal) = tt
+has_cause full x reply = tt
+
+-- what a sound file keeps
+full_of : (b : Bool) (old new : File) (K P : Type 0) → (K → P) → MatchBool b K (LeavesUnsound old new) → IsTrue b → P
+full_of true old new K P f k is = f k
+full_of false old new K P f k is = absurd (let w : false ≡ true = is in cc)
+
+-- ---- what a step leaves
+
+module _ (cases : Cases) (version : Version) (old new : File) where
+  -- nothing is read otherwise where nothing was written
+  reading_stays : (b : Bool) (may : ℕ → Type 0) (nothing besides : Type 0) → IsSet cases version b old
+      → MatchBool b (LeavesSound cases version old new may nothing besides) (LeavesUnsound old new)
+      → nothing → old.failed ≡ false → new.failed ≡ false → new.reading ≡ old.reading
+  reading_stays true may nothing besides set l none was calm = same_reading cases version old new (set was) (l.sound calm) (l.stays none calm)
+  reading_stays false may nothing besides set l none was calm = (l.1 calm).1
+
+  sticks_by : (b : Bool) (may : ℕ → Type 0) (nothing besides : Type 0) → MatchBool b (LeavesSound cases version old new may nothing besides) (LeavesUnsound old new)
+      → old.failed ≡ true → new.failed ≡ true
+  sticks_by true may nothing besides l = l.failed
+  sticks_by false may nothing besides l = l.0
+
+  pub set_next : (b : Bool) (may : ℕ → Type 0) (nothing besides : Type 0) → MatchBool b (LeavesSound cases version old new may nothing besides) (LeavesUnsound old new) → IsSet cases version b new
+  set_next true may nothing besides l = l.sound
+  set_next false may nothing besides l = λ calm. tt
+
+  was_calm : (old.failed ≡ true → new.failed ≡ true) → new.failed ≡ false → old.failed ≡ false
+  was_calm sticks calm = go old.failed refl
+    where
+      go : (b : Bool) → old.failed ≡ b → b ≡ false
+      go true e = absurd (let w : true ≡ false = sym (sticks e) ∙ calm in cc)
+      go false e = refl
+
+  -- and nothing lacks then that did not
+  lacks_before : (b : Bool) (P : Reading → Type 0) → new.reading ≡ old.reading → new.failed ≡ false → MatchBool b (Unfailed new (P new.reading)) ⊤ → MatchBool b (Unfailed old (P old.reading)) ⊤
+  lacks_before true P same calm x = λ _. subst P same (x calm)
+  lacks_before false P same calm x = tt
+
+  pub seen_as_before : (b : Bool) → new.reading ≡ old.reading → new.failed ≡ false → IsSeenAsBefore (seen_by cases version b old) (seen_by cases version b new)
+  seen_as_before b same calm = record {
+    root_len = ap (λ (r : Reading). (root_entry r).stream_len) same;
+    full = lacks_before b (λ r. IsFull max_regular_sector r) same calm;
+    no_entry = lacks_before b (λ r. HasNoEntry r) same calm;
+    too_long = λ names len. lacks_before b (λ r. HasNoRoomFor cases r names len) same calm;
+  }
+
+-- ---- calls by path
+
+module _ (cases : Cases) (version : Version) (sound : Bool) (old new : File) (call : Call) (reply : Reply) where
+  abbrev state : File → TreeState
+  state f = record { tree = f.tree; root_len = (root_entry f.reading).stream_len; failed = f.failed }
+
+  abbrev its_rule : Rule
+  its_rule = rule_from cases (root_len old) old.tree call
+
+  abbrev no_entry : Causes
+  no_entry = lacking cases version sound new (HasNoEntry new.reading)
+
+  abbrev Nothing : Type 0
+  Nothing = ((refusal : Refusal) × (reply ≡ refused refusal)) ⊎ (is_changing its_rule.kind ≡ false)
+
+  abbrev May : ℕ → Type 0
+  May k = files.MayLose cases old.reading call k
+
+  outcome_same : outcome cases sound old.tree call ≡ refusal_in cases version sound its_rule
+  outcome_same = ap (λ b. option_map_or (λ refusal. Some refusal) (refusal_of cases old.tree call) (if b then unless sound not_sound else None)) (changing_same cases old.tree call)
+
+  left_here : (k : CallKind) → old.failed ≡ false → CallBreaksOff k (state old) (state new) → IsLeft k old new
+  left_here flushing calm (inl s) = absurd (let w : false ≡ true = s.0 in cc)
+  left_here flushing calm (inr s) = s.1
+  left_here k calm (inl s) = inl (ap (λ (x : TreeState). x.tree) s.1, ap (λ (x : TreeState). x.failed) s.1 ∙ calm)
+  left_here k calm (inr s) = inr s
+
+  left_back : (k : CallKind) → (IsSame old new → state new ≡ state old) → IsLeft k old new → CallBreaksOff k (state old) (state new)
+  left_back flushing up s = inr (refl, s)
+  left_back k up (inl s) = inl (refl, up s)
+  left_back k up (inr s) = inr s
+
+  failed_here : (k : CallKind) → rules.OnFailed no_entry k reply (state new) → OnFailed k reply
+  failed_here asking h = tt
+  failed_here asking_freely h = tt
+  failed_here k h = h.0
+
+  failed_back : (k : CallKind) → new.failed ≡ true → OnFailed k reply → rules.OnFailed no_entry k reply (state new)
+  failed_back asking f h = (has_cause no_entry.full (lacks_there sound old new (HasNoEntry new.reading) f) reply, f)
+  failed_back asking_freely f h = (has_cause no_entry.full (lacks_there sound old new (HasNoEntry new.reading) f) reply, f)
+  failed_back k f h = (h, f)
+
+  runs_here : CallRuns no_entry (setting_by cases version sound) (state old) call reply (state new)
+      → MatchBool old.failed (OnFailed its_rule.kind reply) (Follows cases version sound old its_rule reply new ⊎ Breaks cases version sound old its_rule reply new)
+  runs_here h = go old.failed refl h
+    where
+      go : (b : Bool) → old.failed ≡ b
+          → MatchBool b (rules.OnFailed no_entry (kind_of call) reply (state new))
+          (FollowsRules (setting_by cases version sound) (state old) call reply (state new) ⊎ IsBroken no_entry (setting_by cases version sound) (state old) call reply (state new))
+          → MatchBool b (OnFailed its_rule.kind reply) (Follows cases version sound old its_rule reply new ⊎ Breaks cases version sound old its_rule reply new)
+      go true e x = by_kinds cases old.tree (λ k l. rules.OnFailed no_entry k reply (state new) → OnFailed l reply) failed_here (λ y. y.0) (λ y. y.0) call x
+      go false e (inl f) = inl (record {
+        step = subst (λ o. MatchOption o ((reply ≡ its_rule.reply) × (new.tree ≡ its_rule.tree)) (λ refusal. (reply ≡ refused refusal) × (new.tree ≡ old.tree))) outcome_same f.step;
+        root_len = f.root_len;
+        unfailed = f.unfailed;
+      })
+      go false e (inr x) = inr (record {
+        refusal = x.0.0;
+        lacks = x.0.1;
+        told = x.0.2;
+        allowed = elim x.0.3 [
+          | inl m ↦ inl (m.0, (ap (λ (s : TreeState). s.tree) m.1, ap (λ (s : TreeState). s.failed) m.1 ∙ e))
+          | inr o ↦ inr (sym outcome_same ∙ o)
+        ];
+        left = by_kinds cases old.tree (λ k l. CallBreaksOff k (state old) (state new) → IsLeft l old new) (λ k. left_here k e) (left_here emptying e) (left_here changing e) call x.1;
+      })
+
+  runs_back : (IsSame old new → Nothing → old.failed ≡ false → state new ≡ state old) → (old.failed ≡ true → new.failed ≡ true)
+      → MatchBool old.failed (OnFailed its_rule.kind reply) (Follows cases version sound old its_rule reply new ⊎ Breaks cases version sound old its_rule reply new)
+      → CallRuns no_entry (setting_by cases version sound) (state old) call reply (state new)
+  runs_back up sticks h = go old.failed refl h
+    where
+      go : (b : Bool) → old.failed ≡ b
+          → MatchBool b (OnFailed its_rule.kind reply) (Follows cases version sound old its_rule reply new ⊎ Breaks cases version sound old its_rule reply new)
+          → MatchBool b (rules.OnFailed no_entry (kind_of call) reply (state new))
+          (FollowsRules (setting_by cases version sound) (state old) call reply (state new) ⊎ IsBroken no_entry (setting_by cases version sound) (state old) call reply (state new))
+      go true e x = by_kinds cases old.tree (λ k l. OnFailed l reply → rules.OnFailed no_entry k reply (state new)) (λ k. failed_back k (sticks e)) (λ y. (y, sticks e)) (λ y. (y, sticks e)) call x
+      go false e (inl f) = inl (record {
+        step = subst (λ o. MatchOption o ((reply ≡ its_rule.reply) × (new.tree ≡ its_rule.tree)) (λ refusal. (reply ≡ refused refusal) × (new.tree ≡ old.tree))) (sym outcome_same) f.step;
+        root_len = f.root_len;
+        unfailed = f.unfailed;
+      })
+      go false e (inr x) = inr (
+        (
+          x.refusal,
+          x.lacks,
+          x.told,
+          elim x.allowed [
+            | inl m ↦ inl (m.0, up m.1 (inl (x.refusal, x.told)) e)
+            | inr o ↦ inr (outcome_same ∙ o)
+          ],
+        ),
+        by_kinds cases old.tree (λ k l. IsLeft l old new → CallBreaksOff k (state old) (state new)) (λ k. left_back k (λ s. up s (inl (x.refusal, x.told)) e))
+            (left_back emptying (λ s. up s (inl (x.refusal, x.told)) e)) (left_back changing (λ s. up s (inl (x.refusal, x.told)) e)) call x.left,
+      )
+
+  nothing_here : LeavesAll call reply → Nothing
+  nothing_here (inl r) = inl r
+  nothing_here (inr e) = inr (sym (changing_same cases old.tree call) ∙ e)
+
+  nothing_back : Nothing → LeavesAll call reply
+  nothing_back (inl r) = inl r
+  nothing_back (inr e) = inr (changing_same cases old.tree call ∙ e)
+
+  leaves_here : (b : Bool) → MatchBool b (Keeps cases version old (by_call call reply) new) (LeavesUnsound old new)
+      → MatchBool b (LeavesSound cases version old new May Nothing (MeansIt new)) (LeavesUnsound old new)
+  leaves_here true k = record {
+    failed = k.failed;
+    others = k.others;
+    header = k.header;
+    sound = k.sound;
+    tidy = k.tidy;
+    stays = λ none. k.stays (nothing_back none);
+    besides = k.means tt;
+  }
+  leaves_here false k = k
+
+  leaves_back : (b : Bool) → (IsTrue b → FullCause cases old (by_call call reply) new) → MatchBool b (LeavesSound cases version old new May Nothing (MeansIt new)) (LeavesUnsound old new)
+      → MatchBool b (Keeps cases version old (by_call call reply) new) (LeavesUnsound old new)
+  leaves_back true full l = record {
+    failed = l.failed;
+    others = l.others;
+    header = l.header;
+    content = λ calm. tt;
+    full = full refl;
+    sound = l.sound;
+    tidy = l.tidy;
+    means = λ is. l.besides;
+    stays = λ none. l.stays (nothing_here none);
+  }
+  leaves_back false full l = l
+
+  abbrev pub LongCall : Type 0
+  LongCall = CallStep (seen_by cases version sound) (kept_by cases version sound) (setting_by cases version sound) old call reply new
+
+  abbrev pub ShortCall : Type 0
+  ShortCall = short.CallStep cases version sound old its_rule May reply new
+
+  pub call_here : LongCall → ShortCall
+  call_here h = record {
+    runs = runs_here (call_weaker (causes_between (seen_by cases version sound old) (seen_by cases version sound new) no_entry.full) no_entry (λ x. tt) (λ x. x)
+        (setting_by cases version sound) (state old) (state new) call reply h.runs);
+    leaves = leaves_here sound h.kept;
+  }
+
+  -- what is said where it blames the numbers
+  pub call_full : LongCall → IsTrue sound → FullCause cases old (by_call call reply) new
+  call_full h = full_of sound old new (Keeps cases version old (by_call call reply) new) (FullCause cases old (by_call call reply) new) (λ k. k.full) h.kept
+
+  pub call_back : IsSet cases version sound old → (IsTrue sound → FullCause cases old (by_call call reply) new) → ShortCall → LongCall
+  call_back set full h =
+      let sticks = sticks_by cases version old new sound May Nothing (MeansIt new) h.leaves in
+      let same = reading_stays cases version old new sound May Nothing (MeansIt new) set h.leaves in
+      record {
+        runs = call_weaker no_entry (causes_between (seen_by cases version sound old) (seen_by cases version sound new) no_entry.full) (no_rise sound old new) (λ x. x)
+            (setting_by cases version sound) (state old) (state new) call reply
+            (runs_back (λ s none was j. record { tree = s.0 j; root_len = (root_entry (same none was s.1 j)).stream_len; failed = (s.1 ∙ sym was) j }) sticks h.runs);
+        stays = λ none calm. seen_as_before cases version old new sound (same (nothing_here none) (was_calm cases version old new sticks calm) calm) calm;
+        counted = λ none. refl;
+        kept = leaves_back sound full h.leaves;
+      }
+
+-- ---- operations on a stream
+
+sought_same : (s : StreamState) (to : SeekFrom) → streams.sought s (whence_of to) ≡ sought s to
+sought_same s (Start at) = refl
+sought_same s (End distance) = refl
+sought_same s (Current distance) = refl
+
+module _ (cases : Cases) (version : Version) (sound : Bool) (names : List (List ℕ)) (s t : StreamState) (old new : File) (reply : StreamReply) where
+  abbrev limits : streams.StreamSetting
+  limits = record { limit = max_stream_len version; sound = sound }
+
+  abbrev run_now : StreamRun
+  run_now = record { stream = t; failed = new.failed }
+
+  left_op : (w : Work) (r : Refusal) → StreamBreaksOff s w r run_now → IsLeftBy s w r t new.failed
+  left_op w r (inl x) = inl (x.0, ap (λ (z : StreamRun). z.stream) x.1, ap (λ (z : StreamRun). z.failed) x.1)
+  left_op w r (inr x) = inr x
+
+  left_op_back : (w : Work) (r : Refusal) → IsLeftBy s w r t new.failed → StreamBreaksOff s w r run_now
+  left_op_back w r (inl x) = inl (x.0, λ j. record { stream = x.1 j; failed = x.2 j })
+  left_op_back w r (inr x) = inr x
+
+  module _ {A : Type 0} where
+    step_here : (o : StreamOp A) → StreamStep limits s (stream_call_of o) reply t → OpStep limits s o reply t
+    step_here (op.Seek to) h = subst (λ w. MatchOption w (Refuses invalid_input s reply t) (λ at. (reply ≡ offset at) × Moves s t at 0)) (sought_same s to) h
+    step_here o h = h
+
+    step_back : (o : StreamOp A) → OpStep limits s o reply t → StreamStep limits s (stream_call_of o) reply t
+    step_back (op.Seek to) h = subst (λ w. MatchOption w (Refuses invalid_input s reply t) (λ at. (reply ≡ offset at) × Moves s t at 0)) (sym (sought_same s to)) h
+    step_back o h = h
+
+    work_same : (o : StreamOp A) → rules.work_of s (stream_call_of o) ≡ work_of s o
+    work_same (op.Seek to) = refl
+    work_same o = refl
+
+    allowed_here : (o : StreamOp A) → rules.IsAllowed limits s (stream_call_of o) → IsAllowed limits s o
+    allowed_here (op.Seek to) h = subst (λ w. is_some w ≡ true) (sought_same s to) h
+    allowed_here o h = h
+
+    allowed_back : (o : StreamOp A) → IsAllowed limits s o → rules.IsAllowed limits s (stream_call_of o)
+    allowed_back (op.Seek to) h = subst (λ w. is_some w ≡ true) (sym (sought_same s to)) h
+    allowed_back o h = h
+
+    failed_op : (o : StreamOp A) → StreamOnFailed (stream_call_of o) reply run_now → OpOnFailed o reply
+    failed_op op.Position h = h.1
+    failed_op o h = h.1
+
+    failed_op_back : (o : StreamOp A) → new.failed ≡ true → OpOnFailed o reply → StreamOnFailed (stream_call_of o) reply run_now
+    failed_op_back op.Position f h = (f, h)
+    failed_op_back o f h = (f, h)
+
+    broken_op : (c : Causes) (o : StreamOp A) → IsStreamBroken c limits s (stream_call_of o) reply run_now → OpBreaks c limits s o reply t new.failed
+    broken_op c (op.Seek to) x = (x.0, x.1, x.2, left_op (rules.work_of s (stream_call_of {A = A} (op.Seek to))) x.0 x.3, allowed_here (op.Seek to) x.4)
+    broken_op c o x = (x.0, x.1, x.2, left_op (rules.work_of s (stream_call_of o)) x.0 x.3, x.4)
+
+    broken_op_back : (c : Causes) (o : StreamOp A) → OpBreaks c limits s o reply t new.failed → IsStreamBroken c limits s (stream_call_of o) reply run_now
+    broken_op_back c (op.Seek to) x = (x.0, x.1, x.2, left_op_back (work_of {A = A} s (op.Seek to)) x.0 x.3, allowed_back (op.Seek to) x.4)
+    broken_op_back c o x = (x.0, x.1, x.2, left_op_back (work_of s o) x.0 x.3, x.4)
+
+    abbrev lacks_of : StreamOp A → Causes
+    lacks_of o = lacking cases version sound new (short.LacksFor cases version sound new names o)
+
+    cause_here : (o : StreamOp A) → LacksFor (seen_by cases version sound new) names (stream_call_of o) → (lacks_of o).full
+    cause_here (op.SetLen len) x = x
+    cause_here o x = x
+
+    cause_back : (o : StreamOp A) → (lacks_of o).full → LacksFor (seen_by cases version sound new) names (stream_call_of o)
+    cause_back (op.SetLen len) x = x
+    cause_back o x = x
+
+    runs_op : (o : StreamOp A) → StreamCallRuns (lacks_of o) limits (record { stream = s; failed = old.failed }) (stream_call_of o) reply run_now
+        → MatchBool old.failed (OpOnFailed o reply) ((OpStep limits s o reply t × (new.failed ≡ false)) ⊎ OpBreaks (lacks_of o) limits s o reply t new.failed)
+    runs_op o h = go old.failed h
+      where
+        go : (b : Bool) → MatchBool b (StreamOnFailed (stream_call_of o) reply run_now)
+            ((StreamStep limits s (stream_call_of o) reply t × (new.failed ≡ false)) ⊎ IsStreamBroken (lacks_of o) limits s (stream_call_of o) reply run_now)
+            → MatchBool b (OpOnFailed o reply) ((OpStep limits s o reply t × (new.failed ≡ false)) ⊎ OpBreaks (lacks_of o) limits s o reply t new.failed)
+        go true x = failed_op o x
+        go false (inl x) = inl (step_here o x.0, x.1)
+        go false (inr x) = inr (broken_op (lacks_of o) o x)
+
+    runs_op_back : (o : StreamOp A) → (old.failed ≡ true → new.failed ≡ true)
+        → MatchBool old.failed (OpOnFailed o reply) ((OpStep limits s o reply t × (new.failed ≡ false)) ⊎ OpBreaks (lacks_of o) limits s o reply t new.failed)
+        → StreamCallRuns (lacks_of o) limits (record { stream = s; failed = old.failed }) (stream_call_of o) reply run_now
+    runs_op_back o sticks h = go old.failed refl h
+      where
+        go : (b : Bool) → old.failed ≡ b → MatchBool b (OpOnFailed o reply) ((OpStep limits s o reply t × (new.failed ≡ false)) ⊎ OpBreaks (lacks_of o) limits s o reply t new.failed)
+            → MatchBool b (StreamOnFailed (stream_call_of o) reply run_now)
+            ((StreamStep limits s (stream_call_of o) reply t × (new.failed ≡ false)) ⊎ IsStreamBroken (lacks_of o) limits s (stream_call_of o) reply run_now)
+        go true e x = failed_op_back o (sticks e) x
+        go false e (inl x) = inl (step_back o x.0, x.1)
+        go false e (inr x) = inr (broken_op_back (lacks_of o) o x)
+
+    file_here : (o : StreamOp A) → LeavesFile s (stream_call_of o) reply → OpLeavesFile s o reply
+    file_here o (inl r) = inl r
+    file_here o (inr e) = inr (ap (may_leave_failed s.pending) (sym (work_same o)) ∙ e)
+
+    file_back : (o : StreamOp A) → OpLeavesFile s o reply → LeavesFile s (stream_call_of o) reply
+    file_back o (inl r) = inl r
+    file_back o (inr e) = inr (ap (may_leave_failed s.pending) (work_same o) ∙ e)
+
+    module _ (o : StreamOp A) where
+      abbrev At : ℕ → Type 0
+      At k = StandsAt cases old.reading names k
+
+      abbrev Idle : Type 0
+      Idle = OpLeavesFile s o reply
+
+      abbrev Differs : Type 0
+      Differs = DiffersInContent cases names old new
+
+      op_leaves_here : (b : Bool) → MatchBool b (Keeps cases version old (by_stream_call names s (stream_call_of o) reply t) new) (LeavesUnsound old new)
+          → MatchBool b (LeavesSound cases version old new At Idle Differs) (LeavesUnsound old new)
+      op_leaves_here true k = record {
+        failed = k.failed;
+        others = k.others;
+        header = k.header;
+        sound = k.sound;
+        tidy = k.tidy;
+        stays = λ none. k.stays (file_back o none);
+        besides = k.content;
+      }
+      op_leaves_here false k = k
+
+      op_full : (x : StreamOp A) → FullBy cases old names s (stream_call_of x) new → short.FullFor cases version sound names s old x new
+      op_full (op.SetLen len) y = y
+      op_full x y = y
+
+      op_full_back : (x : StreamOp A) → short.FullFor cases version sound names s old x new → FullBy cases old names s (stream_call_of x) new
+      op_full_back (op.SetLen len) y = y
+      op_full_back x y = y
+
+      op_leaves_back : (b : Bool) → (IsTrue b → reply ≡ not_done file_full → short.FullFor cases version sound names s old o new) → MatchBool b (LeavesSound cases version old new At Idle Differs) (LeavesUnsound old new)
+          → MatchBool b (Keeps cases version old (by_stream_call names s (stream_call_of o) reply t) new) (LeavesUnsound old new)
+      op_leaves_back true full l = record {
+        failed = l.failed;
+        others = l.others;
+        header = l.header;
+        content = l.besides;
+        full = λ e. op_full_back o (full refl e);
+        sound = l.sound;
+        tidy = l.tidy;
+        means = λ no. absurd no;
+        stays = λ none. l.stays (file_here o none);
+      }
+      op_leaves_back false full l = l
+
+      pub op_here : StreamCallStep (seen_by cases version sound) (kept_by cases version sound) (setting_by cases version sound) names s old (stream_call_of o) reply t new
+          → OpRuns cases version sound names s old o reply t new
+      op_here h = record {
+        runs = runs_op o (stream_call_weaker
+            (causes_between (seen_by cases version sound old) (seen_by cases version sound new) (LacksFor (seen_by cases version sound new) names (stream_call_of o))) (lacks_of o)
+            (λ x. tt) (cause_here o) limits (record { stream = s; failed = old.failed }) run_now (stream_call_of o) reply h.runs);
+        leaves = op_leaves_here sound h.kept;
+        full = λ is e. op_full o (full_of sound old new (Keeps cases version old (by_stream_call names s (stream_call_of o) reply t) new)
+            (reply ≡ not_done file_full → FullBy cases old names s (stream_call_of o) new) (λ k. k.full) h.kept is e);
+      }
+
+      pub op_back : IsSet cases version sound old → OpRuns cases version sound names s old o reply t new
+          → StreamCallStep (seen_by cases version sound) (kept_by cases version sound) (setting_by cases version sound) names s old (stream_call_of o) reply t new
+      op_back set h =
+          let sticks = sticks_by cases version old new sound At Idle Differs h.leaves in
+          record {
+            runs = stream_call_weaker (lacks_of o)
+                (causes_between (seen_by cases version sound old) (seen_by cases version sound new) (LacksFor (seen_by cases version sound new) names (stream_call_of o)))
+                (no_rise sound old new) (cause_back o) limits (record { stream = s; failed = old.failed }) run_now (stream_call_of o) reply (runs_op_back o sticks h.runs);
+            stays = λ none calm. seen_as_before cases version old new sound
+                (reading_stays cases version old new sound At Idle Differs set h.leaves (file_here o none) (was_calm cases version old new sticks calm) calm) calm;
+            counted = λ none. refl;
+            kept = op_leaves_back sound h.full h.leaves;
+          }
+
+-- ---- closing
+
+module _ (cases : Cases) (version : Version) (sound : Bool) (path : List ℕ) (tree : Tree) (s : StreamState) (old new : File) (closing : Option Refusal) where
+  abbrev At' : ℕ → Type 0
+  At' k = StandsAt cases old.reading (names_at path) k
+
+  abbrev Done : Type 0
+  Done = DiffersInContent cases (names_at path) old new × MeansIt new
+
+  abbrev full : Causes
+  full = lacking cases version sound new (IsFull max_regular_sector new.reading)
+
+  abbrev IsClosed : Type 0
+  IsClosed = new.tree ≡ (if sound then content_changed_at cases s.content (names_at path) tree else tree)
+
+  abbrev stream_then : StreamRun
+  stream_then = record { stream = s; failed = old.failed }
+
+  closes_here : Closes full stream_then closing new.failed → MatchBool old.failed (closing ≡ Some failed_earlier)
+      (MatchOption closing (new.failed ≡ false) (λ refusal. IsTrue s.pending × BlamesOneOf ⊤ ⊤ full.full refusal × (new.failed ≡ true)))
+  closes_here h = go old.failed h
+    where
+      go : (b : Bool) → MatchBool b ((closing ≡ Some failed_earlier) × (new.failed ≡ true))
+          (MatchOption closing (new.failed ≡ false) (λ refusal. IsTrue s.pending × BlamesOneOf full.medium ⊤ full.full refusal × (new.failed ≡ true)))
+          → MatchBool b (closing ≡ Some failed_earlier) (MatchOption closing (new.failed ≡ false) (λ refusal. IsTrue s.pending × BlamesOneOf ⊤ ⊤ full.full refusal × (new.failed ≡ true)))
+      go true x = x.0
+      go false x = x
+
+  closes_back : (old.failed ≡ true → new.failed ≡ true) → MatchBool old.failed (closing ≡ Some failed_earlier)
+      (MatchOption closing (new.failed ≡ false) (λ refusal. IsTrue s.pending × BlamesOneOf ⊤ ⊤ full.full refusal × (new.failed ≡ true))) → Closes full stream_then closing new.failed
+  closes_back sticks h = go old.failed refl h
+    where
+      go : (b : Bool) → old.failed ≡ b → MatchBool b (closing ≡ Some failed_earlier) (MatchOption closing (new.failed ≡ false) (λ refusal. IsTrue s.pending × BlamesOneOf ⊤ ⊤ full.full refusal × (new.failed ≡ true)))
+          → MatchBool b ((closing ≡ Some failed_earlier) × (new.failed ≡ true))
+          (MatchOption closing (new.failed ≡ false) (λ refusal. IsTrue s.pending × BlamesOneOf full.medium ⊤ full.full refusal × (new.failed ≡ true)))
+      go true e x = (x, sticks e)
+      go false e x = x
+
+  unless_failed : (X : Type 0) → MatchBool new.failed ⊤ X → Unfailed new X
+  unless_failed X h = go new.failed refl h
+    where
+      go : (b : Bool) → new.failed ≡ b → MatchBool b ⊤ X → new.failed ≡ false → X
+      go true e x calm = absurd (let w : true ≡ false = sym e ∙ calm in cc)
+      go false e x calm = x
+
+  unless_failed_back : (X : Type 0) → Unfailed new X → MatchBool new.failed ⊤ X
+  unless_failed_back X h = go new.failed refl
+    where
+      go : (b : Bool) → new.failed ≡ b → MatchBool b ⊤ X
+      go true e = tt
+      go false e = h e
+
+  closing_leaves : (b : Bool) → MatchBool b (Keeps cases version old (by_closing (names_at path) s closing) new) (LeavesUnsound old new)
+      → MatchBool b (LeavesSound cases version old new At' (s.pending ≡ false) Done) (LeavesUnsound old new)
+  closing_leaves true k = record {
+    failed = k.failed;
+    others = k.others;
+    header = k.header;
+    sound = k.sound;
+    tidy = k.tidy;
+    stays = k.stays;
+    besides = λ calm. (k.content calm, k.means tt calm);
+  }
+  closing_leaves false k = k
+
+  closing_leaves_back : (b : Bool) → (IsTrue b → closing ≡ Some file_full → HasNoRoomForKept cases old (names_at path) s) → MatchBool b (LeavesSound cases version old new At' (s.pending ≡ false) Done) (LeavesUnsound old new)
+      → MatchBool b (Keeps cases version old (by_closing (names_at path) s closing) new) (LeavesUnsound old new)
+  closing_leaves_back true why l = record {
+    failed = l.failed;
+    others = l.others;
+    header = l.header;
+    content = λ calm. (l.besides calm).0;
+    full = why refl;
+    sound = l.sound;
+    tidy = l.tidy;
+    means = λ is calm. (l.besides calm).1;
+    stays = l.stays;
+  }
+  closing_leaves_back false why l = l
+
+  pub closing_here : ClosingStep (seen_by cases version sound) (kept_by cases version sound) (setting_by cases version sound) path tree s old closing new
+      → Closing cases version sound (names_at path) tree s old closing new
+  closing_here h = record {
+    closes = closes_here (closing_weaker (causes_between (seen_by cases version sound old) (seen_by cases version sound new) full.full) full (λ x. tt) (λ x. x) stream_then closing new.failed h.closes);
+    closed = unless_failed IsClosed h.closed;
+    leaves = closing_leaves sound h.kept;
+    full = full_of sound old new (Keeps cases version old (by_closing (names_at path) s closing) new) (closing ≡ Some file_full → HasNoRoomForKept cases old (names_at path) s) (λ k. k.full) h.kept;
+  }
+
+  pub closing_back : IsSet cases version sound old → Closing cases version sound (names_at path) tree s old closing new
+      → ClosingStep (seen_by cases version sound) (kept_by cases version sound) (setting_by cases version sound) path tree s old closing new
+  closing_back set h =
+      let sticks = sticks_by cases version old new sound At' (s.pending ≡ false) Done h.leaves in
+      record {
+        closes = closing_weaker full (causes_between (seen_by cases version sound old) (seen_by cases version sound new) full.full) (no_rise sound old new) (λ x. x) stream_then closing new.failed
+            (closes_back sticks h.closes);
+        closed = unless_failed_back IsClosed h.closed;
+        stays = λ none calm. seen_as_before cases version old new sound
+            (reading_stays cases version old new sound At' (s.pending ≡ false) Done set h.leaves none (was_calm cases version old new sticks calm) calm) calm;
+        counted = λ none. refl;
+        kept = closing_leaves_back sound h.full h.leaves;
+      }
