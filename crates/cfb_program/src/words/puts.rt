@@ -119,7 +119,9 @@ fn put_into<H: System, F: Medium, R: Read>(
     let mut file = opened(rt, medium)?;
     let mut stream = file.create_stream(stream)?;
     let written = write_pieces(&mut stream, input, from, piece);
-    stream.finish(written)
+    let closed = stream.close();
+    written?;
+    closed.map_err(Refusal::Of)
 }
 
 /// Writes all pieces.
