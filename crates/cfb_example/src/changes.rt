@@ -37,7 +37,7 @@ fn holds(
 }
 
 /// Makes these changes in turn.
-fn change(stream: &mut Stream<'_, MemoryMedium>, changes: &[Change<'_>]) -> Result<(), Error> {
+fn make_changes(stream: &mut Stream<'_, MemoryMedium>, changes: &[Change<'_>]) -> Result<(), Error> {
     for change in changes {
         match change {
             Write(bytes) => stream.write_all(bytes)?,
@@ -50,7 +50,7 @@ fn change(stream: &mut Stream<'_, MemoryMedium>, changes: &[Change<'_>]) -> Resu
 /// Makes the one stream, and these changes of it.
 fn put(file: &mut CompoundFile<MemoryMedium>, changes: &[Change<'_>]) -> Result<(), Error> {
     let mut stream = file.create_new_stream("/data")?;
-    let changed = change(&mut stream, changes);
+    let changed = make_changes(&mut stream, changes);
     stream.finish(changed)
 }
 
