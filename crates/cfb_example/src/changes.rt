@@ -37,7 +37,10 @@ fn holds(
 }
 
 /// Makes these changes in turn.
-fn make_changes(stream: &mut Stream<'_, MemoryMedium>, changes: &[Change<'_>]) -> Result<(), Error> {
+fn make_changes(
+    stream: &mut Stream<'_, MemoryMedium>,
+    changes: &[Change<'_>],
+) -> Result<(), Error> {
     for change in changes {
         match change {
             Write(bytes) => stream.write_all(bytes)?,
