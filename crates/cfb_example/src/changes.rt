@@ -6,6 +6,7 @@ use std::alloc::Global;
 use std::test::Fail;
 
 /// One change of a stream, at its position.
+#[derive(Clone, Copy)]
 enum Change<'a> {
     /// All of these bytes are written.
     Write(&'a [u8]),
@@ -36,35 +37,50 @@ fn holds(
     Ok(found.as_slice() == wanted && file.is_sound())
 }
 
+/// Makes one change.
+fn make_change(stream: &mut Stream<'_, MemoryMedium>, change: Change<'_>) -> Result<(), Error> {
+    match change {
+        Change::Write(bytes) => stream.write_all(bytes),
+        Change::SetLen(len) => stream.set_len(len),
+    }
+}
+
 /// Makes these changes in turn.
 fn make_changes(
     stream: &mut Stream<'_, MemoryMedium>,
     changes: &[Change<'_>],
 ) -> Result<(), Error> {
-    for change in changes {
-        match change {
-            Write(bytes) => stream.write_all(bytes)?,
-            SetLen(len) => stream.set_len(*len)?,
-        }
+    for change in changes.iter().copied() {
+        make_change(stream, change)?;
     }
     Ok(())
 }
 
 /// Makes the one stream, and these changes of it.
-fn put(file: &mut CompoundFile<MemoryMedium>, changes: &[Change<'_>]) -> Result<(), Error> {
+fn add_data(file: &mut CompoundFile<MemoryMedium>, changes: &[Change<'_>]) -> Result<(), Error> {
     let mut stream = file.create_new_stream("/data")?;
-    let changed = make_changes(&mut stream, changes);
-    stream.finish(changed)
+    let made = make_changes(&mut stream, changes);
+    let closed = stream.close();
+    made?;
+    closed
+}
+
+/// A file of this version with the one stream, opened again.
+fn made_and_reopened(
+    alloc: Global,
+    version: Version,
+    changes: &[Change<'_>],
+) -> Result<CompoundFile<MemoryMedium>, Error> {
+    let mut file = CompoundFile::create_with_version(alloc, version, MemoryMedium::new(alloc))?;
+    add_data(&mut file, changes)?;
+    CompoundFile::open(alloc, file.into_inner())
 }
 
 /// Whether the changes of a row are read again.
 fn is_read_again(alloc: Global, row: &Row) -> Result<bool, Error> {
     let (version, changes, wanted) = row;
-    let medium = MemoryMedium::new(alloc);
-    let mut file = CompoundFile::create_with_version(alloc, *version, medium)?;
-    put(&mut file, changes)?;
-    let mut reopened = CompoundFile::open(alloc, file.into_inner())?;
-    holds(alloc, &mut reopened, wanted)
+    let mut file = made_and_reopened(alloc, *version, changes)?;
+    holds(alloc, &mut file, wanted)
 }
 
 #[test]
