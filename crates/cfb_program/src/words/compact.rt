@@ -7,11 +7,16 @@ use crate::lent::Lent;
 use crate::output::Output;
 use crate::refusal::{About, Refusal, tell_cut};
 use crate::system::System;
-use cfb::{CompoundFile, Error, Medium, ReadMedium};
+use cfb::{CompoundFile, Error, Medium, MemoryMedium, ReadMedium};
+use cfb_format::transfer::write_all_at;
 use cfb_tool::cuts::{cut_of, stream_by_entry};
 use std::alloc::Global;
 use std::io;
 use std::io::ErrorKind;
+
+/// How long a file may be, in bytes, whose copy is made in memory and written at once. A copy that is made in its file costs some fifteen
+/// calls of the system for each stream.
+const AT_ONCE: u64 = 1 << 22;
 
 /// `compact`. Something at the target is found before the file is opened.
 pub(super) fn compact<H: System, E: Output>(
@@ -23,14 +28,15 @@ pub(super) fn compact<H: System, E: Output>(
         return Err(Refusal::TargetExists);
     }
     let mut medium = to_read(rt, about.file)?;
-    let done = copy_to(rt, Lent(&mut medium), (about, syncs), faults);
+    let is_small = medium.length().is_ok_and(|len| len <= AT_ONCE);
+    let done = copy_to(rt, (Lent(&mut medium), is_small), (about, syncs), faults);
     done.map_err(|refusal| refusal.because(medium.file().last_error()))
 }
 
-/// Copies the file into the other one that was named.
+/// Copies the file into the other one that was named, at once where it is small.
 fn copy_to<H: System, F: ReadMedium, E: Output>(
     rt: &H,
-    medium: F,
+    (medium, is_small): (F, bool),
     (about, syncs): (About<'_>, bool),
     faults: &mut E,
 ) -> Result<(), Refusal> {
@@ -42,7 +48,18 @@ fn copy_to<H: System, F: ReadMedium, E: Output>(
         Err(e) => return Err(Refusal::of_other_system(e)),
     };
     forget_journal(rt, path);
-    copy_in(rt.alloc(), &mut file, &new, about.file, faults)?;
+    let mut made = new.medium().map_err(Refusal::of_other_system)?;
+    let copied = if is_small {
+        copy_at_once(rt.alloc(), &mut file, &mut made)
+    } else {
+        copy_into(&mut file, Lent(&mut made))
+    };
+    outcome(
+        rt.alloc(),
+        &file,
+        (copied, made.last_error()),
+        (about.file, faults),
+    )?;
     synced(&new).map_err(Refusal::of_other_system)
 }
 
@@ -52,17 +69,14 @@ fn synced(new: &NewFile) -> io::Result<()> {
     new.sync_name()
 }
 
-/// Copies the file into one without bytes.
-fn copy_in<F: ReadMedium, E: Output>(
+/// What is told of a copy that failed, the last time in the new file for this reason.
+fn outcome<F: ReadMedium, E: Output>(
     alloc: Global,
-    file: &mut CompoundFile<F>,
-    new: &NewFile,
-    name: &str,
-    faults: &mut E,
+    file: &CompoundFile<F>,
+    (copied, reason): (Result<(), Error>, Option<io::Error>),
+    (name, faults): (&str, &mut E),
 ) -> Result<(), Refusal> {
-    let mut made = new.medium().map_err(Refusal::of_other_system)?;
-    let copied = copy_into(file, Lent(&mut made));
-    match (copied, made.last_error()) {
+    match (copied, reason) {
         (Err(Error::Medium(_)), Some(e)) => Err(Refusal::of_other_system(e)),
         (Err(Error::InvalidData(detail)), _) => {
             let told = tell_not_whole(alloc, file, name, faults);
@@ -70,6 +84,20 @@ fn copy_in<F: ReadMedium, E: Output>(
         }
         (copied, _) => copied.map_err(Refusal::Of),
     }
+}
+
+/// Copies the file in memory, and writes the copy by one call.
+fn copy_at_once<F: ReadMedium, T: Medium>(
+    alloc: Global,
+    file: &mut CompoundFile<F>,
+    made: &mut T,
+) -> Result<(), Error> {
+    let copy = file.copy_to(MemoryMedium::new(alloc))?;
+    let bytes = copy.into_inner().into_bytes();
+    if bytes.is_empty() {
+        return Ok(());
+    }
+    write_all_at(made, 0, bytes.as_slice()).map_err(Error::Medium)
 }
 
 fn copy_into<F: ReadMedium, T: Medium>(file: &mut CompoundFile<F>, medium: T) -> Result<(), Error>
