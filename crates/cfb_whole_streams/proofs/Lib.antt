@@ -6,3 +6,10 @@ pub mod Stored
 pub mod WholeWrites
 pub mod WholePuts
 pub mod WholeReads
+pub mod Pieces
+pub mod ReadRules
+pub mod ReadPieces
+pub mod BegunPieces
+pub mod PutPieces
+pub mod Pouring
+pub mod Copies

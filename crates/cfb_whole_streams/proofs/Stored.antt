@@ -222,7 +222,7 @@ empty_of [] e = refl
 empty_of (b ∷ bytes) e = absurd (omega (arith))
 
 -- of the refusals of all of a command there is none
-first_quiet : (replies : List StreamReply) (closing : Option Refusal) → first_refusal replies closing ≡ None → (first_refusal replies None ≡ None) × (closing ≡ None)
+pub first_quiet : (replies : List StreamReply) (closing : Option Refusal) → first_refusal replies closing ≡ None → (first_refusal replies None ≡ None) × (closing ≡ None)
 first_quiet [] closing none = (refl, none)
 first_quiet (not_done r ∷ replies) closing none = absurd (some_not_none r none)
 first_quiet (count n ∷ replies) closing none = first_quiet replies closing none

@@ -1,5 +1,5 @@
 -- What is read of a stream from its start to its end.
-use Rattle.std.proofs.Common.{◌≡◌, ◌∙◌, ◌≤◌, ℕ, Bool, true, false, List, [], refl, sym, ap, subst, arith, inl, inr, length, drop}
+use Rattle.std.proofs.Common.{◌≡◌, ◌∙◌, ◌≤◌, ◌+◌, ℕ, Bool, true, false, List, [], refl, sym, ap, subst, arith, inl, inr, length, drop}
 use Rattle.std.proofs.lemmas.Bool.{ltb-false}
 use Rattle.std.specs.Prelude.{◌⊎◌, ◌&&◌, Err, IsTrue, MatchBool, Option, Result, Some, None, nat_lt, option_and_then, unwrap_or, ⊤}
 use Rattle.std.specs.Option.{option_map_or}
@@ -29,6 +29,8 @@ use Rattle.cfb_commands.specs.Commands.{refusal_of_error}
 use Rattle.cfb_commands.proofs.Errors.{known}
 use Rattle.cfb_whole_streams.specs.cfb_stream_window.Windows.{Runs, Suits, Window}
 use Rattle.cfb_whole_streams.specs.Content.{HasStream, HoldsStream, IsUnread}
+use Rattle.cfb_whole_streams.specs.Pieces.{IsAtStart, IsStopped, IsWhole}
+use Rattle.cfb_whole_streams.proofs.ReadRules.{end_stops}
 
 -- ---- by the rules
 
@@ -166,18 +168,68 @@ module _ (old : FileState) (path : List ℕ) (s next : OpenStream) (opened_at : 
     pub holds_read : HoldsStream old path bytes
     holds_read = record { holds = has_read }
 
--- a stream that was read is closed
-pub closes_calm : {T : Type 0} (s next : OpenStream) (causes later : Causes) (bytes : List ℕ) → StreamRunsBy causes s read_to_end (got bytes) next
-    → (result : Result T Error) (e : Error) → result ≡ Err e → (failed : Bool) → Closes later (run_in next) (closing_of result) failed → ⊥
-unfolding Runs
-closes_calm {T = T} s next causes later bytes runs result e was failed closes =
-    let calm = read_calm causes (stream_setting_of (stored_in s)) (run_in s) (run_in next) bytes runs in
-    go (run_in next).failed calm.1 (subst (λ (r : Result T Error). Closes later (run_in next) (closing_of r) failed) was closes)
+-- a stream that was opened to be read
+module _ (old : FileState) (path : List ℕ) (s : OpenStream) (opened_at : IsOpenedAt old path s) (begins : BeginsAt old path s) where
+  pub at_start : is_failed old ≡ false → IsAtStart s
+  at_start calm = record {
+    unfailed = ap (λ (f : FileState). is_failed f) opened_at.file ∙ calm;
+    position = ap (λ (w : Window). w.base + w.cursor) opened_at.window;
+    clean = ap (λ (w : Window). w.pending) opened_at.window;
+  }
+
+  -- what a read to its end answers is answered of the tree
+  of_tree : (next : FileState) (reply : StreamReply) (after : StreamRun) → StreamCallRuns (causes_of_reading s.file next) (setting_of s.file).stream (run_in s) read_to_end reply after
+      → (tree : Tree) → MeansTree old tree
+      → StreamCallRuns (causes_of_reading old next) (setting_of old).stream (record { stream = opened_by_path (cases_of old.base) tree path; failed = is_failed old }) read_to_end reply after
+  of_tree next reply after runs tree means =
+      subst (λ (f : FileState). StreamCallRuns (causes_of_reading f next) (setting_of f).stream (record { stream = opened_by_path (cases_of old.base) tree path; failed = is_failed f }) read_to_end reply after)
+      opened_at.file
+      (subst (λ (z : StreamState). StreamCallRuns (causes_of_reading s.file next) (setting_of s.file).stream (record { stream = z; failed = is_failed s.file }) read_to_end reply after)
+      (begins tree means) runs)
+
+  -- where reading it stopped it is not read
+  pub stopped_unread : Answers old (open_read_stream path) done → IsAtStart s → (now : OpenStream) (e : Error) → IsStopped s now e → IsUnread old path (refusal_of_error e) now.file
+  stopped_unread answers start now e why =
+      let stops = end_stops (causes_of_reading s.file now.file) (setting_of s.file).stream (run_in s) (run_in now) start.unfailed start.clean (refusal_of_error e) start.position why in
+      record { opens = answers; reads = λ tree means. (stops.0, of_tree now.file (not_done (refusal_of_error e)) stops.0 stops.1 tree means) }
+
+  -- where all of it can be read, its bytes are those of the stream in the tree
+  whole_in_tree : Answers old (open_read_stream path) done → IsWhole s → (tree : Tree) → MeansTree old tree → HasStream (cases_of old.base) tree path (stream_in s).content
+  unfolding RunsOn
+  whole_in_tree answers whole tree means =
+      let t = answers tree means in
+      let there = there_to_read (causes_of_call old old) (setting_of old) (state_with old tree) (state_with old t.0) path t.2 in
+      let same = sym (opened_there (cases_of old.base) tree path there.0 there.1 there.2 there.3) ∙ sym (begins tree means) in
+      record {
+        names = there.0;
+        named = there.2;
+        info = there.1;
+        stands = there.3;
+        len = ap (λ (z : StreamState). z.len) same ∙ whole;
+        content = ap (λ (z : StreamState). z.content) same;
+      }
+
+  pub whole_holds : Answers old (open_read_stream path) done → IsWhole s → HoldsStream old path (stream_in s).content
+  whole_holds answers whole = record { holds = whole_in_tree answers whole }
+
+-- a stream of a file that has not failed is closed
+pub closes_unfailed : {T : Type 0} (next : OpenStream) (later : Causes) → is_failed next.file ≡ false → (result : Result T Error) (e : Error) → result ≡ Err e → (failed : Bool)
+    → Closes later (run_in next) (closing_of result) failed → ⊥
+closes_unfailed {T = T} next later calm result e was failed closes =
+    go (run_in next).failed calm (subst (λ (r : Result T Error). Closes later (run_in next) (closing_of r) failed) was closes)
   where
     go : (b : Bool) → b ≡ false → MatchBool b ((Some failed_earlier ≡ Some failed_earlier) × (failed ≡ true))
         (IsTrue (run_in next).stream.pending × BlamesOneOf later.medium ⊤ later.full failed_earlier × (failed ≡ true)) → ⊥
     go true not h = absurd (let w : true ≡ false = not in cc)
     go false not h = h.1
+
+-- so is one that was read
+pub closes_calm : {T : Type 0} (s next : OpenStream) (causes later : Causes) (bytes : List ℕ) → StreamRunsBy causes s read_to_end (got bytes) next
+    → (result : Result T Error) (e : Error) → result ≡ Err e → (failed : Bool) → Closes later (run_in next) (closing_of result) failed → ⊥
+unfolding Runs
+closes_calm s next causes later bytes runs =
+    let calm = read_calm causes (stream_setting_of (stored_in s)) (run_in s) (run_in next) bytes runs in
+    closes_unfailed next later calm.1
 
 -- an opening that was refused has asked the medium nothing
 module _ (can_give : MediumFault → Bool) (old new : FileState) (same : new ≡ old) where

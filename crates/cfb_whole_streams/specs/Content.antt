@@ -1,5 +1,5 @@
 -- Streams that are read and written whole.
-use Rattle.std.specs.Prelude.{ℕ, ◌≡◌, ◌⊎◌, Bool, List, [], ◌∷◌, drop, length, Option, Some, None, Result}
+use Rattle.std.specs.Prelude.{ℕ, ◌≡◌, ◌⊎◌, ◌<◌, ◌++◌, Bool, List, [], ◌∷◌, drop, take, length, Option, Some, None, Result}
 use Rattle.cfb_format.specs.declared.error.Error.{Error}
 use Rattle.cfb_format.specs.declared.medium.MediumFault.{MediumFault}
 use Rattle.cfb_format.specs.Names.{Cases}
@@ -77,6 +77,25 @@ abbrev pub WritesOn : (bytes : List ℕ) → List StreamCall → CommandReply �
 WritesOn bytes calls (replied reply) = calls ≡ []
 WritesOn bytes calls (streamed replies closing) = WritesAll bytes calls replies
 
+-- each call writes a beginning of what is left, and what that write and those before it have left goes on, until nothing is left or one is refused
+abbrev pub WritesPieces : (bytes : List ℕ) → List StreamCall → List StreamReply → Type 0
+WritesPieces bytes [] [] = bytes ≡ []
+WritesPieces bytes [] (reply ∷ replies) = ⊥
+WritesPieces bytes (call ∷ calls) [] = ⊥
+WritesPieces bytes (call ∷ calls) (count n ∷ replies) =
+    (piece : List ℕ) × (rest : List ℕ) × (bytes ≡ piece ++ rest) × (call ≡ write piece) × WritesPieces (drop n piece ++ rest) calls replies
+WritesPieces bytes (call ∷ calls) (not_done refusal ∷ replies) =
+    (piece : List ℕ) × (rest : List ℕ) × (bytes ≡ piece ++ rest) × (call ≡ write piece) × (calls ≡ []) × (replies ≡ [])
+WritesPieces bytes (call ∷ calls) (ready ∷ replies) = ⊥
+WritesPieces bytes (call ∷ calls) (got read ∷ replies) = ⊥
+WritesPieces bytes (call ∷ calls) (offset at ∷ replies) = ⊥
+WritesPieces bytes (call ∷ calls) (answered b ∷ replies) = ⊥
+
+-- where the stream was opened; else nothing is called
+abbrev pub WritesPiecesOn : (bytes : List ℕ) → List StreamCall → CommandReply → Type 0
+WritesPiecesOn bytes calls (replied reply) = calls ≡ []
+WritesPiecesOn bytes calls (streamed replies closing) = WritesPieces bytes calls replies
+
 module _ (can_give : MediumFault → Bool) where
   -- on an open stream, by calls that keep the rules
   pub record IsWrittenWhole (old : OpenStream) (bytes : List ℕ) (told : Option Refusal) (new : OpenStream) : Type 0 where
@@ -100,21 +119,53 @@ module _ (can_give : MediumFault → Bool) where
 -- ---- copied
 
 module _ (can_give : MediumFault → Bool) where
+  -- on an open stream, piece by piece, by calls that keep the rules
+  pub record IsWrittenInPieces (old : OpenStream) (bytes : List ℕ) (told : Option Refusal) (new : OpenStream) : Type 0 where
+    pub calls : List StreamCall
+    pub replies : List StreamReply
+    pub writes : WritesPieces bytes calls replies
+    pub tells : told ≡ first_refusal replies None
+    pub works : (first opened : FileState) (path : List ℕ) (tree : Tree) → SameSetting first opened → IsOpenSince opened path old → LendsNothing old
+        → Works can_give first opened path tree old calls replies new
+
+  -- by one command of the rules the stream at this path is made or emptied, all of these bytes are written piece by piece, and it is closed; or the
+  -- first refusal is told. What the file keeps in memory is what its bytes say then
+  pub record IsPutInPieces (old : FileState) (path bytes : List ℕ) (told : Option Refusal) (new : FileState) : Type 0 where
+    pub calls : List StreamCall
+    pub reply : CommandReply
+    pub writes : WritesPiecesOn bytes calls reply
+    pub tells : told ≡ refusal_in reply
+    pub agrees : Agrees new
+    pub answers : commands.AnswersCommand can_give old (on_stream creates path calls) reply new
+
   -- so many bytes, all that the stream at the one path has, were put at the other
   pub record IsCopied (from : FileState) (from_path : List ℕ) (old : FileState) (path : List ℕ) (new : FileState) (n : ℕ) : Type 0 where
     pub bytes : List ℕ
     pub had : HoldsStream from from_path bytes
     pub count : n ≡ length bytes
-    pub put : IsPut can_give old path bytes None new
+    pub put : IsPutInPieces old path bytes None new
     pub has : HoldsStream new path bytes
 
-  -- all bytes of the one stream were read, but putting them at the other path was refused so
+  -- all bytes of the one stream can be read, but putting them at the other path was refused so
   pub record IsPutNot (from : FileState) (from_path : List ℕ) (old : FileState) (path : List ℕ) (new : FileState) (e : Error) : Type 0 where
     pub bytes : List ℕ
     pub had : HoldsStream from from_path bytes
-    pub put : IsPut can_give old path bytes (Some (refusal_of_error e)) new
+    pub put : IsPutInPieces old path bytes (Some (refusal_of_error e)) new
 
-  -- the one was not read, and then the other file is as it was; or it was not put
+  -- All bytes of the one stream can be read, but reading them was refused so on the way; they are more than 64 KiB. Some of the first ones were put
+  -- at the other path, and are what stands there, unless closing that was refused too.
+  pub record IsBrokenOff (from : FileState) (from_path : List ℕ) (from_now : FileState) (old : FileState) (path : List ℕ) (new : FileState) (e : Error) : Type 0 where
+    pub bytes : List ℕ
+    pub had : HoldsStream from from_path bytes
+    pub long : 65536 < length bytes
+    pub unread : IsUnread from from_path (refusal_of_error e) from_now
+    pub kept : ℕ
+    pub less : kept < length bytes
+    pub closing : Option Refusal
+    pub put : IsPutInPieces old path (take kept bytes) closing new
+    pub has : closing ≡ None → HoldsStream new path (take kept bytes)
+
+  -- the one was not read, and then the other file is as it was; or it was not put, or reading it broke off
   abbrev pub IsNotCopied : (from : FileState) → List ℕ → (from_now : FileState) → (old : FileState) → List ℕ → (new : FileState) → Error → Type 0
   IsNotCopied from from_path from_now old path new e =
-      (IsNotRead from from_path from_now e × (new ≡ old)) ⊎ IsPutNot from from_path old path new e
+      (IsNotRead from from_path from_now e × (new ≡ old)) ⊎ IsPutNot from from_path old path new e ⊎ IsBrokenOff from from_path from_now old path new e

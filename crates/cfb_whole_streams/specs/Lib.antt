@@ -7,3 +7,4 @@ pub use Rattle.cfb_commands.specs.cfb_compound_file
 pub mod Told
 pub mod Content
 pub mod Laws
+pub mod Pieces
