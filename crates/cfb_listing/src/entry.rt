@@ -24,7 +24,6 @@ pub struct Entry<A: Allocator = Global> {
     /// The path, and then the name.
     text: String<A>,
     path_len: usize,
-    depth: usize,
     obj_type: ObjType,
     len: u64,
     clsid: Uuid,
@@ -67,21 +66,6 @@ impl<A: Allocator> Entry<A> {
         ensures { chars result.now ≡ self.now.path }
     {
         &self.text.as_str()[..self.path_len]
-    }
-
-    /// How far the object stands below the one that a list begins with: 0 for that one itself, and
-    /// for one that was asked for alone. The path does not tell it where a name on the way is empty.
-    pub fn depth(&self) -> usize {
-        self.depth
-    }
-
-    /// The same, so far below the one that a list begins with.
-    pub(crate) fn at_depth(self, depth: usize) -> Entry<A>
-        ensures { result ≡ self }
-    {
-        let mut told = self;
-        told.depth = depth;
-        told
     }
 
     /// Whether it is a stream.
@@ -200,7 +184,6 @@ pub fn entry_of<A: Allocator>(
     Ok(Entry {
         text,
         path_len,
-        depth: 0,
         obj_type: entry.obj_type,
         len: len_of(entry),
         clsid: clsid_of(entry),

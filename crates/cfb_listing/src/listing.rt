@@ -87,13 +87,6 @@ fn parent_path<'a, A: Allocator>(
     }
 }
 
-/// How deep the objects stand that are in the storage at a place of the list, or in the one that was
-/// asked.
-fn depth_below<A: Allocator>(list: &[Entry<A>], parent: Option<usize>) -> usize {
-    let above = parent.and_then(|place| list.get(place));
-    above.map_or(0, |storage| storage.depth()).saturating_add(1)
-}
-
 /// What stands between this path and a name: a `/`, unless the path ends with one.
 fn separator(path: &str) -> &str
     ensures { (name : List ℕ)
@@ -121,13 +114,12 @@ pub fn path_below<A: Allocator>(alloc: A, parent: &str, name: &str) -> Result<St
     Ok(path)
 }
 
-/// What is told of the object of this number in the storage with this path, so deep in the list.
+/// What is told of the object of this number in the storage with this path.
 fn entry_below<A: Allocator + Clone>(
     alloc: A,
     entries: &[DirEntry<A>],
     number: u32,
     parent: &str,
-    depth: usize,
 ) -> Result<Entry<A>, Error>
     requires { number < length entries.now }
     ensures ok { IfOk result (λ told. told
@@ -136,8 +128,7 @@ fn entry_below<A: Allocator + Clone>(
     ensures refused { IfErr result IsMemory }
 {
     let path = path_below(alloc.clone()?, parent, &entries[number as usize].name)?;
-    let told = entry_of(entries, number, path)?;
-    Ok(told.at_depth(depth))
+    entry_of(entries, number, path)
 }
 
 /// Whether what is in the entry is listed after it.
@@ -171,8 +162,7 @@ fn push_inside<A: Allocator + Clone>(
     push_siblings(entries, first, None, &mut stack, &mut pending)?;
     while let Some(next) = pending.pop() {
         let parent = parent_path(path, list.as_slice(), next.parent);
-        let depth = depth_below(list.as_slice(), next.parent);
-        let told = entry_below(alloc.clone()?, entries, next.number, parent, depth)?;
+        let told = entry_below(alloc.clone()?, entries, next.number, parent)?;
         let place = list.len();
         list.push(told)?;
         if !goes_inside(order, entries, next.number) {
