@@ -1,6 +1,8 @@
 -- Why a file is not sound, and what its sectors are used for.
-use Rattle.std.specs.Prelude.{ℕ, ◌≡◌, ◌↔◌, List, [], All}
+use Rattle.std.specs.Prelude.{ℕ, ◌≡◌, ◌↔◌, List, [], Bool, All, IsTrue, ⊤}
+use Rattle.cfb_format.specs.declared.error.Error.{Error}
 use Rattle.cfb_format.specs.Reading.{HasReading}
+use Rattle.cfb_format.specs.Refused.{HasReason, no_error}
 use Rattle.cfb_format.specs.Soundness.{IsSound, mini_owner, owner}
 use Rattle.cfb_flaws.specs.declared.flaw.Flaw.{Flaw}
 use Rattle.cfb_flaws.specs.declared.owner.Owner.{Owner}
@@ -22,3 +24,7 @@ AreSectorOwnersOf file owners = HasReading (cases_of file.base) (bytes_of file.b
 -- and each mini sector
 abbrev pub AreMiniOwnersOf : FileState → List Owner → Type 0
 AreMiniOwnersOf file owners = HasReading (cases_of file.base) (bytes_of file.base) (λ r. AreOwners r.minifat (mini_owner r) owners)
+
+-- the medium failed, or no longer has bytes that were read before, which none does that tells its bytes
+abbrev pub IsReadFault : Bool → Error → Type 0
+IsReadFault tells = HasReason (record no_error { medium = λ fault. ⊤; invalid_data = IsTrue tells → ⊥ })

@@ -1,3 +1,4 @@
+pub use Rattle.cfb_copies.specs as cfb_copies
 pub use Rattle.cfb_copies.specs.cfb_outline
 pub use Rattle.cfb_copies.specs.cfb_siblings
 pub use Rattle.cfb_listing.specs.cfb_trees

@@ -1,11 +1,13 @@
 //! Why a compound file is not sound, and what its sectors are used for.
-ghost use Rattle.std.specs.Prelude.{◌≡◌, ◌⊎◌, IsTrue, IfErr, IfOk, length};
+ghost use Rattle.std.specs.Prelude.{◌≡◌, ◌⊎◌, true, IsTrue, IfErr, IfOk, OnOk, length};
 ghost use Rattle.cfb_format.specs.declared.error.Error.TheVariants.{Failed};
 ghost use Rattle.cfb_format.specs.Names.{Cases};
 ghost use Rattle.cfb_format.specs.Reading.{IsOutline, Outline, stream_numbers as streams_in};
 ghost use Rattle.cfb_format.specs.Refused.{IsMemory};
+ghost use Rattle.cfb_agreement.specs.Files.{is_failed};
+ghost use Rattle.cfb_copies.specs.Steps.{IsReadOnly};
 ghost use Rattle.cfb_compound_file.specs.cfb_mini_sectors.State.{entries_of, table_of};
-ghost use Rattle.cfb_compound_file.specs.Flaws.{AreFlawsOf, AreMiniOwnersOf, AreSectorOwnersOf};
+ghost use Rattle.cfb_compound_file.specs.Flaws.{AreFlawsOf, AreMiniOwnersOf, AreSectorOwnersOf, IsReadFault};
 
 use crate::compound_file::CompoundFile;
 use cfb_flaws::flaw::Flaw;
@@ -16,15 +18,15 @@ use cfb_opening::flaws::{file_flaws, file_mini_owners, file_owners, file_streams
 use std::alloc::Allocator as Heap;
 
 impl<F: ReadMedium, A: Heap + Clone> CompoundFile<F, A> {
-    /// Why the file is not consistent: an empty list if it is, otherwise a [`flaws::Flaw`] for each rule that its bytes break. A flaw names
-    /// a stream by the number of its directory entry. That a FAT entry points past the end of the file is listed only if there is no other
-    /// flaw. Time and memory grow with the sectors, the mini sectors and the streams. [`CompoundFile::is_sound`] answers whether there is
-    /// one; [`CompoundFile::salvage_to`] copies what can be read.
+    /// Why the file is not consistent: an empty list if it is, otherwise a [`flaws::Flaw`] for each rule that its bytes break, and for each
+    /// sector whose FAT entry points past the end of the file. A flaw names a stream by the number of its directory entry. The FAT of an
+    /// inconsistent file is read again. Time and memory grow with the sectors, the mini sectors and the streams.
+    /// [`CompoundFile::is_sound`] answers whether there is a flaw; [`CompoundFile::salvage_to`] copies what can be read.
     ///
     /// ```rust
     /// /// Prints each reason why a file on disk is not consistent.
     /// pub fn explain(rt: &HostRuntime, path: &str) -> io::Result<()> {
-    ///     let file = cfb::open(rt, rt.alloc(), path)?;
+    ///     let mut file = cfb::open(rt, rt.alloc(), path)?;
     ///     for flaw in file.flaws(&rt.alloc())? {
     ///         println!(rt; "{:?}", flaw)?;
     ///     }
@@ -34,15 +36,20 @@ impl<F: ReadMedium, A: Heap + Clone> CompoundFile<F, A> {
     ///
     /// # Errors
     ///
-    /// [`Error::Failed`] if an earlier change failed midway ([`CompoundFile::is_failed`]); `Memory`.
-    pub fn flaws(&self, alloc: &A) -> Result<Vec<Flaw, A>, Error>
-        ensures told { IsTrue F.tells → IfOk result (λ found. AreFlawsOf self.now found.items) }
-        ensures err { IfErr result (λ e. (e ≡ Failed) ⊎ IsMemory e) }
+    /// [`Error::Failed`] if an earlier change failed midway ([`CompoundFile::is_failed`]); `Medium` if the medium failed; `Memory`. The file
+    /// itself does not change.
+    pub fn flaws(&mut self, alloc: &A) -> Result<Vec<Flaw, A>, Error>
+        ensures told { IsTrue F.tells → IfOk result (λ found. AreFlawsOf self.old found.items) }
+        ensures reads { IsReadOnly F.tells self.old self.new }
+        ensures same { IsTrue F.tells → OnOk result (self.new ≡ self.old) }
+        ensures failed { IfErr result (λ e. e ≡ Failed → is_failed self.old ≡ true) }
+        ensures err { IfErr result (λ e. ((e ≡ Failed) ⊎ IsMemory e) ⊎ IsReadFault F.tells e) }
     {
         if self.volume.is_failed() {
             return Err(Error::Failed);
         }
-        let found = file_flaws(alloc, self.volume.tables(), self.volume.is_sound())?;
+        let raw = self.volume.raw_fat()?;
+        let found = file_flaws(alloc, self.volume.tables(), &raw, self.volume.is_sound())?;
         Ok(found)
     }
 

@@ -2,7 +2,6 @@
 use Rattle.std.proofs.Common.{◌≡◌, ◌≢◌, ◌<◌, inl, inr, ℕ, List, [], ◌∷◌, ◌++◌, Bool, true, false, length, refl, sym, ◌∙◌, ap, subst, arith}
 use Rattle.std.specs.Prelude.{All, IsSome, nat_le, Some, if◌then◌else◌, ◌==◌}
 use Rattle.std.proofs.lemmas.Bool.{cases_eq}
-use Rattle.std.proofs.lemmas.List.{length-append}
 use Rattle.std.proofs.lemmas.List.Elements.{All-nil}
 use Rattle.cfb_format.specs.Chain.{chain_from}
 use Rattle.cfb_format.specs.Content.{content_chain, is_large, mini_chain, placed_from, place_in_stream, readable, sector_chain}
@@ -15,7 +14,7 @@ use Rattle.cfb_flaws.specs.declared.owner.Table.{Table}
 use Rattle.cfb_flaws.specs.declared.owner.Table.TheVariants.{Fat, Minifat}
 use Rattle.cfb_flaws.specs.Claims.{LiesIn}
 use Rattle.cfb_flaws.specs.Each.{AnswersEach, AnswersMost, AreWhole, HaveChains}
-use Rattle.cfb_flaws.specs.Flaws.{AreWholeIn, Clause, clause_of, HaveChainsIn, Holds, NoneOn, on_chains, on_covers, on_loose, on_mini_loose, on_mini_room, on_mini_sectors, on_mini_stream, on_sectors, on_whole}
+use Rattle.cfb_flaws.specs.Flaws.{AreWholeIn, Clause, clause_of, HaveChainsIn, Holds, NoneOn, PointsPast, on_chains, on_covers, on_loose, on_mini_loose, on_mini_room, on_mini_sectors, on_mini_stream, on_sectors, on_whole}
 use Rattle.cfb_flaws.specs.Telling.{Told}
 use Rattle.cfb_flaws.proofs.Tellings.{none-push}
 
@@ -84,12 +83,9 @@ none-told bytes r = All-nil (Holds bytes r)
 pub none-on : (c : Clause) → NoneOn c []
 none-on c = All-nil (λ f. clause_of f ≢ c)
 
-pub some-more : (xs : List Flaw) (x : Flaw) → xs ++ x ∷ [] ≡ [] → ⊥
-some-more xs x e = let l = length-append xs (x ∷ []) in let z = ap length e in omega (arith, l, z)
-
 -- of a sound file each clause holds
-pub sound-each : (bytes : List ℕ) (r : Reading) (found : List Flaw) → IsSound bytes r → AnswersEach bytes r found
-sound-each bytes r found s = record {
+pub sound-each : (bytes : List ℕ) (r : Reading) (found : List Flaw) → IsSound bytes r → ((i next : ℕ) → PointsPast bytes r i next → ⊥) → AnswersEach bytes r found
+sound-each bytes r found s none = record {
   most = record {
     covers = λ n. s.covers;
     mini_stream = λ n. s.mini_stream;
@@ -101,7 +97,7 @@ sound-each bytes r found s = record {
     mini_loose = λ n. s.mini_loose;
     whole = λ n. s.whole;
   };
-  pointers = λ e. s.pointers;
+  pointers = λ i next p. absurd (none i next p);
 }
 
 -- and where all do, it is sound
@@ -117,17 +113,4 @@ most-sound bytes r a p = record {
   mini_loose = a.mini_loose (none-on on_mini_loose);
   pointers = p;
   whole = a.whole (none-on on_whole);
-}
-
-pub most-push : (bytes : List ℕ) (r : Reading) (found : List Flaw) (f : Flaw) → AnswersMost bytes r found → AnswersMost bytes r (found ++ f ∷ [])
-most-push bytes r found f a = record {
-  covers = λ n. a.covers (none-push on_covers found f n).0;
-  mini_stream = λ n. a.mini_stream (none-push on_mini_stream found f n).0;
-  chains = λ n. a.chains (none-push on_chains found f n).0;
-  sectors = λ n. a.sectors (none-push on_sectors found f n).0;
-  mini_sectors = λ n. a.mini_sectors (none-push on_mini_sectors found f n).0;
-  mini_room = λ n. a.mini_room (none-push on_mini_room found f n).0;
-  loose = λ n. a.loose (none-push on_loose found f n).0;
-  mini_loose = λ n. a.mini_loose (none-push on_mini_loose found f n).0;
-  whole = λ n. a.whole (none-push on_whole found f n).0;
 }

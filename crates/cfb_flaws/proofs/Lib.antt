@@ -17,3 +17,4 @@ pub mod Reaching
 pub mod Covering
 pub mod Filling
 pub mod Growing
+pub mod Pointing

@@ -1,13 +1,14 @@
 -- A reason for each clause of soundness that is broken.
-use Rattle.std.specs.Prelude.{ℕ, ◌≡◌, List, [], length, nat_eq, IsSome, Contains}
+use Rattle.std.specs.Prelude.{ℕ, ◌≡◌, List, length, nat_eq, IsSome, Contains}
 use Rattle.std.specs.List.{IsDistinct}
 use Rattle.cfb_format.specs.Content.{content_chain, mini_stream_chain, readable}
 use Rattle.cfb_format.specs.Reading.{Reading}
 use Rattle.cfb_format.specs.Siblings.{entry_at}
-use Rattle.cfb_format.specs.Soundness.{PointsIntoFile, streams, used_sectors, used_mini_sectors}
+use Rattle.cfb_format.specs.Soundness.{streams, used_sectors, used_mini_sectors}
 use Rattle.cfb_flaws.specs.declared.flaw.Flaw.{Flaw}
+use Rattle.cfb_flaws.specs.declared.flaw.Flaw.TheVariants.{PastFile}
 use Rattle.cfb_flaws.specs.declared.owner.Table.TheVariants.{Fat, Minifat}
-use Rattle.cfb_flaws.specs.Flaws.{Covers, HasRoom, KeepsLooseIn, NoneOn, on_chains, on_covers, on_loose, on_mini_loose, on_mini_room, on_mini_sectors, on_mini_stream, on_sectors, on_whole}
+use Rattle.cfb_flaws.specs.Flaws.{Covers, HasRoom, KeepsLooseIn, NoneOn, PointsPast, on_chains, on_covers, on_loose, on_mini_loose, on_mini_room, on_mini_sectors, on_mini_stream, on_sectors, on_whole}
 
 -- every stream has a chain
 abbrev pub HaveChains : Reading → Type 0
@@ -29,7 +30,7 @@ pub record AnswersMost (bytes : List ℕ) (r : Reading) (found : List Flaw) : Ty
   pub mini_loose : NoneOn on_mini_loose found → KeepsLooseIn Minifat r
   pub whole : NoneOn on_whole found → AreWhole bytes r
 
--- and the words of the FAT point into the file where there is no reason at all
+-- and each sector that goes on past the last one has a reason of its own
 pub record AnswersEach (bytes : List ℕ) (r : Reading) (found : List Flaw) : Type 0 where
   pub most : AnswersMost bytes r found
-  pub pointers : found ≡ [] → PointsIntoFile bytes r
+  pub pointers : (i : ℕ) (next : ℕ) → PointsPast bytes r i next → Contains found (PastFile i next)

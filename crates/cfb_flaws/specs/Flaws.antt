@@ -1,11 +1,12 @@
 -- Reasons why a file is not sound, when they are true of its bytes, and which clause of soundness each breaks.
-use Rattle.std.specs.Prelude.{ℕ, All, IsSome, flat_map, ◌*◌, ◌≡◌, ◌≢◌, ◌<◌, ◌≤◌, List, [], Option, None, length, slice_index, Contains, IsTrue, if◌then◌else◌, ⊤}
+use Rattle.std.specs.Prelude.{ℕ, All, IsSome, flat_map, ◌*◌, ◌≡◌, ◌≢◌, ◌<◌, ◌≤◌, List, [], ◌++◌, false, Option, None, length, slice_index, Contains, IsTrue, if◌then◌else◌, ⊤}
 use Rattle.cfb_format.specs.Bytes.{sector_count, sector_len, words_per_sector, end_of_chain, is_regular, max_regular_sector}
 use Rattle.cfb_format.specs.Chain.{value}
+use Rattle.cfb_format.specs.Fat.{is_among, raw_fat}
 use Rattle.cfb_format.specs.Content.{is_large, content_chain, mini_sector_len, mini_stream_chain, readable}
 use Rattle.cfb_format.specs.Reading.{Reading, root_entry}
 use Rattle.cfb_format.specs.Siblings.{entry_at}
-use Rattle.cfb_format.specs.Soundness.{Owner as OwnerOf, no_owner, owner, mini_owner, KeepsLoose, IsLoose, PointsIntoFile, streams, used_sectors, used_mini_sectors, large_streams, small_streams, sectors_of, mini_sectors_of, mini_stream_sectors}
+use Rattle.cfb_format.specs.Soundness.{Owner as OwnerOf, no_owner, owner, mini_owner, KeepsLoose, IsLoose, streams, used_sectors, used_mini_sectors, large_streams, small_streams, sectors_of, mini_sectors_of, mini_stream_sectors}
 use Rattle.cfb_flaws.specs.declared.owner.Owner.{Owner}
 use Rattle.cfb_flaws.specs.declared.owner.Owner.TheVariants.{Fat as FatOwner, Difat, Directory, Minifat as MinifatOwner, MiniStream, Stream, Free, Unused}
 use Rattle.cfb_flaws.specs.declared.owner.Table.{Table}
@@ -83,6 +84,18 @@ IsBroken r t (Stream k) place = Contains (streams r) k × (content_chain r (entr
 IsBroken r t Free place = ⊥
 IsBroken r t Unused place = ⊥
 
+-- the words of the FAT for the file's sectors, as they stand in the file
+abbrev pub raw_of : List ℕ → Reading → List ℕ
+raw_of bytes r = raw_fat r.header.version bytes r.fat_sectors
+
+-- the sector is none of the FAT and the DIFAT, and its word points past the file
+pub record PointsPast (bytes : List ℕ) (r : Reading) (i next : ℕ) : Type 0 where
+  pub below : i < length (raw_of bytes r)
+  pub unlisted : is_among (r.fat_sectors ++ r.difat_sectors) i ≡ false
+  pub word : slice_index (raw_of bytes r) i ≡ next
+  pub regular : IsTrue (is_regular next)
+  pub past : sector_count r.header.version bytes ≤ next
+
 -- the reason is true of the bytes
 abbrev pub Holds : List ℕ → Reading → Flaw → Type 0
 Holds bytes r (TooFewWords words sectors) =
@@ -96,7 +109,7 @@ Holds bytes r (Loose t i next o) = (owner_in t r i ≡ no_owner) × (value (word
     × (owner_in t r next ≡ meant o) × (o ≢ Unused)
 Holds bytes r (Cut k there len) = Contains (streams r) k × (len ≡ (entry_at r.entries k).stream_len)
     × (there ≡ length (readable bytes r (entry_at r.entries k))) × (there < len)
-Holds bytes r PastFile = PointsIntoFile bytes r → ⊥
+Holds bytes r (PastFile i next) = PointsPast bytes r i next
 
 -- ---- the clauses of soundness
 
@@ -142,7 +155,7 @@ clause_of (Broken t o place) = chain_of_owner o
 clause_of (TooLittleRoom room named) = on_mini_room
 clause_of (Loose t i next o) = loose_in t
 clause_of (Cut k there len) = on_whole
-clause_of PastFile = on_pointers
+clause_of (PastFile i next) = on_pointers
 
 -- none of these reasons breaks this clause
 abbrev pub NoneOn : Clause → List Flaw → Type 0

@@ -41,6 +41,17 @@ is_chained (Stream k) = true
 is_chained Free = false
 is_chained Unused = false
 
+-- a list of the FAT or of the DIFAT has it
+abbrev pub is_of_tables : Owner → Bool
+is_of_tables Fat = true
+is_of_tables Difat = true
+is_of_tables Directory = false
+is_of_tables Minifat = false
+is_of_tables MiniStream = false
+is_of_tables (Stream k) = false
+is_of_tables Free = false
+is_of_tables Unused = false
+
 -- the owner of a number; past the end none has one
 abbrev pub owner_at : List Owner → ℕ → Owner
 owner_at owners i = slice_index_or owners i Unused

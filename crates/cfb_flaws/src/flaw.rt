@@ -56,6 +56,9 @@ pub enum Flaw {
         readable: u64,
         len: u64,
     },
-    /// A word of the FAT points past the file.
-    PastFile,
+    /// The FAT says that this sector goes on in the other, which is past the last one of the file.
+    PastFile {
+        sector: u64,
+        next: u32,
+    },
 }

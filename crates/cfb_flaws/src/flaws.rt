@@ -1,5 +1,5 @@
 //! Why a file is not sound.
-ghost use Rattle.std.specs.Prelude.{◌≡◌, ◌↔◌, ℕ, List, [], All, IsSome, IsTrue, IfOk, IfErr, OnOk, nat_eq};
+ghost use Rattle.std.specs.Prelude.{◌≡◌, ◌↔◌, ℕ, List, [], false, All, IsSome, IsTrue, IfOk, IfErr, OnOk, nat_eq};
 ghost use Rattle.std.specs.List.{IsDistinct};
 ghost use Rattle.cfb_format.specs.declared.error.Error.TheVariants.{Memory};
 ghost use Rattle.cfb_format.specs.Content.{mini_stream_chain};
@@ -8,7 +8,7 @@ ghost use Rattle.cfb_format.specs.Reading.{Reading, Reads};
 ghost use Rattle.cfb_format.specs.Soundness.{IsSound, mini_stream_sectors, used_mini_sectors, used_sectors};
 ghost use Rattle.cfb_flaws.specs.declared.owner.Table.TheVariants.{Fat, Minifat};
 ghost use Rattle.cfb_flaws.specs.Each.{AnswersEach, AnswersMost, AreWhole, HaveChains};
-ghost use Rattle.cfb_flaws.specs.Flaws.{Covers, HasRoom, Holds, KeepsLooseIn, on_chains, on_covers, on_loose, on_mini_loose, on_mini_room, on_mini_sectors, on_mini_stream, on_sectors, on_whole};
+ghost use Rattle.cfb_flaws.specs.Flaws.{Covers, HasRoom, Holds, KeepsLooseIn, on_chains, on_covers, on_loose, on_mini_loose, on_mini_room, on_mini_sectors, on_mini_stream, on_sectors, on_whole, raw_of};
 ghost use Rattle.cfb_flaws.specs.Owners.{AreKept};
 ghost use Rattle.cfb_flaws.specs.Telling.{KnowsFile, Tells};
 
@@ -16,6 +16,7 @@ use crate::flaw::Flaw;
 use crate::known::Known;
 use crate::owner::Table;
 use crate::owners::{mini_sector_owners, sector_owners};
+use crate::past::tell_past;
 use crate::reach::tell_cut_streams;
 use crate::searches::short_chain;
 use crate::shared::tell_difat;
@@ -29,8 +30,9 @@ use cfb_soundness::parts::Parts;
 use std::alloc::Allocator;
 
 /// Why a file with these parts is not sound, which it is as `is_sound` says: no reason where it is, and else a reason for each clause of
-/// soundness that is broken. That a word of the FAT points past the file is told where there is no other reason: what memory keeps of
-/// the FAT does not show it. It takes time and memory for the sectors, the mini sectors and the streams, whatever the file.
+/// soundness that is broken, and one for each sector that goes on past the last one. Where the file is not sound, `raw` is the words of
+/// the FAT for its sectors as they stand in it: what memory keeps of the FAT does not show which of them point past the file. It takes
+/// time and memory for the sectors, the mini sectors and the streams, whatever the file.
 ///
 /// # Errors
 ///
@@ -38,16 +40,20 @@ use std::alloc::Allocator;
 pub fn flaws_of<A: Allocator + Clone>(
     heap: &A,
     parts: &Parts<'_, A>,
+    raw: &[u32],
     is_sound: bool,
 ) -> Result<Vec<Flaw, A>, Error>
     ensures exact { (cases : Cases) (bytes : List ℕ) (r : Reading) → Reads cases bytes r
         → AreKept parts.now bytes r → (IsTrue is_sound ↔ IsSound bytes r)
+        → (is_sound ≡ false → raw.now ≡ raw_of bytes r)
         → IfOk result (λ found. (found.items ≡ []) ↔ IsSound bytes r) }
     ensures told { (cases : Cases) (bytes : List ℕ) (r : Reading) → Reads cases bytes r
         → AreKept parts.now bytes r → (IsTrue is_sound ↔ IsSound bytes r)
+        → (is_sound ≡ false → raw.now ≡ raw_of bytes r)
         → IfOk result (λ found. All (Holds bytes r) found.items) }
     ensures each { (cases : Cases) (bytes : List ℕ) (r : Reading) → Reads cases bytes r
         → AreKept parts.now bytes r → (IsTrue is_sound ↔ IsSound bytes r)
+        → (is_sound ≡ false → raw.now ≡ raw_of bytes r)
         → IfOk result (λ found. AnswersEach bytes r found.items) }
     ensures err { IfErr result (λ e. e ≡ Memory) }
 {
@@ -55,11 +61,7 @@ pub fn flaws_of<A: Allocator + Clone>(
     if is_sound {
         return Ok(found);
     }
-    tell_flaws(heap, parts, &mut found)?;
-    if !found.is_empty() {
-        return Ok(found);
-    }
-    found.push(Flaw::PastFile)?;
+    tell_flaws(heap, parts, raw, &mut found)?;
     Ok(found)
 }
 
@@ -67,13 +69,16 @@ pub fn flaws_of<A: Allocator + Clone>(
 fn tell_flaws<A: Allocator + Clone>(
     heap: &A,
     parts: &Parts<'_, A>,
+    raw: &[u32],
     found: &mut Vec<Flaw, A>,
 ) -> Result<(), Error>
     requires { found.old.items ≡ [] }
     ensures told { (cases : Cases) (bytes : List ℕ) (r : Reading) → Reads cases bytes r
-        → AreKept parts.now bytes r → OnOk result (All (Holds bytes r) found.new.items) }
+        → AreKept parts.now bytes r → raw.now ≡ raw_of bytes r
+        → OnOk result (All (Holds bytes r) found.new.items) }
     ensures each { (cases : Cases) (bytes : List ℕ) (r : Reading) → Reads cases bytes r
-        → AreKept parts.now bytes r → OnOk result (AnswersMost bytes r found.new.items) }
+        → AreKept parts.now bytes r → raw.now ≡ raw_of bytes r
+        → OnOk result (AnswersEach bytes r found.new.items) }
     ensures err { IfErr result (λ e. e ≡ Memory) }
 {
     let sectors = sector_owners(heap, parts)?;
@@ -87,6 +92,7 @@ fn tell_flaws<A: Allocator + Clone>(
         root,
     };
     tell_known(&known, found)?;
+    tell_past(&known, raw, found)?;
     Ok(())
 }
 

@@ -7,6 +7,7 @@ pub mod flaws;
 mod known;
 pub mod owner;
 pub mod owners;
+mod past;
 mod reach;
 mod searches;
 mod shared;

@@ -31,7 +31,7 @@ pub enum Table {
 }
 
 impl Owner {
-    ghost use Rattle.cfb_flaws.specs.Owners.{is_chained, is_unused};
+    ghost use Rattle.cfb_flaws.specs.Owners.{is_chained, is_of_tables, is_unused};
 
     /// Whether no list has claimed the sector.
     pub(crate) fn is_unused(self) -> bool
@@ -41,6 +41,13 @@ impl Owner {
             Owner::Unused => true,
             _ => false,
         }
+    }
+
+    /// Whether the sector holds words of the FAT or entries of the DIFAT.
+    pub(crate) fn is_of_tables(self) -> bool
+        ensures { result ≡ is_of_tables self }
+    {
+        matches!(self, Owner::Fat | Owner::Difat)
     }
 
     /// Whether both are the same owner.

@@ -1,5 +1,5 @@
 //! Why a file that was read is not sound, and what its sectors are used for.
-ghost use Rattle.std.specs.Prelude.{◌≡◌, ◌↔◌, ℕ, List, [], All, IsTrue, IfOk, IfErr, length};
+ghost use Rattle.std.specs.Prelude.{◌≡◌, ◌↔◌, ℕ, List, [], false, All, IsTrue, IfOk, IfErr, length};
 ghost use Rattle.cfb_format.specs.declared.header.Header.{Header as HeaderOf};
 ghost use Rattle.cfb_format.specs.Names.{Cases};
 ghost use Rattle.cfb_format.specs.Reading.{IsOutline, Outline, Reads};
@@ -7,7 +7,7 @@ ghost use Rattle.cfb_format.specs.Reading.{stream_numbers as streams_in};
 ghost use Rattle.cfb_format.specs.Refused.{IsMemory};
 ghost use Rattle.cfb_format.specs.Soundness.{IsSound, mini_owner, owner};
 ghost use Rattle.cfb_flaws.specs.Each.{AnswersEach};
-ghost use Rattle.cfb_flaws.specs.Flaws.{Holds};
+ghost use Rattle.cfb_flaws.specs.Flaws.{Holds, raw_of};
 ghost use Rattle.cfb_flaws.specs.Owners.{AreKept, AreOwners};
 ghost use Rattle.cfb_opening.specs.cfb_mini_sectors.State.{entries_of, reading_of, table_of, version_of};
 ghost use Rattle.cfb_opening.specs.ReadFile.{IsRead};
@@ -23,26 +23,31 @@ use cfb_format::medium::ReadMedium;
 use cfb_soundness::parts::Parts;
 use std::alloc::Allocator as Heap;
 
-/// Why the file is not sound, which it is as `is_sound` says: no reason where it is, and else one for each broken clause. `Memory`.
+/// Why the file is not sound, which it is as `is_sound` says: no reason where it is, and else one for each broken clause, and for each
+/// sector that goes on past the last one. Where it is not sound, `raw` is the words of the FAT for its sectors as they stand in it. `Memory`.
 pub fn file_flaws<F: ReadMedium, A: Heap + Clone>(
     heap: &A,
     mini: &MiniAllocator<F, A>,
+    raw: &[u32],
     is_sound: bool,
 ) -> Result<Vec<Flaw, A>, Error>
     ensures exact { (cases : Cases) (bytes : List ℕ) (h : HeaderOf) (o : Outline)
         → IsRead cases bytes h mini.now o → (IsTrue is_sound ↔ IsSound bytes (reading_of h mini.now o))
+        → (is_sound ≡ false → raw.now ≡ raw_of bytes (reading_of h mini.now o))
         → IfOk result (λ found. (found.items ≡ []) ↔ IsSound bytes (reading_of h mini.now o)) }
     ensures told { (cases : Cases) (bytes : List ℕ) (h : HeaderOf) (o : Outline)
         → IsRead cases bytes h mini.now o → (IsTrue is_sound ↔ IsSound bytes (reading_of h mini.now o))
+        → (is_sound ≡ false → raw.now ≡ raw_of bytes (reading_of h mini.now o))
         → IfOk result (λ found. All (Holds bytes (reading_of h mini.now o)) found.items) }
     ensures each { (cases : Cases) (bytes : List ℕ) (h : HeaderOf) (o : Outline)
         → IsRead cases bytes h mini.now o → (IsTrue is_sound ↔ IsSound bytes (reading_of h mini.now o))
+        → (is_sound ≡ false → raw.now ≡ raw_of bytes (reading_of h mini.now o))
         → IfOk result (λ found. AnswersEach bytes (reading_of h mini.now o) found.items) }
     ensures err { IfErr result IsMemory }
 {
     let streams = stream_numbers(heap, mini.entries())?;
     let parts = parts_of(mini, &streams);
-    flaws_of(heap, &parts, is_sound)
+    flaws_of(heap, &parts, raw, is_sound)
 }
 
 /// The owner of each sector. `Memory`.

@@ -1,9 +1,9 @@
 -- The words of the FAT as they are kept, one sector more at a time.
-use Rattle.std.proofs.Common.{◌≡◌, ℕ, zero, suc, ◌-◌, ◌+◌, ◌<◌, min, List, [], ◌∷◌, ◌++◌, true, length, take, drop, refl, sym, ◌∙◌, ap, subst, arith, get_or, length-take}
+use Rattle.std.proofs.Common.{◌≡◌, ℕ, zero, suc, ◌-◌, ◌+◌, ◌<◌, ◌≤◌, min, List, [], ◌∷◌, ◌++◌, true, length, take, drop, refl, sym, ◌∙◌, ap, subst, arith, get_or, length-take}
 use Rattle.std.specs.Prelude.{◌&&◌}
 use Rattle.std.specs.List.{list_all}
 use Rattle.std.proofs.lemmas.Bool.{and_parts}
-use Rattle.std.proofs.lemmas.List.{append-nil, take_more, take-append-drop}
+use Rattle.std.proofs.lemmas.List.{append-nil, take_more, take-append-drop, take-append-le}
 use Rattle.std.proofs.lemmas.List.Concat.{flat_map-append}
 use Rattle.std.proofs.lemmas.List.Folds.{list_all-append}
 use Rattle.cfb_format.specs.declared.validate.Validation.{Validation}
@@ -87,3 +87,12 @@ module _ (validation : Validation) (n : ℕ) (v : Version) (bytes list : List �
       ap (λ m. list_all (is_padding_in validation) (drop m own)) is_room
       ∙ padding-next validation n (fat_words v bytes (take i list)) kept own k (fat_words v bytes (drop (i + 1) list))
       (ap (λ (ws : List ℕ). list_all (is_padding_in validation) (drop n ws)) (sym (words-split v bytes list i lt)) ∙ all)
+
+-- where the first sectors have so many words already, those behind are not asked for
+pub first-enough : (v : Version) (bytes list : List ℕ) (i n : ℕ) (words : List ℕ) → words ≡ fat_words v bytes (take i list) → n ≤ length words
+    → take n words ≡ take n (fat_words v bytes list)
+first-enough v bytes list i n words is enough =
+    let all : fat_words v bytes list ≡ words ++ fat_words v bytes (drop i list) =
+    ap (fat_words v bytes) (sym (take-append-drop i list)) ∙ flat_map-append (sector_words v bytes) (take i list) (drop i list)
+    ∙ ap (λ (ws : List ℕ). ws ++ fat_words v bytes (drop i list)) (sym is) in
+    sym (ap (take n) all ∙ take-append-le n words (fat_words v bytes (drop i list)) enough)

@@ -6,3 +6,4 @@ pub mod Difat
 pub mod FatWords
 pub mod ReadDirectory
 pub mod ReadMinifat
+pub mod RawFat

@@ -6,5 +6,6 @@ pub mod fat_words;
 pub mod laws;
 mod marks;
 pub mod minifat;
+pub mod raw_fat;
 pub mod slots;
 mod whole_sectors;

@@ -53,7 +53,7 @@ pub fn read_minifat_words<F: ReadMedium, A: Heap + Clone>(
 }
 
 /// Reads a sector, and appends its words. `InvalidData` exactly where the file has not all of it, `Medium` and `Memory`.
-fn read_words<F: ReadMedium, A: Heap>(
+pub(crate) fn read_words<F: ReadMedium, A: Heap>(
     allocator: &mut Allocator<F, A>,
     sector: u32,
     into: &mut Vec<u32, A>,

@@ -34,7 +34,7 @@ one-reason bytes r (Broken t o place) i b holds e = cc
 one-reason bytes r (TooLittleRoom room named) i b holds e = cc
 one-reason bytes r (Loose t n next o) i b holds e = cc
 one-reason bytes r (Cut k there len) i b holds e = cc
-one-reason bytes r PastFile i b holds e = cc
+one-reason bytes r (PastFile sector next) i b holds e = cc
 
 one-of : (s t : Option Owner) (b : Owner) → option_or s t ≡ Some b → (s ≡ Some b) ⊎ (t ≡ Some b)
 one-of None t b e = inr e

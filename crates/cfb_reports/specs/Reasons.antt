@@ -69,8 +69,9 @@ user_text path Unused = codes "used by " ++ owner_text path Unused
 abbrev pub cut_text : ℕ → ℕ → List ℕ
 cut_text there len = codes ": " ++ (decimal there ++ (codes " of its " ++ (decimal len ++ codes " bytes can be read")))
 
-abbrev pub past_text : ℕ → List ℕ
-past_text sectors = codes "the FAT points past the last sector, " ++ decimal (sectors - 1)
+-- which sector goes on past the last one of so many
+abbrev pub past_text : ℕ → ℕ → ℕ → List ℕ
+past_text sectors i next = codes "sector " ++ (decimal i ++ (codes " goes on in sector " ++ (decimal next ++ (codes ", past the last, " ++ decimal (sectors - 1)))))
 
 -- a reason
 abbrev pub reason_text : (ℕ → List ℕ) → Sizes → Flaw → List ℕ
@@ -81,4 +82,4 @@ reason_text path sizes (Broken t o place) = owner_text path o ++ break_text t (s
 reason_text path sizes (TooLittleRoom room named) = room_text room named
 reason_text path sizes (Loose t number next o) = loose_text t number next ++ user_text path o
 reason_text path sizes (Cut stream there len) = path_text path stream ++ cut_text there len
-reason_text path sizes PastFile = past_text sizes.sectors
+reason_text path sizes (PastFile i next) = past_text sizes.sectors i next

@@ -27,7 +27,7 @@ second_in (Broken t o place) i = None
 second_in (TooLittleRoom room named) i = None
 second_in (Loose t n next o) i = None
 second_in (Cut k there len) i = None
-second_in PastFile i = None
+second_in (PastFile sector next) i = None
 
 -- and the first that one of the reasons tells
 abbrev pub second_of : List Flaw → ℕ → Option Owner

@@ -83,7 +83,7 @@ pub(crate) fn push_flaw<A: Heap + Clone>(
             names.push_path(text, stream)?;
             push_cut(text, readable, len)
         }
-        Flaw::PastFile => push_past_file(text, sizes),
+        Flaw::PastFile { sector, next } => push_past_file(text, sizes, sector, next),
     }
 }
 
@@ -249,13 +249,21 @@ fn push_cut<A: Heap>(text: &mut String<A>, readable: u64, len: u64) -> Result<()
     Ok(())
 }
 
-/// Appends that the FAT points past the file. `Memory`.
-fn push_past_file<A: Heap>(text: &mut String<A>, sizes: Sizes) -> Result<(), Error>
+/// Appends that a sector goes on past the last one. `Memory`.
+fn push_past_file<A: Heap>(
+    text: &mut String<A>,
+    sizes: Sizes,
+    sector: u64,
+    next: u32,
+) -> Result<(), Error>
     ensures text { OnOk result (string_bytes text.new
-        ≡ string_bytes text.old ++ past_text sizes.sectors) }
+        ≡ string_bytes text.old ++ past_text sizes.sectors sector next) }
     ensures err { IfErr result (λ e. e ≡ Memory) }
 {
     let last = sizes.sectors.saturating_sub(1);
-    write!(text, "the FAT points past the last sector, {last}")?;
+    write!(
+        text,
+        "sector {sector} goes on in sector {next}, past the last, {last}"
+    )?;
     Ok(())
 }

@@ -1,10 +1,11 @@
 //! Streams that cannot be read to their ends.
-ghost use Rattle.std.specs.Prelude.{◌≡◌, ◌<◌, false, Contains, IfOk, IsTrue, MatchOption, chars, length};
+ghost use Rattle.std.specs.Prelude.{◌≡◌, ◌<◌, false, Contains, IfOk, IsTrue, MatchOption, OnOk, chars, length};
 ghost use Rattle.cfb_codecs.specs.EntryModel.{entries_of as entries_in};
 ghost use Rattle.cfb_flaws.specs.declared.flaw.Flaw.TheVariants.{Cut as CutFlaw};
 ghost use Rattle.cfb_flaws.specs.Flaws.{NoneOn, on_whole};
 ghost use Rattle.cfb_format.specs.Siblings.{entry_at};
 ghost use Rattle.cfb_tool.specs.cfb_agreement.Files.{is_failed};
+ghost use Rattle.cfb_tool.specs.cfb_compound_file.cfb_copies.Steps.{IsReadOnly};
 ghost use Rattle.cfb_tool.specs.Cuts.{HasCut, IsExtentAt};
 
 use cfb_codecs::direntry::DirEntry;
@@ -63,12 +64,14 @@ fn len_of<A: Heap>(entries: &[DirEntry<A>], number: u32) -> u64
 ///
 /// # Errors
 ///
-/// `Failed` if an earlier change broke off; `Memory`.
+/// `Failed` if an earlier change broke off; `Medium` if the medium failed; `Memory`.
 pub fn cut_of<F: ReadMedium, A: Heap + Clone>(
     alloc: &A,
-    file: &CompoundFile<F, A>,
+    file: &mut CompoundFile<F, A>,
 ) -> Result<Option<Cut>, Error>
-    ensures ok { IsTrue F.tells → IfOk result (HasCut file.now) }
+    ensures ok { IsTrue F.tells → IfOk result (HasCut file.old) }
+    ensures reads { IsReadOnly F.tells file.old file.new }
+    ensures same { IsTrue F.tells → OnOk result (file.new ≡ file.old) }
 {
     let flaws = file.flaws(alloc)?;
     Ok(first_cut(&flaws))

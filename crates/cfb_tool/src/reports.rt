@@ -4,6 +4,8 @@ ghost use Rattle.cfb_format.specs.declared.error.Error.TheVariants.{Failed};
 ghost use Rattle.cfb_format.specs.Refused.{IsMemory};
 ghost use Rattle.cfb_reports.specs.Leading.{streams_among};
 ghost use Rattle.cfb_reports.specs.Names.{path_of};
+ghost use Rattle.cfb_tool.specs.cfb_compound_file.Flaws.{IsReadFault};
+ghost use Rattle.cfb_tool.specs.cfb_compound_file.cfb_copies.Steps.{IsReadOnly};
 ghost use Rattle.cfb_tool.specs.Reports.{ArePathsOf, HasMap, HasReport};
 
 use crate::listing::walked;
@@ -32,18 +34,19 @@ pub struct About<'a> {
 ///
 /// # Errors
 ///
-/// `Failed` if an earlier change broke off; `Memory`.
+/// `Failed` if an earlier change broke off; `Medium` if the medium failed; `Memory`.
 pub fn map<F: ReadMedium, A: Heap + Clone>(
     alloc: &A,
-    file: &CompoundFile<F, A>,
+    file: &mut CompoundFile<F, A>,
 ) -> Result<String<A>, Error>
-    ensures told { IsTrue F.tells → IfOk result (λ text. HasMap file.now (string_bytes text)) }
-    ensures err { IfErr result (λ e. (e ≡ Failed) ⊎ IsMemory e) }
+    ensures told { IsTrue F.tells → IfOk result (λ text. HasMap file.old (string_bytes text)) }
+    ensures reads { IsReadOnly F.tells file.old file.new }
+    ensures err { IfErr result (λ e. ((e ≡ Failed) ⊎ IsMemory e) ⊎ IsReadFault F.tells e) }
 {
+    let flaws = file.flaws(alloc)?;
     let told = walked(alloc, file)?;
     let names = names_of(alloc, file, told)?;
     let owners = file.sector_owners(alloc)?;
-    let flaws = file.flaws(alloc)?;
     Ok(map_of(alloc, owners.as_slice(), flaws.as_slice(), &names)?)
 }
 
@@ -51,22 +54,23 @@ pub fn map<F: ReadMedium, A: Heap + Clone>(
 ///
 /// # Errors
 ///
-/// `Failed` if an earlier change broke off; `Memory`.
+/// `Failed` if an earlier change broke off; `Medium` if the medium failed; `Memory`.
 pub fn report<F: ReadMedium, A: Heap + Clone>(
     alloc: &A,
-    file: &CompoundFile<F, A>,
+    file: &mut CompoundFile<F, A>,
     about: &About<'_>,
 ) -> Result<String<A>, Error>
-    ensures told { IsTrue F.tells → IfOk result (λ text. HasReport A file.now
+    ensures told { IsTrue F.tells → IfOk result (λ text. HasReport A file.old
         about.now.name.now about.now.minor (is_some about.now.strict) (string_bytes text)) }
-    ensures err { IfErr result (λ e. (e ≡ Failed) ⊎ IsMemory e) }
+    ensures reads { IsReadOnly F.tells file.old file.new }
+    ensures err { IfErr result (λ e. ((e ≡ Failed) ⊎ IsMemory e) ⊎ IsReadFault F.tells e) }
 {
+    let flaws = file.flaws(alloc)?;
     let told = walked(alloc, file)?;
     let objects = told.len();
     let names = names_of(alloc, file, told)?;
     let sectors = file.sector_owners(alloc)?;
     let mini_sectors = file.mini_sector_owners(alloc)?;
-    let flaws = file.flaws(alloc)?;
     let strict = strict_reason(alloc, about.strict)?;
     let facts = Facts {
         name: about.name,

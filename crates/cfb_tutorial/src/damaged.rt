@@ -11,7 +11,7 @@ pub fn mail_body(rt: &HostRuntime, path: &str) -> Result<Vec<u8>, Error> {
 
 /// Prints each reason why a file on disk is not consistent.
 pub fn explain(rt: &HostRuntime, path: &str) -> io::Result<()> {
-    let file = cfb::open(rt, rt.alloc(), path)?;
+    let mut file = cfb::open(rt, rt.alloc(), path)?;
     for flaw in file.flaws(&rt.alloc())? {
         println!(rt; "{:?}", flaw)?;
     }

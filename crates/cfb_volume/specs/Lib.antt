@@ -1,4 +1,5 @@
 pub use Rattle.cfb_outline.specs as cfb_outline
+pub use Rattle.cfb_reading.specs as cfb_reading
 pub use Rattle.cfb_entry_changes.specs.cfb_siblings
 pub use Rattle.cfb_entry_changes.specs.cfb_trees
 pub use Rattle.cfb_entry_changes.specs.cfb_entries

@@ -5,6 +5,7 @@ mod clearing;
 mod inserting;
 mod marking;
 mod parts;
+mod raw_fat;
 mod removing;
 pub mod volume;
 

@@ -47,7 +47,7 @@ use std::marker::Model;
 #[derive(Drop)]
 pub struct Volume<F: ReadMedium, A: Heap = Global> {
     pub(crate) mini: MiniAllocator<F, A>,
-    is_sound: bool,
+    pub(crate) is_sound: bool,
     buffer_limit: usize,
 }
 

@@ -82,7 +82,7 @@ fn copy_into<F: ReadMedium, T: Medium>(file: &mut CompoundFile<F>, medium: T) ->
 /// Tells of a stream that can't be read to its end, if one is found.
 fn tell_not_whole<F: ReadMedium, E: Output>(
     alloc: Global,
-    file: &CompoundFile<F>,
+    file: &mut CompoundFile<F>,
     name: &str,
     faults: &mut E,
 ) -> Option<Refusal> {

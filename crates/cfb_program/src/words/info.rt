@@ -37,8 +37,8 @@ fn print_report<H: System, F: ReadMedium, W: Output>(
     about: &About<'_>,
     out: &mut W,
 ) -> Result<(), Refusal> {
-    let file = opened(rt, medium)?;
-    let text = report(&rt.alloc(), &file, about)?;
+    let mut file = opened(rt, medium)?;
+    let text = report(&rt.alloc(), &mut file, about)?;
     print(text.as_bytes(), out)?;
     if file.is_sound() {
         Ok(())

@@ -177,7 +177,7 @@ fn is_plain_text(bytes: &[u8]) -> bool {
 /// `map`.
 fn print_map<F: ReadMedium, W: Output>(
     alloc: Global,
-    file: &CompoundFile<F>,
+    file: &mut CompoundFile<F>,
     out: &mut W,
 ) -> Result<(), Refusal> {
     let lines = map(&alloc, file)?;

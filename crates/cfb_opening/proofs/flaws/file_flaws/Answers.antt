@@ -5,19 +5,19 @@ use Rattle.cfb_opening.specs.cfb_mini_sectors.State.{reading_of}
 use Rattle.cfb_opening.proofs.flaws.file_flaws.Goals as goal
 
 pub returns-clause-exact : goal.returns-clause-exact
-returns-clause-exact g c = λ cases bytes h o read sound.
+returns-clause-exact g c = λ cases bytes h o read sound raw.
     let outline = subst (λ (es : List Entry). IsOutline cases es o) (sym c.entries.ensures.entries) read.reads.outline in
     let streams = c.deref.ensures.value ∙ c.in_ok-streams.ensures.ok cases o outline in
-    c.flaws_of.ensures.exact cases bytes (reading_of h c.args.mini.now o) read.reads (c.parts_of-parts.ensures cases bytes h o read streams) sound
+    c.flaws_of.ensures.exact cases bytes (reading_of h c.args.mini.now o) read.reads (c.parts_of-parts.ensures cases bytes h o read streams) sound raw
 
 pub returns-clause-told : goal.returns-clause-told
-returns-clause-told g c = λ cases bytes h o read sound.
+returns-clause-told g c = λ cases bytes h o read sound raw.
     let outline = subst (λ (es : List Entry). IsOutline cases es o) (sym c.entries.ensures.entries) read.reads.outline in
     let streams = c.deref.ensures.value ∙ c.in_ok-streams.ensures.ok cases o outline in
-    c.flaws_of.ensures.told cases bytes (reading_of h c.args.mini.now o) read.reads (c.parts_of-parts.ensures cases bytes h o read streams) sound
+    c.flaws_of.ensures.told cases bytes (reading_of h c.args.mini.now o) read.reads (c.parts_of-parts.ensures cases bytes h o read streams) sound raw
 
 pub returns-clause-each : goal.returns-clause-each
-returns-clause-each g c = λ cases bytes h o read sound.
+returns-clause-each g c = λ cases bytes h o read sound raw.
     let outline = subst (λ (es : List Entry). IsOutline cases es o) (sym c.entries.ensures.entries) read.reads.outline in
     let streams = c.deref.ensures.value ∙ c.in_ok-streams.ensures.ok cases o outline in
-    c.flaws_of.ensures.each cases bytes (reading_of h c.args.mini.now o) read.reads (c.parts_of-parts.ensures cases bytes h o read streams) sound
+    c.flaws_of.ensures.each cases bytes (reading_of h c.args.mini.now o) read.reads (c.parts_of-parts.ensures cases bytes h o read streams) sound raw
