@@ -15,12 +15,12 @@ use Rattle.cfb_reading.proofs.cfb_tables.Refusals.{refused-as}
 pub loop-sector-init : goal.loop-sector-init
 loop-sector-init g c = record { tables = refl; kept = refl; same = λ told. refl; words = λ told. c.requires }
 
-pub returns-then-words-count-clause-ok : goal.returns-then-words-count-clause-ok
-returns-then-words-count-clause-ok g c told =
+pub returns-then-len-count-clause-ok : goal.returns-then-len-count-clause-ok
+returns-then-len-count-clause-ok g c told =
     let a = c.args.allocator.now in
     let l = c.loop-sector in
     first-enough a.tables.version a.file.bytes c.args.sectors.now l.sector-index c.args.count l.words.items (l.invariant.words told)
-    (omega (arith, c.if-words-count.true, l.words.ok.0))
+    (omega (arith, c.if-len-count.true, l.words.ok.0))
 
 pub loop-sector-preserved : goal.loop-sector-preserved
 loop-sector-preserved g c =

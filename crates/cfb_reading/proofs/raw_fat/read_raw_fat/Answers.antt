@@ -29,4 +29,4 @@ returns-clause-ok g c told =
     let list : c.deref.result.now ≡ a.tables.fat_sectors =
     c.deref.ensures.value ∙ c.in_ok-extend_from_slice.ensures.items ∙ ap (λ (l : List ℕ). l ++ c.fat_sectors.result.now) c.new-sectors.ensures.items ∙ c.fat_sectors.ensures in
     c.truncate.ensures.items ∙ c.in_ok-read_first.ensures.ok told
-    ∙ (λ j. take (length (c.fat.ensures j)) (fat_words a.tables.version a.file.bytes (list j)))
+    ∙ (λ j. take (length (c.fat-count.ensures j)) (fat_words a.tables.version a.file.bytes (list j)))
