@@ -11,7 +11,7 @@ ghost use Rattle.cfb_content.specs.Contents.{TellsPlaces, len_of};
 ghost use Rattle.cfb_content.specs.Parts.{HasFirst};
 
 use cfb_content::in_minis::{fill_from_minis, there_in_minis};
-use cfb_content::in_sectors::{cut_short, fill_from_sectors, there_in_sectors};
+use cfb_content::in_sectors::{cut_short, fill_from_sectors, there_in_chain};
 use cfb_content::listed::content_in;
 use cfb_content::{Allocator, MiniAllocator};
 use cfb_format::consts::MINI_STREAM_CUTOFF;
@@ -51,7 +51,7 @@ fn there_along<F: ReadMedium, A: Heap + Clone>(
     ensures err { IfErr result IsMemory }
 {
     match allocator.chain(start) {
-        Ok(ids) => Ok(there_in_sectors(allocator, &ids, len)),
+        Ok(ids) => Ok(there_in_chain(allocator, &ids, len)),
         Err(Error::Memory) => Err(Error::Memory),
         Err(_) => Ok(0),
     }
@@ -106,7 +106,7 @@ fn read_along<F: ReadMedium, A: Heap + Clone>(
         allocator.old.file.failures allocator.new.file.failures }
 {
     let ids = allocator.open_chain(start)?;
-    let there = there_in_sectors(allocator, &ids, len);
+    let there = there_in_chain(allocator, &ids, len);
     if at >= there {
         return Err(cut_short(len, there));
     }

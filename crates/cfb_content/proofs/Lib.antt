@@ -34,6 +34,7 @@ pub mod RoomGiven
 pub mod Fullness
 pub mod StreamEntry
 mod KnownSectors
+mod LastSector
 pub mod PlacedOnce
 pub mod WholeStreams
 pub mod PlacedWrites

@@ -2,7 +2,7 @@
 ghost use Rattle.std.specs.Prelude.{◌≡◌, ℕ, ◌+◌, ◌-◌, ◌*◌, ◌/◌, ◌^◌, ◌<◌, ◌≤◌, ◌⊎◌, List, length, max, min, take, drop, replicate, false, true, nat_eq, slice_index, IsTrue, IfOk, IfErr, OnOk, OnErr};
 ghost use Rattle.std.specs.List.{IsDistinct};
 ghost use Rattle.cfb_format.specs.declared.validate.Validation.{Validation};
-ghost use Rattle.cfb_format.specs.Bytes.{sector_len, sector_start};
+ghost use Rattle.cfb_format.specs.Bytes.{max_regular_sector, sector_len, sector_start};
 ghost use Rattle.cfb_format.specs.Chain.{IsChain};
 ghost use Rattle.cfb_format.specs.Medium.{ChangesOnlyBytes, part, written};
 ghost use Rattle.cfb_format.specs.Refused.{AfterMedium, CountsFailure, IsInvalidData};
@@ -17,6 +17,7 @@ ghost use Rattle.cfb_chains.specs.ChainPlaces.{place_along};
 ghost use Rattle.cfb_mini.specs.MiniSectors.{IsOfWholeSectors};
 ghost use Rattle.cfb_content.specs.Parts.{AreZerosAlong, ChangesOnlyPlaces, HasFirst, IsThereInSectors, IsWholeChain, StandAlong, StaysAlong};
 
+use cfb_format::consts::MAX_REGULAR_SECTOR;
 use cfb_format::error::{Detail, Error};
 use cfb_format::medium::{Medium, ReadMedium};
 use cfb_runs::reading::read_along;
@@ -78,6 +79,47 @@ fn counted_in_sectors<F: ReadMedium, A: Heap>(
         }
     }
     there.min(len)
+}
+
+/// How many of the first `len` bytes of the sectors of a chain the file has, up to the first that it has not. Where each sector that another
+/// one comes after is whole, only the chain's last is looked at.
+pub fn there_in_chain<F: ReadMedium, A: Heap>(
+    allocator: &Allocator<F, A>,
+    ids: &[u32],
+    len: u64,
+) -> u64
+    requires chain { (start : ℕ) × IsChain allocator.now.tables.fat start ids.now }
+    ensures { HasFirst
+        (IsThereInSectors allocator.now.tables.version ids.now allocator.now.file.len) len result }
+{
+    if !goes_on_in_whole(allocator) {
+        return there_in_sectors(allocator, ids, len);
+    }
+    if ids.is_empty() {
+        return 0;
+    }
+    let before = ids.len() - 1;
+    let sector_len = allocator.sector_len() as u64;
+    let start = (ids[before] as u64 + 1) * sector_len;
+    let has = allocator.file_len().saturating_sub(start).min(sector_len);
+    let there = (before as u64)
+        .saturating_mul(sector_len)
+        .saturating_add(has);
+    there.min(len)
+}
+
+/// Whether the file has all of each sector that another one comes after in its chain. It looks at the last word of the FAT alone.
+fn goes_on_in_whole<F: ReadMedium, A: Heap>(allocator: &Allocator<F, A>) -> bool
+    ensures { IsTrue result → (i : ℕ) → i < length allocator.now.tables.fat
+        → slice_index allocator.now.tables.fat i ≤ max_regular_sector
+        → (i + 2) * sector_len allocator.now.tables.version ≤ allocator.now.file.len }
+{
+    let fat = allocator.fat();
+    // The header is as long as a sector.
+    let whole = allocator.file_len() / allocator.sector_len() as u64;
+    let sectors = fat.len();
+    let ends = sectors == 0 || fat[sectors - 1] > MAX_REGULAR_SECTOR;
+    (sectors as u64) < whole || (sectors as u64 == whole && ends)
 }
 
 /// Reads the bytes of these sectors from byte `at` on, as many as `into` has room for, all of which the file has.

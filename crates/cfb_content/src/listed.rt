@@ -8,7 +8,7 @@ ghost use Rattle.cfb_content.specs.Contents.{len_of};
 ghost use Rattle.cfb_content.specs.Parts.{IsWholeChain, IsWholeMiniChain};
 
 use crate::in_minis::there_in_minis;
-use crate::in_sectors::{cut_short, there_in_sectors};
+use crate::in_sectors::{cut_short, there_in_chain};
 use cfb_format::error::Error;
 use cfb_format::medium::ReadMedium;
 use cfb_mini::mini_allocator::MiniAllocator;
@@ -40,7 +40,7 @@ pub fn whole_chain<F: ReadMedium, A: Heap + Clone>(
         allocator.now.file.len start len list → ⊥) Unit ⊥ ⊥) }
 {
     let ids = allocator.chain(start)?;
-    let there = there_in_sectors(allocator, &ids, len);
+    let there = there_in_chain(allocator, &ids, len);
     if there < len {
         return Err(cut_short(len, there));
     }
@@ -65,7 +65,7 @@ pub fn whole_chain_len<F: ReadMedium, A: Heap + Clone>(
         let ids = whole_chain(allocator, start, len)?;
         return Ok(ids.len());
     };
-    let there = there_in_sectors(allocator, ids, len);
+    let there = there_in_chain(allocator, ids, len);
     if there < len {
         return Err(cut_short(len, there));
     }
@@ -87,7 +87,7 @@ pub fn open_whole_chain<F: ReadMedium, A: Heap + Clone>(
         allocator.old.file.len start len list → ⊥) Unit ⊥ ⊥) }
 {
     let ids = allocator.open_chain(start)?;
-    let there = there_in_sectors(allocator, &ids, len);
+    let there = there_in_chain(allocator, &ids, len);
     if there < len {
         return Err(cut_short(len, there));
     }
@@ -109,7 +109,7 @@ pub fn open_whole_chain_in<F: ReadMedium, A: Heap>(
         allocator.old.file.len start len list → ⊥) Unit ⊥ ⊥) }
 {
     let ids = allocator.open_chain_in(list, start)?;
-    let there = there_in_sectors(allocator, &ids, len);
+    let there = there_in_chain(allocator, &ids, len);
     if there < len {
         return Err(cut_short(len, there));
     }

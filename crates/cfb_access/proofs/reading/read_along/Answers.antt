@@ -1,30 +1,28 @@
 use Rattle.std.proofs.Common.{List, ℕ, sym, subst, arith}
-use Rattle.std.specs.Prelude.{slice_index}
-use Rattle.std.proofs.lemmas.List.Elements.{Contains-get_or}
 use Rattle.cfb_format.specs.Chain.{IsChain}
 use Rattle.cfb_access.specs.cfb_alloc.Alloc.{AllocatorState}
 use Rattle.cfb_access.proofs.cfb_mini_sectors.MiniStreams.{begins}
 use Rattle.cfb_content.specs.Along.{IsCutBy, IsThereAlong}
-use Rattle.cfb_access.proofs.cfb_tables.ChainLemmas.{members-busy}
 use Rattle.cfb_content.proofs.ReadablePlaces.{first-along}
 use Rattle.cfb_access.proofs.reading.read_along.Goals as goal
 use Rattle.cfb_access.proofs.cfb_mini_changes.MiniExtended.{invalid-refused}
 
-pub there_in_sectors-there-requires : goal.there_in_sectors-there-requires
-there_in_sectors-there-requires g c =
+pub there_in_chain-there-requires : goal.there_in_chain-there-requires
+there_in_chain-there-requires g c =
     let ids = c.in_ok-ids.ids.items in
     let fat = c.open_chain.new.self.tables.fat in
-    let slice = c.deref.result.now in
-    let own = subst (λ (l : List ℕ). IsChain fat c.args.start l) (sym c.deref.ensures.value)
-    (subst (λ (a : AllocatorState). IsChain a.tables.fat c.args.start ids) (sym c.open_chain.ensures.unchanged) c.in_ok-ids.ensures.ok) in
     record {
-      known = λ i lt. (members-busy fat c.args.start slice own (slice_index slice i) (Contains-get_or slice i 0 lt)).1;
+      chain = (
+        c.args.start,
+        subst (λ (l : List ℕ). IsChain fat c.args.start l) (sym c.deref.ensures.value)
+            (subst (λ (a : AllocatorState). IsChain a.tables.fat c.args.start ids) (sym c.open_chain.ensures.unchanged) c.in_ok-ids.ensures.ok),
+      );
     }
 
 pub returns-then-at-there-clause-err : goal.returns-then-at-there-clause-err
 returns-then-at-there-clause-err g c =
     let a = c.open_chain.new.self in
-    let there = c.there_in_sectors-there.result in
+    let there = c.there_in_chain-there.result in
     let past = c.if-at-there.true in
     let some = c.requires.some in
     let inside = c.requires.inside in
@@ -34,7 +32,7 @@ returns-then-at-there-clause-err g c =
     (subst (λ (b : AllocatorState). IsCutBy (IsThereAlong b c.args.start) c.args.at) c.open_chain.ensures.unchanged (
       there,
       omega (arith, past),
-      (first-along a c.args.start c.deref.result.now c.args.len there chain c.there_in_sectors-there.ensures).cut (omega (arith, past, some, inside)),
+      (first-along a c.args.start c.deref.result.now c.args.len there chain c.there_in_chain-there.ensures).cut (omega (arith, past, some, inside)),
     ))
 
 pub end_chain-requires : goal.end_chain-requires

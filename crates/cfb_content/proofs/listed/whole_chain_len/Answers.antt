@@ -1,13 +1,11 @@
-use Rattle.std.proofs.Common.{ℕ, List, refl, subst}
+use Rattle.std.proofs.Common.{ℕ, List, subst}
 use Rattle.cfb_format.proofs.Unique.{IsChain-unique}
 use Rattle.cfb_content.specs.Parts.{IsThereInSectors}
-use Rattle.cfb_content.proofs.KnownSectors.{chain-is-known}
 use Rattle.cfb_content.proofs.listed.whole_chain_len.Goals as goal
 use Rattle.cfb_content.proofs.cfb_mini_changes.MiniExtended.{invalid-refused}
 
-pub there_in_sectors-there-requires : goal.there_in_sectors-there-requires
-there_in_sectors-there-requires g c =
-    record { known = chain-is-known c.args.allocator.now.tables.fat c.args.start c.in-Some.ids.now c.in-Some.ids.now c.in-Some.ensures refl }
+pub there_in_chain-there-requires : goal.there_in_chain-there-requires
+there_in_chain-there-requires g c = record { chain = (c.args.start, c.in-Some.ensures) }
 
 pub returns-then-there-len-clause-err : goal.returns-then-there-len-clause-err
 returns-then-there-len-clause-err g c =
@@ -15,6 +13,6 @@ returns-then-there-len-clause-err g c =
     let ids = c.in-Some.ids.now in
     let less = c.if-there-len.true in
     invalid-refused _ _ _ _ c.cut_short.result c.cut_short.ensures
-    (λ list whole. c.there_in_sectors-there.ensures.cut less
-    (subst (λ (l : List ℕ). IsThereInSectors a.tables.version l a.file.len c.there_in_sectors-there.result)
-    (IsChain-unique a.tables.fat c.args.start list ids whole.chain c.in-Some.ensures) (whole.there c.there_in_sectors-there.result less)))
+    (λ list whole. c.there_in_chain-there.ensures.cut less
+    (subst (λ (l : List ℕ). IsThereInSectors a.tables.version l a.file.len c.there_in_chain-there.result)
+    (IsChain-unique a.tables.fat c.args.start list ids whole.chain c.in-Some.ensures) (whole.there c.there_in_chain-there.result less)))
