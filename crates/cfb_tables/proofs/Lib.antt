@@ -4,6 +4,7 @@ pub mod WalkLemmas
 pub mod RefusedLemmas
 pub mod SizeLemmas
 pub mod FreeLemmas
+pub mod SpareLemmas
 pub mod KeptLemmas
 pub mod TableCounts
 pub mod TakenLemmas

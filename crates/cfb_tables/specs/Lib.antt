@@ -8,3 +8,4 @@ pub mod Room
 pub mod Listed
 pub mod ReadWords
 pub mod Consecutive
+pub mod Spares

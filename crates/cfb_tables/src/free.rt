@@ -9,6 +9,24 @@ use cfb_format::consts::FREE_SECTOR;
 use cfb_format::error::Error;
 use std::alloc::Allocator;
 
+/// The numbers below `end` that are free, in order, in a list that has room for all numbers. `Memory`.
+pub fn free_below<A: Allocator>(alloc: A, table: &[u32], end: usize) -> Result<Vec<u32, A>, Error>
+    requires short { length table.now ≤ max_regular_sector }
+    requires within { end ≤ length table.now }
+    ensures ok { IfOk result (λ free. ListsFree end free.items table.now) }
+    ensures next { IfOk result (λ free. TakesLastFirst end free.items table.now) }
+    ensures room { IfOk result (λ free. length table.now ≤ vec_capacity free) }
+    ensures err { IfErr result (TableRefused ⊥ Unit ⊥) }
+{
+    let mut free = Vec::with_capacity(alloc, table.len())?;
+    for number in 0..end {
+        if table[number] == FREE_SECTOR {
+            free.push_reserved(number as u32);
+        }
+    }
+    Ok(free)
+}
+
 /// The numbers that are free, in order, in a list that has room for all numbers. `Memory`.
 pub fn free_numbers<A: Allocator>(alloc: A, table: &[u32]) -> Result<Vec<u32, A>, Error>
     requires short { length table.now ≤ max_regular_sector }
@@ -18,11 +36,6 @@ pub fn free_numbers<A: Allocator>(alloc: A, table: &[u32]) -> Result<Vec<u32, A>
     ensures room { IfOk result (λ free. length table.now ≤ vec_capacity free) }
     ensures err { IfErr result (TableRefused ⊥ Unit ⊥) }
 {
-    let mut free = Vec::with_capacity(alloc, table.len())?;
-    for number in 0..table.len() {
-        if table[number] == FREE_SECTOR {
-            free.push_reserved(number as u32);
-        }
-    }
+    let free = free_below(alloc, table, table.len())?;
     Ok(free)
 }

@@ -7,5 +7,6 @@ pub mod fat;
 pub mod free;
 pub mod laws;
 mod lists;
+mod spare;
 pub mod tables;
 pub mod walk;

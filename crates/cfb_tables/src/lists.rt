@@ -12,7 +12,7 @@ ghost use Rattle.cfb_tables.specs.Listed.{EndsChain, ends_of, gained};
 ghost use Rattle.cfb_tables.specs.Refused.{TableRefused, WalkRefused, LastRefused, NextRefused, ExtendRefused};
 
 use crate::ends::last_number;
-use crate::free::free_numbers;
+use crate::spare::Spare;
 use crate::walk::{last_of, next_in, walk};
 use cfb_format::consts::{
     DIFAT_SECTOR, END_OF_CHAIN, FAT_SECTOR, FREE_SECTOR, MAX_REGULAR_SECTOR,
@@ -215,7 +215,7 @@ pub struct Lists<A: Allocator = Global> {
     fat: Vec<u32, A>,
     fat_sectors: Vec<u32, A>,
     difat_sectors: Vec<u32, A>,
-    free: Vec<u32, A>,
+    free: Spare<A>,
 }
 
 impl<A: Allocator> Model for Lists<A> {
@@ -231,7 +231,7 @@ impl<A: Allocator> Model for Lists<A> {
       fat_capacity = vec_capacity l.fat;
       fats_capacity = vec_capacity l.fat_sectors;
       difats_capacity = vec_capacity l.difat_sectors;
-      free_capacity = vec_capacity l.free;
+      free_capacity = l.free.capacity;
     } };
 
     ghost invariant = { λ l. IsHeld (record {
@@ -241,7 +241,7 @@ impl<A: Allocator> Model for Lists<A> {
       fat_capacity = vec_capacity l.fat;
       fats_capacity = vec_capacity l.fat_sectors;
       difats_capacity = vec_capacity l.difat_sectors;
-      free_capacity = vec_capacity l.free;
+      free_capacity = l.free.capacity;
     }) };
 }
 
@@ -263,7 +263,7 @@ impl<A: Allocator> Lists<A> {
             version max_regular_sector fat.items fat_sectors.items difat_sectors.items) }
         ensures err { IfErr result (TableRefused ⊥ Unit ⊥) }
     {
-        let free = free_numbers(alloc, &fat)?;
+        let free = Spare::new(alloc, &fat)?;
         Ok(Lists {
             version,
             max_sectors: MAX_REGULAR_SECTOR,
@@ -303,8 +303,7 @@ impl<A: Allocator> Lists<A> {
             .reserve(sizes.fats.saturating_sub(self.fat_sectors.len()))?;
         self.difat_sectors
             .reserve(sizes.difats.saturating_sub(self.difat_sectors.len()))?;
-        self.free
-            .reserve(sizes.sectors.saturating_sub(self.free.len()))?;
+        self.free.hold(sizes.sectors)?;
         Ok(())
     }
 

@@ -1,62 +1,8 @@
-use Rattle.std.proofs.Common.{◌≡◌, ◌≢◌, ℕ, length, sym, ◌∙◌, subst, arith}
-use Rattle.cfb_format.specs.Bytes.{free_sector}
-use Rattle.cfb_format.specs.Chain.{value}
-use Rattle.cfb_tables.specs.Changes.{ListsFree, TakesLastFirst}
-use Rattle.cfb_tables.proofs.FreeLemmas.{lists-none, lists-more, lists-skip, lists-count, next-none, next-more, next-skip}
+use Rattle.std.proofs.Common.{arith}
+use Rattle.cfb_tables.proofs.FreeLemmas.{lists-count}
 use Rattle.cfb_tables.proofs.free.free_numbers.Goals as goal
-use Rattle.cfb_tables.proofs.free.free_numbers.Goals.{then-table-number, else-table-number}
-use Rattle.cfb_format.proofs.Walks.{value-at}
-
-pub loop-number-init : goal.loop-number-init
-loop-number-init g c = record {
-  listed = rw c.in_ok-free.ensures.items (lists-none c.args.table.now);
-  next = next-none c.in_ok-free.free.items c.args.table.now;
-  few = omega (arith, c.in_ok-free.ensures.len);
-  room = c.in_ok-free.ensures.capacity;
-}
-
-pub loop-number-preserved : goal.loop-number-preserved
-loop-number-preserved g c =
-    let table = c.args.table.now in
-    let l = c.loop-number in
-    let few = l.invariant.few in
-    let room = l.invariant.room in
-    elim c.if-table-number.branch [
-      | then-table-number w ↦
-          let is : value table l.number ≡ free_sector = value-at table l.number c.loop-number-test.true ∙ w.if-table-number.true in
-          record {
-            listed = rw (w.free-is, w.push_reserved.ensures.items) (lists-more l.number l.free.items table is l.invariant.listed);
-            next = rw (w.free-is, w.push_reserved.ensures.items) (next-more l.number l.free.items table);
-            few = rw w.free-is (omega (arith, few, w.push_reserved.ensures.len));
-            room = rw w.free-is (omega (arith, room, w.push_reserved.ensures.capacity));
-          }
-      | else-table-number w ↦
-          let ne : value table l.number ≢ free_sector = λ e. w.if-table-number.false (sym (value-at table l.number c.loop-number-test.true) ∙ e) in
-          record {
-            listed = rw w.free-is (lists-skip l.number l.free.items table ne l.invariant.listed);
-            next = rw w.free-is (next-skip l.number l.free.items table ne);
-            few = rw w.free-is (omega (arith, few));
-            room = rw w.free-is room;
-          }
-    ]
-
-pub returns-clause-ok : goal.returns-clause-ok
-returns-clause-ok g c =
-    let l = c.loop-number in
-    let end : l.number ≡ length c.args.table.now = omega arith in
-    subst (λ (n : ℕ). ListsFree n l.free.items c.args.table.now) end l.invariant.listed
 
 pub returns-clause-counted : goal.returns-clause-counted
 returns-clause-counted g c =
-    let table = c.args.table.now in
-    let l = c.loop-number in
-    let end : l.number ≡ length table = omega arith in
-    let count = lists-count l.free.items table (subst (λ n. ListsFree n l.free.items table) end l.invariant.listed) in
-    omega (arith, count, l.free.ok.0)
-
-pub returns-clause-next : goal.returns-clause-next
-returns-clause-next g c =
-    let table = c.args.table.now in
-    let l = c.loop-number in
-    let end : l.number ≡ length table = omega arith in
-    subst (λ n. TakesLastFirst n l.free.items table) end l.invariant.next
+    let count = lists-count c.in_ok-free.free.items c.args.table.now c.in_ok-free.ensures.ok in
+    omega (arith, count, c.in_ok-free.free.ok.0)

@@ -6,4 +6,4 @@ pub returns-clause-free : goal.returns-clause-free
 returns-clause-free g c =
     let s = c.self.inside in
     let count = lists-count s.free.items s.fat.items c.self.invariant.kept.listed in
-    rw (← c.self.view_is) (omega (arith, count, s.free.ok.0))
+    rw (← c.self.view_is) (omega (arith, count, c.len.ensures))

@@ -14,7 +14,7 @@ push_reserved-requires g c =
     let busy : value s.fat.items c.args.sector ≢ free_sector = rw (← c.self.view_is) at c.requires.busy in
     let fewer = fewer-free t s.free.items c.args.sector c.self.invariant.kept busy in
     let room = c.self.invariant.room in
-    omega (arith, fewer, room, s.free.ok.0)
+    omega (arith, fewer, room)
 
 pub invariant_of-self : goal.invariant_of-self
 invariant_of-self g c =

@@ -1,7 +1,7 @@
-use Rattle.std.proofs.Common.{◌≡◌, [], ◌++◌, length, ◌∙◌, ap, arith, append-nil, length-set, length-append}
+use Rattle.std.proofs.Common.{◌≡◌, [], ◌++◌, length, sym, ◌∙◌, ap, arith, length-set, length-append}
 use Rattle.cfb_format.specs.Bytes.{end_of_chain}
-use Rattle.std.proofs.lemmas.List.{nil_from_length}
 use Rattle.std.proofs.lemmas.List.Elements.{Contains-push}
+use Rattle.cfb_tables.specs.Spares.{SpareNumbers}
 use Rattle.cfb_tables.specs.Tables.{tables_of, sizes_of, numbers_needed, grown, grown_fats, grown_difats, IsKept}
 use Rattle.cfb_tables.proofs.KeptLemmas.{kept-pop, kept-grown, grown-length}
 use Rattle.cfb_tables.proofs.lists.Lists.take_prepared.Goals as goal
@@ -34,8 +34,8 @@ invariant_of-self-3 g c =
     c.grow.ensures.fat_sectors ∙ (λ i. s.fat_sectors.items ++ grown_fats (m i) (s.fat.ok.0 i)) in
     let difats : c.grow.new.difat_sectors.items ≡ s.difat_sectors.items ++ grown_difats (numbers_needed s.version (sizes_of t)) (length s.fat.items) =
     c.grow.ensures.difat_sectors ∙ (λ i. s.difat_sectors.items ++ grown_difats (m i) (s.fat.ok.0 i)) in
-    let rest : s.free.items ≡ c.pop.new.self.items = c.in_default.ensures.items ∙ append-nil c.pop.new.self.items in
-    let none : s.free.items ≡ [] = nil_from_length s.free.items (omega (arith, c.in_default.ensures.cases, s.free.ok.0)) in
+    let rest : s.free.items ≡ c.pop.new.self.items = ap (λ (x : SpareNumbers). x.items) (sym c.in_default.ensures.unchanged) in
+    let none : s.free.items ≡ [] = c.in_default.ensures.none in
     let short = rw (← c.self.view_is) at c.requires.short in
     let inv : IsKept t c.pop.new.self.items = rw rest at c.self.invariant.kept in
     let held = ((rw (← c.self.view_is) at c.requires.held) none).free in

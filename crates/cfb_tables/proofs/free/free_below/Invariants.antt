@@ -1,6 +1,6 @@
 use Rattle.std.proofs.Common.{◌≤◌, length, vec_len, vec_capacity}
 use Rattle.cfb_tables.specs.Changes.{ListsFree, TakesLastFirst}
-use Rattle.cfb_tables.proofs.free.free_numbers.Given as goal
+use Rattle.cfb_tables.proofs.free.free_below.Given as goal
 
 abbrev pub invariant-loop-number : goal.invariant-loop-number
 invariant-loop-number g l = record {
