@@ -3,3 +3,8 @@ pub mod Fields
 pub mod TreeLines
 pub mod TreeShown
 pub mod TreeWalks
+pub mod Along
+pub mod Trails
+pub mod Pieces
+pub mod LineTexts
+pub mod Walked

@@ -7,7 +7,7 @@ use Rattle.cfb_rules.specs.Calls.{EntryInfo}
 use Rattle.cfb_text.specs.Shown.{shown}
 use Rattle.cfb_shown.specs.Rows.{bits_text, clsid_text, kind_text, row_text, tab}
 
-abbrev fields_with : List ℕ → ℕ → List ℕ → ℕ → ℕ → ℕ → List ℕ
+abbrev pub fields_with : List ℕ → ℕ → List ℕ → ℕ → ℕ → ℕ → List ℕ
 fields_with kind len clsid bits created modified = kind ++ (tab ++ (decimal len ++ (tab ++ (clsid_text clsid ++ (tab ++ (bits_text bits ++ (tab
     ++ (moment_text created ++ (tab ++ (moment_text modified ++ tab))))))))))
 

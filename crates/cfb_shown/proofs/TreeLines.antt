@@ -17,14 +17,14 @@ use Rattle.cfb_walks.specs.Walks.{is_empty, lies_at, walked_from}
 use Rattle.cfb_shown.specs.Trees.{at_most_said, bytes_along, bytes_in, counts_text, entry_text, is_nothing, lead, len_said, lines_along, storage_text, storages_along, storages_in, stream_count, stream_text, streams_along, streams_in, text_for, tree_lines}
 
 -- fewer of the first
-take-within : {X : Type 0} (n m : ℕ) (xs : List X) → n ≤ m → take n (take m xs) ≡ take n xs
+pub take-within : {X : Type 0} (n m : ℕ) (xs : List X) → n ≤ m → take n (take m xs) ≡ take n xs
 take-within zero m xs l = refl
 take-within (suc n) zero xs l = absurd (omega (arith, l))
 take-within (suc n) (suc m) [] l = refl
 take-within (suc n) (suc m) (x ∷ xs) l = ap (λ ys. x ∷ ys) (take-within n m xs (omega (arith, l)))
 
 -- those above one that lies below so many
-above-own : (d : ℕ) (above : List Bool) (own : Bool) → length above ≡ d → take d (above ++ own ∷ []) ≡ above
+pub above-own : {X : Type 0} (d : ℕ) (above : List X) (own : X) → length above ≡ d → take d (above ++ own ∷ []) ≡ above
 above-own d above own len = ap (λ (n : ℕ). take n (above ++ own ∷ [])) (sym len) ∙ take-append_seam above (own ∷ [])
 
 module _ (es : List Entry) (content : Entry → List ℕ) where
@@ -166,18 +166,6 @@ pub next-of : {X : Type 0} (xs : List X) (i : ℕ) (d : X) → i < length xs →
 next-of xs i d less = let next : suc i ≡ i + 1 = omega arith in drop-cons xs i d less ∙ ap (λ (n : ℕ). get_or xs i d ∷ drop n xs) next
 
 module _ (es : List Entry) where
-  pub lines-step : (old cells new : List ℕ) (flags above next : List Bool) (w : Walked) (e : Entry) (rest list : List Walked) → list ≡ w ∷ rest → above ≡ take w.depth flags
-      → cells ≡ old ++ lead above w.is_last → new ≡ cells ++ entry_text e → e ≡ entry_at es w.entry → next ≡ above ++ w.is_last ∷ []
-      → new ++ lines_along es next rest ≡ old ++ lines_along es flags list
-  lines-step old cells new flags above next w e rest list is cut celled made at pushed =
-      ap (λ (xs : List ℕ). xs ++ lines_along es next rest) (made ∙ ap (λ (xs : List ℕ). xs ++ entry_text e) celled)
-      ∙ append_assoc (old ++ lead above w.is_last) (entry_text e) (lines_along es next rest)
-      ∙ append_assoc old (lead above w.is_last) (entry_text e ++ lines_along es next rest)
-      ∙ ap (λ (fs : List Bool). old ++ (lead above w.is_last ++ (entry_text e ++ lines_along es fs rest))) pushed
-      ∙ ap (λ (fs : List Bool). old ++ (lead fs w.is_last ++ (entry_text e ++ lines_along es (fs ++ w.is_last ∷ []) rest))) cut
-      ∙ ap (λ (x : Entry). old ++ (lead (take w.depth flags) w.is_last ++ (entry_text x ++ lines_along es (take w.depth flags ++ w.is_last ∷ []) rest))) at
-      ∙ ap (λ (ws : List Walked). old ++ lines_along es flags ws) (sym is)
-
   pub streams-within : (list : List Walked) → streams_along es list ≤ length list
   streams-within [] = omega arith
   streams-within (w ∷ list) = let n = streams-within list in let o = one (is_stream_kind (entry_at es w.entry).obj_type) in omega (arith, n, o)
@@ -229,3 +217,17 @@ capped-is-small sum said is = omega (arith, is)
 -- all were counted
 pub all-counted : (bytes rest all : ℕ) → bytes ≤ 2 ^ 64 - 1 → rest ≡ 0 → at_most_said (bytes + rest) ≡ at_most_said all → bytes ≡ at_most_said all
 all-counted bytes rest all most none same = omega (arith, most, none, same)
+
+-- ---- one line
+
+module _ (es : List Entry) where
+  pub lines-step : (text : List ℕ) (flags above next : List Bool) (w : Walked) (e : Entry) (rest list : List Walked) → list ≡ w ∷ rest → above ≡ take w.depth flags
+      → e ≡ entry_at es w.entry → next ≡ above ++ w.is_last ∷ []
+      → (text ++ (lead above w.is_last ++ entry_text e)) ++ lines_along es next rest ≡ text ++ lines_along es flags list
+  lines-step text flags above next w e rest list is cut at pushed =
+      append_assoc text (lead above w.is_last ++ entry_text e) (lines_along es next rest)
+      ∙ ap (λ (xs : List ℕ). text ++ xs) (append_assoc (lead above w.is_last) (entry_text e) (lines_along es next rest))
+      ∙ ap (λ (fs : List Bool). text ++ (lead above w.is_last ++ (entry_text e ++ lines_along es fs rest))) pushed
+      ∙ ap (λ (fs : List Bool). text ++ (lead fs w.is_last ++ (entry_text e ++ lines_along es (fs ++ w.is_last ∷ []) rest))) cut
+      ∙ ap (λ (x : Entry). text ++ (lead (take w.depth flags) w.is_last ++ (entry_text x ++ lines_along es (take w.depth flags ++ w.is_last ∷ []) rest))) at
+      ∙ ap (λ (ws : List Walked). text ++ lines_along es flags ws) (sym is)

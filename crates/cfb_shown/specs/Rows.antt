@@ -5,13 +5,17 @@ use Rattle.std.specs.Str.{encode_utf8_all}
 use Rattle.uuid.specs.Text.{hyphenated_text, lower}
 use Rattle.uuid.specs.Parts.{is_nil_bytes}
 use Rattle.cfb_dates.specs.Moments.{moment_text}
+use Rattle.cfb_format.specs.declared.objtype.ObjType.{ObjType}
 use Rattle.cfb_text.specs.Shown.{shown}
 use Rattle.cfb_rules.specs.Calls.{EntryInfo}
 use Rattle.cfb_shown.specs.cfb_outline.Families.{is_stream_kind}
 
 -- `f` for a stream, `d` for a storage
+abbrev pub kind_as_text : ObjType → List ℕ
+kind_as_text kind = if is_stream_kind kind then codes "f" else codes "d"
+
 abbrev pub kind_text : EntryInfo → List ℕ
-kind_text info = if is_stream_kind info.obj_type then codes "f" else codes "d"
+kind_text info = kind_as_text info.obj_type
 
 -- a byte as two digits to the base 16
 abbrev pub byte_digits : ℕ → List ℕ

@@ -2,7 +2,7 @@
 ghost use Rattle.std.specs.Prelude.{◌≡◌, IfOk, string_bytes};
 ghost use Rattle.cfb_dates.specs.Moments.{moment_text};
 
-use crate::rows::moment_of;
+use crate::entry_fields::moment_of;
 use cfb_codecs::timestamp::Timestamp;
 use std::alloc::{AllocError, Allocator as Heap};
 

@@ -12,10 +12,10 @@ loop-walked-preserved g c =
     let at = c.loop-walked.walked-index in
     let none : Walked = record { entry = 0; depth = 0; is_last = false } in
     record {
-      counts = bytes-step (entries_of c.args.entries.now) c.loop-walked.bytes c.len_of-len.result c.saturating_add-bytes.result _ (get_or list at none) (drop (at + 1) list) (drop at list)
-          (next-of list at none c.loop-walked-test.true) c.saturating_add-bytes.ensures c.len_of-len.ensures c.entry_in.ensures
+      counts = bytes-step (entries_of c.args.entries.now) c.loop-walked.bytes c.said_len-len.result c.saturating_add-bytes.result _ (get_or list at none) (drop (at + 1) list) (drop at list)
+          (next-of list at none c.loop-walked-test.true) c.saturating_add-bytes.ensures c.said_len-len.ensures c.entry_in.ensures
           ∙ c.loop-walked.invariant.counts;
-      most = capped-is-small (c.loop-walked.bytes + c.len_of-len.result) c.saturating_add-bytes.result c.saturating_add-bytes.ensures;
+      most = capped-is-small (c.loop-walked.bytes + c.said_len-len.result) c.saturating_add-bytes.result c.saturating_add-bytes.ensures;
     }
 
 pub returns : goal.returns

@@ -1,7 +1,0 @@
-use Rattle.std.proofs.Common.{chars, refl}
-use Rattle.cfb_rules.specs.Calls.{walk_storage}
-use Rattle.cfb_tool.proofs.cfb_compound_file.Numbers.{memory-refused}
-use Rattle.cfb_tool.proofs.listing.shown_listing_at.Goals as goal
-
-pub returns-clause-refused : goal.returns-clause-refused
-returns-clause-refused g c = λ told. memory-refused c.args.file.now (walk_storage (chars c.args.path.now)) c.shown_lines_of.result refl c.shown_lines_of.ensures.kind
