@@ -2,6 +2,7 @@
 use crate::output::Output;
 use crate::shown::Shown;
 use cfb::{Error, MediumFault};
+use cfb_shown::write_error::WriteError;
 use cfb_tool::asking::Asked;
 use cfb_tool::cuts::Extent;
 use cfb_tool::word::Word;
@@ -114,6 +115,15 @@ impl Refusal {
 impl From<Error> for Refusal {
     fn from(e: Error) -> Refusal {
         Refusal::Of(e)
+    }
+}
+
+impl From<WriteError> for Refusal {
+    fn from(e: WriteError) -> Refusal {
+        match e {
+            WriteError::File(e) => Refusal::Of(e),
+            WriteError::Output(e) => Refusal::of_output(e),
+        }
     }
 }
 

@@ -2,7 +2,6 @@ pub use Rattle.cfb_commands.proofs.cfb_volume
 pub use Rattle.cfb_commands.proofs.cfb_agreement
 pub use Rattle.cfb_commands.proofs.cfb_path_changes
 pub use Rattle.cfb_commands.proofs.cfb_compound_file
-pub mod Lines
 pub mod Listed
 pub mod Treed
 pub mod Telling

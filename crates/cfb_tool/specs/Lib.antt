@@ -9,7 +9,6 @@ pub use Rattle.cfb_commands.specs.cfb_compound_file.cfb_volume
 pub mod Word
 pub mod Asking
 pub mod Listing
-pub mod Details
 pub mod Trees
 pub mod Cuts
 pub mod Playing

@@ -3,7 +3,6 @@
 
 pub mod asking;
 pub mod cuts;
-pub mod details;
 pub mod dump_error;
 pub mod dumping;
 pub mod explaining;

@@ -1,73 +1,126 @@
 //! The objects of a file as lines of text.
-ghost use Rattle.std.specs.Prelude.{◌≡◌, ◌++◌, IsTrue, IfOk, IfErr, OnOk, chars, flat_map, string_bytes};
-ghost use Rattle.cfb_format.specs.Refused.{IsMemory};
+ghost use Rattle.std.specs.Prelude.{◌⊎◌, IsTrue, IfOk, IfErr, OnOk, chars, is_some, not, string_bytes};
+ghost use Rattle.cfb_codecs.specs.EntryModel.{entry_of};
+ghost use Rattle.cfb_format.specs.Path.{names_of_path};
+ghost use Rattle.cfb_format.specs.Refused.{IsMemory, RefusesInput};
 ghost use Rattle.cfb_tool.specs.cfb_path_changes.Answers.{Answers, AnswersNot};
 ghost use Rattle.cfb_rules.specs.Calls.{entries, walk, walk_storage};
-ghost use Rattle.cfb_tool.specs.Listing.{HasLines, HasShownLines, entry_line, kind_text, shown_line};
+ghost use Rattle.cfb_shown.specs.Lines.{Writes};
+ghost use Rattle.cfb_tool.specs.Listing.{HasLines, IsNotListed, IsPathInWalk};
 
+use cfb_codecs::direntry::DirEntry;
+use cfb_codecs::path::{name_chain_from_path, path_from_name_chain};
 use cfb_commands::CompoundFile;
+use cfb_format::consts::ROOT_STREAM_ID;
 use cfb_format::error::Error;
 use cfb_format::medium::ReadMedium;
 use cfb_listing::entry::Entry;
-use cfb_text::shown::push_shown;
+use cfb_listing::listing::path_below;
+use cfb_shown::lines::{Form, write_walk};
+use cfb_shown::table::write_table;
+use cfb_shown::write_error::WriteError;
 use std::alloc::Allocator as Heap;
+use std::io::Write;
 
-/// A line for each object, in the order of `walk`. It is refused as that is; `Memory` for the lines
-/// too.
-pub fn listing<F: ReadMedium, A: Heap + Clone>(
+/// Writes a line for each object, in the order of `walk`. It writes in small pieces, and does not flush `out`. Memory follows the number
+/// of objects and how deep they lie, and not the length of the text.
+///
+/// # Errors
+///
+/// Those of `walk`, before anything is written; and where `out` refuses.
+pub fn listing<F: ReadMedium, A: Heap + Clone, W: Write>(
     alloc: &A,
     file: &CompoundFile<F, A>,
-) -> Result<String<A>, Error>
-    ensures lists { IsTrue F.tells
-        → IfOk result (λ text. HasLines file.now walk (string_bytes text)) }
-    ensures refused { IsTrue F.tells → IfErr result (AnswersNot file.now walk) }
+    form: Form,
+    out: &mut W,
+) -> Result<(), WriteError>
+    ensures lists { IsTrue F.tells → OnOk result (Writes (HasLines form file.now walk)
+        (W.contents out.old) (W.contents out.new)) }
+    ensures refused { IsTrue F.tells → IfErr result
+        (IsNotListed file.now walk (W.contents out.old) (W.contents out.new)) }
 {
-    let told = walked(alloc, file)?;
-    lines_of(alloc, told.as_slice())
+    write_walk(alloc, file.entries(), ROOT_STREAM_ID, "/", form, out)
 }
 
-/// A line for each object, in the order of `walk_storage`. It is refused as that is; `Memory` for
-/// the lines too.
-pub fn listing_at<F: ReadMedium, A: Heap + Clone>(
+/// Writes a line for each object from the one at this path on, in the order of `walk_storage`; else as `listing`.
+///
+/// # Errors
+///
+/// Those of `walk_storage`, before anything is written; and where `out` refuses.
+pub fn listing_at<F: ReadMedium, A: Heap + Clone, W: Write>(
     alloc: &A,
     file: &CompoundFile<F, A>,
     path: &str,
-) -> Result<String<A>, Error>
-    ensures lists { IsTrue F.tells → IfOk result (λ text.
-        HasLines file.now (walk_storage (chars path.now)) (string_bytes text)) }
-    ensures refused { IsTrue F.tells
-        → IfErr result (AnswersNot file.now (walk_storage (chars path.now))) }
+    form: Form,
+    out: &mut W,
+) -> Result<(), WriteError>
+    ensures lists { IsTrue F.tells
+        → OnOk result (Writes (HasLines form file.now (walk_storage (chars path.now)))
+        (W.contents out.old) (W.contents out.new)) }
+    ensures refused { IsTrue F.tells → IfErr result
+        (IsNotListed file.now (walk_storage (chars path.now)) (W.contents out.old) (W.contents out.new)) }
 {
-    let told = walked_at(alloc, file, path)?;
-    lines_of(alloc, told.as_slice())
+    let number = file.number_at(path)?;
+    let entries = file.entries();
+    let own = path_in_walk(alloc, &entries[number as usize], path)?;
+    write_walk(alloc, entries, number, own.as_str(), form, out)
 }
 
-/// The same lines as `listing`, with each path as it is shown to people.
-pub fn shown_listing<F: ReadMedium, A: Heap + Clone>(
+/// Writes a row of all fields for each object, in the order of `walk`, padded with blanks. A column is left out in which no row says
+/// anything: `-`, or no state bits. What is written is tested, and not proved.
+///
+/// # Errors
+///
+/// Those of `walk`, before anything is written; and where `out` refuses.
+pub fn table<F: ReadMedium, A: Heap + Clone, W: Write>(
     alloc: &A,
     file: &CompoundFile<F, A>,
-) -> Result<String<A>, Error>
-    ensures lists { IsTrue F.tells
-        → IfOk result (λ text. HasShownLines file.now walk (string_bytes text)) }
-    ensures refused { IsTrue F.tells → IfErr result (AnswersNot file.now walk) }
+    out: &mut W,
+) -> Result<(), WriteError>
+    ensures refused { IsTrue F.tells → IfErr result
+        (IsNotListed file.now walk (W.contents out.old) (W.contents out.new)) }
 {
-    let told = walked(alloc, file)?;
-    shown_lines_of(alloc, told.as_slice())
+    write_table(alloc, file.entries(), ROOT_STREAM_ID, "/", out)
 }
 
-/// The same lines as `listing_at`, with each path as it is shown to people.
-pub fn shown_listing_at<F: ReadMedium, A: Heap + Clone>(
+/// The same of each object from the one at this path on, in the order of `walk_storage`.
+///
+/// # Errors
+///
+/// Those of `walk_storage`, before anything is written; and where `out` refuses.
+pub fn table_at<F: ReadMedium, A: Heap + Clone, W: Write>(
     alloc: &A,
     file: &CompoundFile<F, A>,
     path: &str,
-) -> Result<String<A>, Error>
-    ensures lists { IsTrue F.tells → IfOk result (λ text.
-        HasShownLines file.now (walk_storage (chars path.now)) (string_bytes text)) }
-    ensures refused { IsTrue F.tells
-        → IfErr result (AnswersNot file.now (walk_storage (chars path.now))) }
+    out: &mut W,
+) -> Result<(), WriteError>
+    ensures refused { IsTrue F.tells → IfErr result
+        (IsNotListed file.now (walk_storage (chars path.now)) (W.contents out.old) (W.contents out.new)) }
 {
-    let told = walked_at(alloc, file, path)?;
-    shown_lines_of(alloc, told.as_slice())
+    let number = file.number_at(path)?;
+    let entries = file.entries();
+    let own = path_in_walk(alloc, &entries[number as usize], path)?;
+    write_table(alloc, entries, number, own.as_str(), out)
+}
+
+/// The path that `walk_storage` tells of the object at this path: its stored name, below the names of the parent as they were given.
+/// `InvalidInput` where the path leaves the root, `Memory`.
+fn path_in_walk<A: Heap + Clone>(
+    alloc: &A,
+    entry: &DirEntry<A>,
+    path: &str,
+) -> Result<String<A>, Error>
+    ensures ok { IfOk result (λ text.
+        IsPathInWalk (chars path.now) (entry_of entry.now).name (chars (string_bytes text))) }
+    ensures refused { IfErr result (λ e.
+        RefusesInput (not (is_some (names_of_path (chars path.now)))) e ⊎ IsMemory e) }
+{
+    let names = name_chain_from_path(alloc.clone()?, path)?;
+    let Some((_, before)) = names.split_last() else {
+        return path_from_name_chain(alloc.clone()?, &[]);
+    };
+    let parent = path_from_name_chain(alloc.clone()?, before)?;
+    path_below(alloc.clone()?, parent.as_str(), entry.name.as_str())
 }
 
 /// What `walk` tells, in order. It is refused as that is; `Memory` for the list too.
@@ -82,77 +135,4 @@ pub(crate) fn walked<F: ReadMedium, A: Heap + Clone>(
 {
     let list = file.walk()?;
     Ok(list.collect(alloc.clone()?)?)
-}
-
-/// What `walk_storage` tells, in order. It is refused as that is; `Memory` for the list too.
-pub(crate) fn walked_at<F: ReadMedium, A: Heap + Clone>(
-    alloc: &A,
-    file: &CompoundFile<F, A>,
-    path: &str,
-) -> Result<Vec<Entry<A>, A>, Error>
-    ensures told { IsTrue F.tells → IfOk result (λ list.
-        Answers file.now (walk_storage (chars path.now)) (entries list.items)) }
-    ensures refused { IsTrue F.tells
-        → IfErr result (AnswersNot file.now (walk_storage (chars path.now))) }
-{
-    let list = file.walk_storage(path)?;
-    Ok(list.collect(alloc.clone()?)?)
-}
-
-/// A line for each of these objects. `Memory`.
-fn lines_of<A: Heap + Clone>(alloc: &A, told: &[Entry<A>]) -> Result<String<A>, Error>
-    ensures lines { IfOk result (λ text. string_bytes text ≡ flat_map entry_line told.now) }
-    ensures kind { IfErr result IsMemory }
-{
-    let mut lines = String::new(alloc.clone()?);
-    for entry in told {
-        push_line(&mut lines, entry)?;
-    }
-    Ok(lines)
-}
-
-/// Appends the line of an object: `d` or `f`, its length, and its path. `Memory`.
-fn push_line<A: Heap>(lines: &mut String<A>, entry: &Entry<A>) -> Result<(), Error>
-    ensures line { OnOk result (string_bytes lines.new
-        ≡ string_bytes lines.old ++ entry_line entry.now) }
-    ensures kind { IfErr result IsMemory }
-{
-    let kind = kind_of(entry);
-    let len = entry.len();
-    let path = entry.path();
-    writeln!(lines, "{kind} {len} {path}")?;
-    Ok(())
-}
-
-/// A line for each of these objects, with the path as it is shown. `Memory`.
-fn shown_lines_of<A: Heap + Clone>(alloc: &A, told: &[Entry<A>]) -> Result<String<A>, Error>
-    ensures lines { IfOk result (λ text. string_bytes text ≡ flat_map shown_line told.now) }
-    ensures kind { IfErr result IsMemory }
-{
-    let mut lines = String::new(alloc.clone()?);
-    for entry in told {
-        push_shown_line(&mut lines, entry)?;
-    }
-    Ok(lines)
-}
-
-/// Appends the line of an object, with its path as it is shown. `Memory`.
-fn push_shown_line<A: Heap>(lines: &mut String<A>, entry: &Entry<A>) -> Result<(), Error>
-    ensures line { OnOk result (string_bytes lines.new
-        ≡ string_bytes lines.old ++ shown_line entry.now) }
-    ensures kind { IfErr result IsMemory }
-{
-    let kind = kind_of(entry);
-    let len = entry.len();
-    write!(lines, "{kind} {len} ")?;
-    push_shown(lines, entry.path())?;
-    lines.push('\n')?;
-    Ok(())
-}
-
-/// `f` for a stream, `d` for a storage.
-pub(crate) fn kind_of<A: Heap>(entry: &Entry<A>) -> &'static str
-    ensures { result.now ≡ kind_text entry.now }
-{
-    if entry.is_stream() { "f" } else { "d" }
 }

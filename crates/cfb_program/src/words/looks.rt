@@ -1,5 +1,5 @@
 //! The words that only read FILE.
-use super::details::details;
+use super::details::{details, list};
 use super::files::{opened, to_read};
 use super::pieces::PIECE;
 use super::print;
@@ -12,7 +12,6 @@ use cfb::{CompoundFile, Error, ReadMedium, ReadStream, seeded_options};
 use cfb_text::meant::meant;
 use cfb_tool::asking::Asked;
 use cfb_tool::cuts::{Extent, extent_at};
-use cfb_tool::listing::{listing, listing_at, shown_listing, shown_listing_at};
 use cfb_tool::reports::map;
 use cfb_tool::soundness::soundness_line;
 use std::alloc::Global;
@@ -88,23 +87,6 @@ fn show<F: ReadMedium, W: Output>(
         Asked::Map(_) => print_map(alloc, file, out),
         _ => Err(Refusal::WrongWords),
     }
-}
-
-/// `ls`.
-fn list<F: ReadMedium, W: Output>(
-    alloc: Global,
-    file: &CompoundFile<F>,
-    at: Option<&str>,
-    out: &mut W,
-) -> Result<(), Refusal> {
-    let is_shown = out.is_terminal();
-    let lines = match at {
-        Some(path) if is_shown => shown_listing_at(&alloc, file, path)?,
-        Some(path) => listing_at(&alloc, file, path)?,
-        None if is_shown => shown_listing(&alloc, file)?,
-        None => listing(&alloc, file)?,
-    };
-    print(lines.as_bytes(), out)
 }
 
 /// `cat`. Nothing is printed of a stream that is not whole.

@@ -1,10 +1,11 @@
 //! `tree`.
-use super::print;
+use super::pieces::PIECE;
 use crate::output::Output;
 use crate::refusal::Refusal;
 use cfb::{CompoundFile, ReadMedium};
-use cfb_tool::tree::{tree as tree_of, tree_at};
+use cfb_tool::tree::{tree as write_tree, tree_at};
 use std::alloc::Global;
+use std::io::{BufWriter, Write};
 
 /// Prints the objects as a tree, or those from the one at this path on.
 pub(super) fn tree<F: ReadMedium, W: Output>(
@@ -13,9 +14,10 @@ pub(super) fn tree<F: ReadMedium, W: Output>(
     at: Option<&str>,
     out: &mut W,
 ) -> Result<(), Refusal> {
-    let lines = match at {
-        Some(path) => tree_at(&alloc, file, path)?,
-        None => tree_of(&alloc, file)?,
-    };
-    print(lines.as_bytes(), out)
+    let mut pieces = BufWriter::with_capacity(alloc, PIECE, out).map_err(Refusal::of_output)?;
+    match at {
+        Some(path) => tree_at(&alloc, file, path, &mut pieces)?,
+        None => write_tree(&alloc, file, &mut pieces)?,
+    }
+    pieces.flush().map_err(Refusal::of_output)
 }
