@@ -1,4 +1,5 @@
-use Rattle.std.proofs.Common.{◌∙◌, ap, sym, subst}
+use Rattle.std.proofs.Common.{◌∙◌, ap, sym, subst, rules}
+use Rattle.std.proofs.lemmas.Result.{err_from_is_err_and}
 use Rattle.cfb_opening.specs.cfb_mini_sectors.State.{MiniState, cases_of, table_of, tables_in}
 use Rattle.cfb_opening.specs.Opened.{IsOpened}
 use Rattle.cfb_opening.proofs.OpenedFile.{opened}
@@ -27,3 +28,13 @@ returns-clause-limit g c = ap (λ (s : MiniState). (tables_in s).max_sectors) c.
 
 pub returns-clause-unfailed : goal.returns-clause-unfailed
 returns-clause-unfailed g c = ap (λ (s : MiniState). (table_of s).file.begun) c.set_max_sectors.ensures ∙ c.in_ok-mini.ensures.unfailed
+
+pub returns-in_err-is_sound-clause-answers : goal.returns-in_err-is_sound-clause-answers
+returns-in_err-is_sound-clause-answers g c told =
+    let p = err_from_is_err_and c.from_residual-in_err-is_sound.result c.from_residual-in_err-is_sound.ensures.1 in
+    rw (p.1, p.2, c.in_err-is_sound.ensures.err) (search rules)
+
+pub returns-in_err-is_sound-clause-kinds : goal.returns-in_err-is_sound-clause-kinds
+returns-in_err-is_sound-clause-kinds g c =
+    let p = err_from_is_err_and c.from_residual-in_err-is_sound.result c.from_residual-in_err-is_sound.ensures.1 in
+    rw (p.1, p.2, c.in_err-is_sound.ensures.err) (search rules)
