@@ -22,13 +22,13 @@ returns-in_err-raw-clause-reads g c = rw (← c.self.view_is) (read-only g.F.Rea
 
 pub returns-in_err-raw-clause-failed : goal.returns-in_err-raw-clause-failed
 returns-in_err-raw-clause-failed g c =
-    let p = err_from_is_err_and c.from_residual-in_err-raw.result c.from_residual-in_err-raw.ensures.1 in
+    let p = err_from_is_err_and c.from_residual.result c.from_residual.ensures.1 in
     rw (p.1, p.2) (λ is. absurd (read-not-failed g.F.ReadMedium.tells (table_of c.self.inside.volume.base) c.in_err-raw.field-0.0 c.in_err-raw.ensures.err is))
 
 pub returns-in_err-raw-clause-err : goal.returns-in_err-raw-clause-err
 returns-in_err-raw-clause-err g c =
     let unfailed = sym c.is_failed.ensures ∙ c.if-is_failed.false in
-    let p = err_from_is_err_and c.from_residual-in_err-raw.result c.from_residual-in_err-raw.ensures.1 in
+    let p = err_from_is_err_and c.from_residual.result c.from_residual.ensures.1 in
     rw (p.1, p.2) (read-refused g.F.ReadMedium.tells (table_of c.self.inside.volume.base) (λ told. fat-there c.self.inside.volume (c.self.invariant told unfailed)) c.in_err-raw.field-0.0
     c.in_err-raw.ensures.err)
 
@@ -38,8 +38,8 @@ invariant_of-self-2 g c = λ told. agrees_as_before _ _ (c.raw_fat.ensures.same 
 pub returns-in_err-found-clause-reads : goal.returns-in_err-found-clause-reads
 returns-in_err-found-clause-reads g c = rw (← c.self.view_is) (read-only g.F.ReadMedium.tells c.self.inside.volume c.raw_fat.new.self c.raw_fat.ensures.in_memory c.raw_fat.ensures.same)
 
-pub invariant_of-self-3 : goal.invariant_of-self-3
-invariant_of-self-3 g c = λ told. agrees_as_before _ _ (c.raw_fat.ensures.same told) (c.self.invariant told)
+pub invariant_of-self-in_err-found : goal.invariant_of-self-in_err-found
+invariant_of-self-in_err-found g c = λ told. agrees_as_before _ _ (c.raw_fat.ensures.same told) (c.self.invariant told)
 
 pub returns-clause-reads : goal.returns-clause-reads
 returns-clause-reads g c = rw (← c.self.view_is) (read-only g.F.ReadMedium.tells c.self.inside.volume c.raw_fat.new.self c.raw_fat.ensures.in_memory c.raw_fat.ensures.same)
