@@ -1,10 +1,10 @@
 -- A change that was found is ended, taken back or refused.
-use Rattle.std.proofs.Common.{◌≡◌, ◌⊎◌, inl, inr, ⊎_elim, ℕ, ◌<◌, ◌≤◌, IsTrue, List, length, refl, sym, ◌∙◌, ap, subst, arith, Result, Ok, Err, Vec, None, true}
+use Rattle.std.proofs.Common.{◌≡◌, inl, inr, ⊎_elim, ℕ, ◌<◌, ◌≤◌, IsTrue, List, sym, ◌∙◌, ap, subst, arith, Result, Ok, Err, Vec, None}
 use Rattle.std.specs.declared.alloc.Global.{Global}
 use Rattle.cfb_format.specs.declared.medium.MediumFault.{MediumFault}
-use Rattle.cfb_journal.specs.Disk.{Image, View, CountsFault}
+use Rattle.cfb_journal.specs.Disk.{Image, View}
 use Rattle.cfb_journal.specs.Journal.{is_damaged, recovered, IsForeign}
-use Rattle.cfb_journal.specs.Recovery.{Ends, Finishes, IsLooked, IsOfJournal, IsRefused, StandsAs, StaysOrStandsAs}
+use Rattle.cfb_journal.specs.Recovery.{Ends, Finishes, IsLooked, IsRefused, StandsAs, StaysOrStandsAs}
 use Rattle.cfb_journal.specs.States.{Looks, Meanwhile, IsOn}
 use Rattle.cfb_journal.specs.declared.recovery.RecoveryError.{RecoveryError}
 use Rattle.cfb_journal.specs.declared.recovery.RecoveryError.TheVariants.{Medium, Damaged, Foreign}
@@ -60,9 +60,6 @@ medium_not_foreign fault e = cc
 
 damaged_not_foreign : Damaged ≡ Foreign → ⊥
 damaged_not_foreign e = cc
-
-damaged_not_medium : (fault : MediumFault) → Damaged ≡ Medium fault → ⊥
-damaged_not_medium fault e = cc
 
 foreign_not_medium : (fault : MediumFault) → Foreign ≡ Medium fault → ⊥
 foreign_not_medium fault e = cc

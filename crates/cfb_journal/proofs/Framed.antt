@@ -1,5 +1,5 @@
 -- The file that the first bytes of a file are with frames over them, as it is read.
-use Rattle.std.proofs.Common.{◌≡◌, ℕ, ◌+◌, ◌≤◌, IsTrue, List, length, take, sym, ◌∙◌, ap, subst, arith, length-take, Result, Ok, Err, OnOk}
+use Rattle.std.proofs.Common.{◌≡◌, ℕ, ◌+◌, ◌≤◌, IsTrue, List, length, take, sym, ◌∙◌, ap, subst, arith, length-take}
 use Rattle.cfb_format.specs.Medium.{part}
 use Rattle.cfb_format.proofs.ByteLemmas.{length-part}
 use Rattle.cfb_journal.specs.Journal.{applied, frames_of, are_whole, LieWithin}

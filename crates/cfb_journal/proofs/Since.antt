@@ -1,9 +1,9 @@
 -- What a crash left since the disk was opened.
-use Rattle.std.proofs.Common.{◌≡◌, ◌⊎◌, ◌<◌, ◌≤◌, inl, inr, ⊎_elim, ℕ, List, length, take, sym, ◌∙◌, ap, subst, arith, Some, IsTrue}
+use Rattle.std.proofs.Common.{◌≡◌, ◌<◌, ◌≤◌, inl, inr, ⊎_elim, ℕ, List, length, take, sym, ◌∙◌, ap, subst, arith, Some, IsTrue}
 use Rattle.std.proofs.Math.Seq.{take-length}
 use Rattle.cfb_journal.specs.Disk.{Image, View, IsOpened}
 use Rattle.cfb_journal.specs.Journal.{recovered, is_damaged, IsForeign, Restores, RestoresEither}
-use Rattle.cfb_journal.specs.Recovery.{StandsAs, StaysOrStandsAs, IsNotOpened, IsNotBegun}
+use Rattle.cfb_journal.specs.Recovery.{StaysOrStandsAs, IsNotOpened, IsNotBegun}
 use Rattle.cfb_journal.specs.Sound.{IsSince}
 use Rattle.cfb_journal.specs.declared.recovery.RecoveryError.{RecoveryError}
 use Rattle.cfb_journal.specs.States.{Meanwhile}

@@ -1,4 +1,4 @@
-use Rattle.std.proofs.Common.{◌≡◌, ◌∙◌, ◌-◌, ap, subst, length, take, drop, List, ℕ, OnOk}
+use Rattle.std.proofs.Common.{◌≡◌, ◌∙◌, ◌-◌, ap, subst, length, take, drop, List, OnOk}
 use Rattle.std.proofs.lemmas.List.{take_rest}
 use Rattle.cfb_format.specs.Bytes.{long_at}
 use Rattle.cfb_journal.specs.Journal.{Frame, applied, frames_of}

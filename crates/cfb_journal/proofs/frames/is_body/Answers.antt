@@ -1,4 +1,4 @@
-use Rattle.std.proofs.Common.{◌∙◌, ◌≤◌, ap, length, drop, List, ℕ, arith}
+use Rattle.std.proofs.Common.{◌∙◌, ◌≤◌, ap, length, drop, arith}
 use Rattle.std.proofs.lemmas.List.{take_rest}
 use Rattle.cfb_format.specs.Bytes.{long_at}
 use Rattle.cfb_journal.specs.Journal.{are_whole}

@@ -1,4 +1,4 @@
-use Rattle.std.proofs.Common.{◌≡◌, ◌≢◌, ◌∙◌, inl, inr, ap, sym, refl, subst, length, take, drop, slice_index, List, ℕ, IsTrue, nat_le, arith}
+use Rattle.std.proofs.Common.{◌≡◌, ◌∙◌, inr, ap, sym, refl, subst, length, take, drop, List, ℕ, IsTrue, nat_le, arith}
 use Rattle.std.proofs.lemmas.Bool.{and_parts}
 use Rattle.std.proofs.lemmas.List.{take_rest, get_or_past}
 use Rattle.cfb_format.specs.Bytes.{long_at}

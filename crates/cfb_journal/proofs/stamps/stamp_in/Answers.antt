@@ -1,4 +1,4 @@
-use Rattle.std.proofs.Common.{◌≡◌, ◌∙◌, ◌+◌, ap, sym, refl, length, length-take, min, ◌-◌, take, arith}
+use Rattle.std.proofs.Common.{◌≡◌, ◌∙◌, ◌+◌, ap, sym, refl, length, length-take, ◌-◌, take, arith}
 use Rattle.cfb_format.specs.Medium.{part}
 use Rattle.cfb_journal.specs.Stamp.{summed_over}
 use Rattle.cfb_journal.proofs.StampLemmas.{over_first, over_next, over_all}

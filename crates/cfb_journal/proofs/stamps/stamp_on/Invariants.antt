@@ -1,4 +1,4 @@
-use Rattle.std.proofs.Common.{◌≡◌, ◌≤◌, ◌<◌, IsTrue, take}
+use Rattle.std.proofs.Common.{◌≡◌, ◌≤◌, IsTrue, take}
 use Rattle.cfb_journal.specs.Journal.{applied, frames_of}
 use Rattle.cfb_journal.specs.Stamp.{stamp_of, summed_over}
 use Rattle.cfb_journal.specs.States.{Looks}
