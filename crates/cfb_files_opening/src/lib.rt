@@ -137,7 +137,7 @@ pub fn create_as<R: Files<File = File> + RandomSource, A: Heap + Clone>(
 /// # Errors
 ///
 /// - [`Error::Medium`] with [`MediumFault::Open`]: the file cannot be opened, its journal cannot be made, or another program has locked it.
-/// - [`Error::InvalidData`]: also if the journal is not one that an interrupted change leaves.
+/// - [`Error::InvalidData`]: also if the journal is not one that an interrupted change of this file leaves.
 /// - Otherwise as [`CompoundFile::open`].
 ///
 /// After [`Error::Failed`] drop the file and open it again: it then has all changes since the last commit, or none.
@@ -173,6 +173,9 @@ fn journaled<R: Files<File = File>>(
         Err(RecoveryError::Medium(fault)) => Err(Error::Medium(fault)),
         Err(RecoveryError::Damaged) => Err(Error::InvalidData(Detail::text(
             "the journal beside the file is damaged",
+        ))),
+        Err(RecoveryError::Foreign) => Err(Error::InvalidData(Detail::text(
+            "the journal beside the file is of another file",
         ))),
     }
 }

@@ -6,30 +6,29 @@ use Rattle.cfb_format.specs.Bytes.{long_at}
 use Rattle.cfb_format.specs.Medium.{part, written, ReadsAt}
 use Rattle.cfb_format.specs.declared.medium.MediumFault.{MediumFault}
 use Rattle.cfb_format.proofs.ByteLemmas.{length-written, written_below, written_at, written_above, part_at, length-part, part-written_apart}
-use Rattle.cfb_journal.specs.Journal.{applied, frames_of, are_whole, is_whole, body_of, recovered, LieWithin, BeginsWith}
+use Rattle.cfb_journal.specs.Journal.{applied, frames_of, are_whole, is_whole, body_of, recovered, stamped, LieWithin, BeginsWith}
 use Rattle.cfb_journal.specs.Seen.{frames_behind, looked, IsPartAt, ShowsFrames}
 use Rattle.cfb_journal.proofs.Applying.{whole_parts}
-use Rattle.cfb_journal.proofs.Files.{restores_shut, restores_changing}
-use Rattle.cfb_journal.proofs.Gates.{restores_committed}
+use Rattle.cfb_journal.proofs.Files.{restores_shut, recovered_changing, recovered_committed}
 use Rattle.cfb_journal.proofs.Tables.{applied-length}
 
 -- ---- what the two files stand for
 
-pub looked_shut : (file journal : List ℕ) (len : ℕ) → len ≡ length file → slice_index journal 9 ≢ 1 → recovered (record { file = file; journal = journal }) ≡ Some (looked journal 0 len file)
+pub looked_shut : (file journal : List ℕ) (len : ℕ) → len ≡ length file → slice_index journal 17 ≢ 1 → recovered (record { file = file; journal = journal }) ≡ Some (looked journal 0 len file)
 looked_shut file journal len is shut =
     restores_shut (record { file = file; journal = journal }) shut
     ∙ ap Some (sym (take_all len file (let past : length file ≤ len = omega (arith, is) in past)))
 
-pub looked_committed : (file journal : List ℕ) (len : ℕ) → len ≡ length file → slice_index journal 9 ≡ 1 → slice_index journal 8 ≡ 1 → IsTrue (is_whole len (body_of journal))
-    → recovered (record { file = file; journal = journal }) ≡ Some (looked journal (long_at (body_of journal) 0) len file)
-looked_committed file journal len is change commit whole =
-    restores_committed (record { file = file; journal = journal }) change commit (subst (λ n. IsTrue (is_whole n (body_of journal))) is whole)
-    ∙ ap (λ (f : List ℕ). Some (applied (frames_of (long_at (body_of journal) 0) (frames_behind journal)) f)) (sym (take_all len file (let past : length file ≤ len = omega (arith, is) in past)))
+pub looked_committed : (file journal : List ℕ) (len : ℕ) → len ≡ length file → slice_index journal 17 ≡ 1 → slice_index journal 16 ≡ 1 → IsTrue (is_whole (body_of journal)) → long_at (body_of journal) 0 ≡ len
+    → recovered (record { file = file; journal = journal }) ≡ stamped (long_at (body_of journal) 8) (looked journal (long_at (body_of journal) 16) len file)
+looked_committed file journal len is change commit whole sized =
+    recovered_committed (record { file = file; journal = journal }) change commit whole (sized ∙ is)
+    ∙ ap (λ (f : List ℕ). stamped (long_at (body_of journal) 8) (applied (frames_of (long_at (body_of journal) 16) (frames_behind journal)) f)) (sym (take_all len file (let past : length file ≤ len = omega (arith, is) in past)))
 
-pub looked_changing : (file journal : List ℕ) (len base : ℕ) → len ≡ length file → slice_index journal 9 ≡ 1 → slice_index journal 8 ≢ 1 → base ≡ long_at journal 0 → base ≤ len
-    → recovered (record { file = file; journal = journal }) ≡ Some (looked journal 0 base file)
+pub looked_changing : (file journal : List ℕ) (len base : ℕ) → len ≡ length file → slice_index journal 17 ≡ 1 → slice_index journal 16 ≢ 1 → base ≡ long_at journal 0 → base ≤ len
+    → recovered (record { file = file; journal = journal }) ≡ stamped (long_at journal 8) (looked journal 0 base file)
 looked_changing file journal len base is change commit base_is within =
-    restores_changing (record { file = file; journal = journal }) base change commit (sym base_is) (omega (arith, is, within))
+    recovered_changing (record { file = file; journal = journal }) base change commit (sym base_is) (omega (arith, is, within))
 
 -- ---- one frame
 
@@ -161,7 +160,7 @@ module _ (journal : List ℕ) (count len : ℕ) (file : List ℕ) (within : len 
   pub looked-length : length (looked journal count len file) ≡ len
   looked-length = applied-length (frames_of count (frames_behind journal)) (take len file) lies ∙ first-length
 
-part_first : (file : List ℕ) (len at n : ℕ) → at + n ≤ len → len ≤ length file → part (take len file) at n ≡ part file at n
+pub part_first : (file : List ℕ) (len at n : ℕ) → at + n ≤ len → len ≤ length file → part (take len file) at n ≡ part file at n
 part_first file len at n inside within =
     let short : length (take len file) ≡ len = omega (arith, length-take len file, within) in
     let a : length (part (take len file) at n) ≡ n = omega (arith, length-part (take len file) at n, short, inside) in

@@ -1,5 +1,6 @@
 pub mod Clock
 pub mod Torn
+pub mod StampLemmas
 pub mod Files
 pub mod Mediums
 pub mod Appending
@@ -14,3 +15,5 @@ pub mod Applying
 pub mod FrameLists
 pub mod Beginning
 pub mod LaidFrames
+pub mod Framed
+pub mod Ending

@@ -1,9 +1,9 @@
 -- What a crash left since the disk was opened.
-use Rattle.std.proofs.Common.{◌≡◌, ◌⊎◌, ◌<◌, ◌≤◌, inl, inr, ⊎_elim, ℕ, List, length, take, sym, ◌∙◌, ap, subst, arith, Some}
+use Rattle.std.proofs.Common.{◌≡◌, ◌<◌, ◌≤◌, inl, inr, ⊎_elim, ℕ, List, length, take, sym, ◌∙◌, ap, subst, arith, Some, IsTrue}
 use Rattle.std.proofs.Math.Seq.{take-length}
 use Rattle.cfb_journal.specs.Disk.{Image, View, IsOpened}
-use Rattle.cfb_journal.specs.Journal.{recovered, Restores, RestoresEither}
-use Rattle.cfb_journal.specs.Recovery.{StandsAs, StaysOrStandsAs, IsNotOpened, IsNotBegun}
+use Rattle.cfb_journal.specs.Journal.{recovered, is_damaged, IsForeign, Restores, RestoresEither}
+use Rattle.cfb_journal.specs.Recovery.{StaysOrStandsAs, IsNotOpened, IsNotBegun}
 use Rattle.cfb_journal.specs.Sound.{IsSince}
 use Rattle.cfb_journal.specs.declared.recovery.RecoveryError.{RecoveryError}
 use Rattle.cfb_journal.specs.States.{Meanwhile}
@@ -43,9 +43,11 @@ since_recovered opened base old new is_opened only run found is more =
 pub not_begun : (error : RecoveryError) (opened old new : View) → IsOpened opened old → ((c : Image) → old.left_since old.moment c → old.may_leave c) → IsNotOpened error old new → IsNotBegun error opened new
 not_begun error opened old new is_opened only refused =
     record {
-      damaged = λ e. ap recovered (sym is_opened.seen) ∙ refused.damaged e;
-      unchanged = λ e. (refused.unchanged e).seen ∙ is_opened.seen;
-      none_new = λ e c now. is_opened.crash c ((refused.unchanged e).crash c now);
+      damaged = λ e. subst (λ (i : Image). IsTrue (is_damaged i.journal)) is_opened.seen (refused.refused.damaged e);
+      foreign = λ e. subst IsForeign is_opened.seen (refused.refused.foreign e);
+      none = λ e. ap recovered (sym is_opened.seen) ∙ refused.refused.none e;
+      unchanged = λ e. (refused.refused.unchanged e).seen ∙ is_opened.seen;
+      none_new = λ e c now. is_opened.crash c ((refused.refused.unchanged e).crash c now);
       medium = λ fault e. ⊎_elim (λ rose. inl (subst (λ n. n < new.faults) is_opened.faults rose)) (λ long. inr long) (refused.medium fault e);
       back = record {
         each = λ before is c left could_not.

@@ -3,9 +3,11 @@
 
 pub mod disk;
 mod frames;
+mod laying;
 pub mod looking;
 pub mod medium;
 mod overlay;
 pub mod recovery;
 mod stages;
+mod stamps;
 pub mod transaction;

@@ -1,14 +1,16 @@
 //! A file that is read as recovery would leave it, while nothing is written: the journal beside it is
 //! looked through in memory.
-ghost use Rattle.std.specs.Prelude.{◌≡◌, ◌+◌, ◌^◌, ◌<◌, ◌≤◌, ◌∷◌, [], List, ℕ, length, drop, min, None, Some, true, IsTrue, IfOk, IfSome, IsErrOf, MatchOption, MatchResult};
+ghost use Rattle.std.specs.Prelude.{◌≡◌, ◌⊎◌, ◌+◌, ◌<◌, ◌≤◌, if◌then◌else◌, List, ℕ, length, None, Some, true, false, IsTrue, IfErr, IfOk, IsErrOf, MatchResult, OnOk};
 ghost use Rattle.cfb_format.specs.Medium.{FailsBy, ReadsAt};
 ghost use Rattle.cfb_journal.specs.Disk.{Image};
-ghost use Rattle.cfb_journal.specs.Journal.{are_whole, frames_of, recovered};
-ghost use Rattle.cfb_journal.specs.Seen.{frames_behind as frames_in_journal, looked, ShowsFrames};
-ghost use Rattle.cfb_journal.specs.declared.recovery.RecoveryError.TheVariants.{Medium as OfMedium, Damaged};
+ghost use Rattle.cfb_journal.specs.Journal.{are_whole, is_damaged, recovered, IsForeign};
+ghost use Rattle.cfb_journal.specs.Seen.{frames_behind as frames_in_journal, looked, seen_with};
+ghost use Rattle.cfb_journal.specs.declared.recovery.RecoveryError.TheVariants.{Medium as OfMedium, Damaged, Foreign};
 
-use crate::frames::{is_body, next_frame, u64_at};
+use crate::frames::{COUNT, FRAMES, LENGTH, STAMP, is_body, u64_at};
+use crate::laying::lay_frames;
 use crate::recovery::RecoveryError;
+use crate::stamps::stamp_in;
 use cfb_format::medium::{MediumFault, ReadMedium};
 
 /// A file with its journal, read as `recover` would leave it: with a committed change, and without one that
@@ -31,25 +33,30 @@ impl<F: ReadMedium> Recovered<F> {
     ///
     /// # Errors
     ///
-    /// `Damaged` if the journal is none that a crash could have left; `Medium` if the file does not tell its length.
+    /// `Damaged` if the journal is none that a crash could have left; `Foreign` if it is of another file; `Medium` if the
+    /// file does not tell its length or is not read.
     pub fn open(file: F, journal: Vec<u8>) -> Result<Recovered<F>, RecoveryError>
         ensures found { IsTrue F.tells → IfOk result (λ m. recovered (record { file = F.bytes file; journal = journal.items })
             ≡ Some (looked m.journal.items m.count m.len (F.bytes m.file))) }
         ensures damaged { IsTrue F.tells → IsErrOf result Damaged
             → recovered (record { file = F.bytes file; journal = journal.items }) ≡ None }
+        ensures foreign { IsTrue F.tells → IsErrOf result Foreign
+            → IsForeign (record { file = F.bytes file; journal = journal.items }) }
         ensures failed { IsTrue F.tells → (fault : _) → IsErrOf result (OfMedium fault) → IsTrue (F.read_faults fault) }
     {
         let mut file = file;
         let found = file.length()?;
-        let Some((len, count)) = standing(&journal, found) else {
-            return Err(RecoveryError::Damaged);
-        };
-        Ok(Recovered {
+        let kept = standing(&journal, found)?;
+        let mut seen = Recovered {
             file,
             journal,
-            len,
-            count,
-        })
+            len: kept.len,
+            count: kept.count,
+        };
+        if !is_stamped(&mut seen, kept.stamp)? {
+            return Err(RecoveryError::Foreign);
+        }
+        Ok(seen)
     }
 
     /// The file, which can tell why it failed.
@@ -60,77 +67,81 @@ impl<F: ReadMedium> Recovered<F> {
     }
 }
 
-/// How long the file is that a file of this length stands for beside this journal, and how many frames of the
-/// journal belong over it. None where the journal is none that a crash could have left.
-fn standing(journal: &[u8], len: u64) -> Option<(u64, u64)>
-    ensures stands { (file : List ℕ) → len ≡ length file → MatchOption result
-        (recovered (record { file = file; journal = journal.now }) ≡ None)
-        (λ found. recovered (record { file = file; journal = journal.now })
-        ≡ Some (looked journal.now found.1 found.0 file)) }
-    ensures no_longer { IfSome result (λ found. found.0 ≤ len) }
-    ensures whole { IfSome result (λ found.
-        IsTrue (are_whole found.0 found.1 (frames_in_journal journal.now))) }
+/// What a journal says of the file beside it.
+#[derive(Clone, Copy)]
+struct Kept {
+    /// How long the file is that they stand for.
+    len: u64,
+    /// How many frames of the journal belong over it.
+    count: u64,
+    /// The stamp that it has to have, if the journal counts.
+    stamp: Option<u64>,
+}
+
+/// What this journal says of a file of this length.
+fn standing(journal: &[u8], len: u64) -> Result<Kept, RecoveryError>
+    ensures stands { (file : List ℕ) → len ≡ length file → MatchResult result
+        (λ s. recovered (record { file = file; journal = journal.now }) ≡ seen_with s.stamp (looked journal.now s.count s.len file))
+        (λ _. recovered (record { file = file; journal = journal.now }) ≡ None) }
+    ensures no_longer { IfOk result (λ s. s.len ≤ len) }
+    ensures whole { IfOk result (λ s. IsTrue (are_whole s.len s.count (frames_in_journal journal.now))) }
+    ensures sound { OnOk result (is_damaged journal.now ≡ false) }
+    ensures refused { IfErr result (λ e. (e ≡ Damaged) ⊎ ((e ≡ Foreign) × (is_damaged journal.now ≡ false))) }
 {
-    if journal.len() < 10 || journal[9] != 1 {
-        return Some((len, 0));
+    if journal.len() < 18 || journal[17] != 1 {
+        return Ok(Kept {
+            len,
+            count: 0,
+            stamp: None,
+        });
     }
-    if journal[8] == 1 {
-        let body = &journal[10..];
-        if !is_body(len, body) {
-            return None;
+    if journal[16] == 1 {
+        let body = &journal[18..];
+        if !is_body(body) {
+            return Err(RecoveryError::Damaged);
         }
-        return Some((len, u64_at(body, 0)));
+        if u64_at(body, LENGTH) != len {
+            return Err(RecoveryError::Foreign);
+        }
+        return Ok(Kept {
+            len,
+            count: u64_at(body, COUNT),
+            stamp: Some(u64_at(body, STAMP)),
+        });
     }
     let base = u64_at(journal, 0);
     if base > len {
-        return None;
+        return Err(RecoveryError::Foreign);
     }
-    Some((base, 0))
+    Ok(Kept {
+        len: base,
+        count: 0,
+        stamp: Some(u64_at(journal, 8)),
+    })
 }
 
-/// The frames of a journal, behind its gates and their number.
+/// Whether a file has the stamp that it has to have.
+fn is_stamped<F: ReadMedium>(file: &mut F, stamp: Option<u64>) -> Result<bool, MediumFault>
+    ensures same { IsTrue F.tells → F.bytes file.new ≡ F.bytes file.old }
+    ensures seen { IsTrue F.tells → IfOk result (λ is. seen_with stamp (F.bytes file.old)
+        ≡ (if is then Some (F.bytes file.old) else None)) }
+    ensures failed { IsTrue F.tells → IfErr result (λ fault. IsTrue (F.read_faults fault)) }
+{
+    let Some(stamp) = stamp else {
+        return Ok(true);
+    };
+    let len = file.length()?;
+    Ok(stamp_in(file, len)? == stamp)
+}
+
+/// The frames of a journal, behind its gates and what stands before them.
 fn frames_behind(journal: &[u8]) -> &[u8]
     ensures { result.now ≡ frames_in_journal journal.now }
 {
-    if journal.len() < 18 {
+    if journal.len() < 42 {
         return &[];
     }
-    &journal[10..][8..]
-}
-
-/// Puts over the bytes from `at` on those of a frame that belong there.
-fn lay_frame(into: &mut [u8], at: u64, place: u64, framed: &[u8])
-    requires end { at + length into.old < 2 ^ 64 }
-    requires frame_end { place + length framed.now < 2 ^ 64 }
-    ensures { ShowsFrames ((place, framed.now) ∷ []) at into.old into.new }
-{
-    let end = at + into.len() as u64;
-    let frame_end = place + framed.len() as u64;
-    if place >= end || frame_end <= at {
-        return;
-    }
-    let (first, last) = (place.max(at), end.min(frame_end));
-    into[(first - at) as usize..(last - at) as usize].copy_from_slice(
-        &framed[(first - place) as usize..(last - place) as usize],
-    );
-}
-
-/// Puts over the bytes from `at` on what so many frames have for them.
-fn lay_frames(into: &mut [u8], at: u64, limit: u64, count: u64, bytes: &[u8])
-    requires end { at + length into.old < 2 ^ 64 }
-    requires whole { IsTrue (are_whole limit count bytes.now) }
-    ensures { ShowsFrames (frames_of count bytes.now) at into.old into.new }
-{
-    let mut rest = bytes;
-    let mut left = count;
-    while left > 0 {
-        let Some(frame) = next_frame(rest) else {
-            return;
-        };
-        lay_frame(into, at, frame.place, frame.bytes);
-        rest = frame.rest;
-        left -= 1;
-    }
+    &journal[18..][FRAMES..]
 }
 
 /// How many bytes lie from `at` on, if no more are asked for.

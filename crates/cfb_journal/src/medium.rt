@@ -3,16 +3,16 @@ ghost use Rattle.std.specs.Prelude.{◌≡◌, ◌≢◌, ◌⊎◌, ◌+◌, �
 ghost use Rattle.std.proofs.Props.{props};
 ghost use Rattle.cfb_format.specs.Medium.{Rises, ReadsAt, WritesAt, FailsToWriteAt, FailsBy};
 ghost use Rattle.cfb_journal.specs.Disk.{CountsFault, Image, IsOpened};
-ghost use Rattle.cfb_journal.specs.Journal.{Restores, RestoresEither, recovered};
+ghost use Rattle.cfb_journal.specs.Journal.{IsForeign, Restores, RestoresEither, recovered};
 ghost use Rattle.cfb_journal.specs.Overlay.{contents, AreBlocks};
 ghost use Rattle.cfb_journal.specs.Recovery.{IsNotOpened};
 ghost use Rattle.cfb_journal.specs.Sound.{AreBlocks-prop, HasCause, IsSince, IsSince-prop, IsSound, IsSound-prop, IsNotCommitted, logical};
 ghost use Rattle.cfb_journal.specs.States.{IsChanging, IsQuiet, Looks, Meanwhile};
 ghost use Rattle.cfb_journal.specs.declared.medium.Phase.TheVariants.{Quiet, Changing, Broken};
-ghost use Rattle.cfb_journal.specs.declared.recovery.RecoveryError.TheVariants.{Damaged};
+ghost use Rattle.cfb_journal.specs.declared.recovery.RecoveryError.TheVariants.{Damaged, Foreign};
 
 use crate::disk::Disk;
-use crate::overlay::{body, overlay, serve};
+use crate::overlay::{overlay, sealed, serve};
 use crate::recovery::{NotOpened, RecoveryError, recover};
 use crate::stages::{append, begin, commit};
 use cfb_format::medium::{Medium, MediumFault, ReadMedium};
@@ -61,11 +61,13 @@ impl<D: Disk> JournaledMedium<D> {
     ///
     /// # Errors
     ///
-    /// `Damaged` if the journal is none that a crash could have left; else those of the disk.
+    /// `Damaged` if the journal is none that a crash could have left, `Foreign` if it is of another file; else those of
+    /// the disk.
     pub fn open(alloc: Global, disk: D) -> Result<JournaledMedium<D>, RecoveryError>
         ensures found { IsTrue D.tells → IfOk result (λ m. recovered (D.view disk).seen
             ≡ Some (logical m.blocks.items (D.view m.disk).seen.file)) }
         ensures damaged { IsTrue D.tells → IsErrOf result Damaged → recovered (D.view disk).seen ≡ None }
+        ensures foreign { IsTrue D.tells → IsErrOf result Foreign → IsForeign (D.view disk).seen }
     {
         match recovered_medium(alloc, disk, false) {
             Ok(medium) => Ok(medium),
@@ -189,7 +191,7 @@ fn ready<D: Disk>(disk: &mut D, phase: &mut Phase, base: u64) -> Result<(), Medi
     match *phase {
         Phase::Quiet => {
             *phase = Phase::Broken;
-            begin(disk, base)?;
+            begin(disk, base, &[1])?;
             *phase = Phase::Changing;
             Ok(())
         }
@@ -322,14 +324,21 @@ impl<D: Disk> Medium for JournaledMedium<D> {
         if self.phase == Phase::Quiet && self.blocks.is_empty() {
             return Ok(());
         }
-        let Ok(body) = body(self.alloc, &self.blocks) else {
-            return Err(fail(&mut self.failures, MediumFault::Memory));
+        let gated = match sealed(
+            self.alloc,
+            &mut self.disk,
+            self.base,
+            self.len,
+            &self.blocks,
+        ) {
+            Ok(gated) => gated,
+            Err(fault) => return Err(fail(&mut self.failures, fault)),
         };
         if let Err(fault) = ready(&mut self.disk, &mut self.phase, self.base) {
             return Err(fail(&mut self.failures, fault));
         }
         self.is_first = false;
-        if let Err(fault) = commit(&mut self.disk, self.base, &body) {
+        if let Err(fault) = commit(&mut self.disk, self.base, &gated[1..]) {
             self.phase = Phase::Broken;
             return Err(fail(&mut self.failures, fault));
         }

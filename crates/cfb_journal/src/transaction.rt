@@ -2,11 +2,11 @@
 ghost use Rattle.std.specs.Prelude.{◌≡◌, ◌⊎◌, ◌+◌, ◌^◌, ◌<◌, IsTrue, true, None, Some, length, ◌≤◌, IfOk, IfErr, IsErrOf, MatchResult, OnOk};
 ghost use Rattle.cfb_format.specs.Medium.{FailsBy, FailsToWriteAt, ReadsAt, WritesAt};
 ghost use Rattle.cfb_journal.specs.Disk.{IsOpened};
-ghost use Rattle.cfb_journal.specs.Journal.{recovered};
+ghost use Rattle.cfb_journal.specs.Journal.{IsForeign, recovered};
 ghost use Rattle.cfb_journal.specs.Recovery.{IsNotBegun};
 ghost use Rattle.cfb_journal.specs.Sound.{HasCause, IsAllOrNothing, IsNotCommitted, IsTakenBack, logical};
 ghost use Rattle.cfb_journal.specs.States.{IsQuiet};
-ghost use Rattle.cfb_journal.specs.declared.recovery.RecoveryError.TheVariants.{Damaged};
+ghost use Rattle.cfb_journal.specs.declared.recovery.RecoveryError.TheVariants.{Damaged, Foreign};
 
 use crate::disk::Disk;
 use crate::medium::JournaledMedium;
@@ -27,12 +27,14 @@ impl<D: Disk> Transaction<D> {
     ///
     /// # Errors
     ///
-    /// `Damaged` if the journal is none that a crash could have left; else those of the disk.
+    /// `Damaged` if the journal is none that a crash could have left, `Foreign` if it is of another file; else those of
+    /// the disk.
     pub fn begin(alloc: Global, disk: D) -> Result<Transaction<D>, RecoveryError>
         requires opened { IsTrue D.tells → IsOpened D.opened (D.view disk) }
         ensures found { IsTrue D.tells → IfOk result (λ t. recovered D.opened.seen
             ≡ Some (logical t.medium.blocks.items (D.view t.medium.disk).seen.file)) }
         ensures damaged { IsTrue D.tells → IsErrOf result Damaged → recovered D.opened.seen ≡ None }
+        ensures foreign { IsTrue D.tells → IsErrOf result Foreign → IsForeign D.opened.seen }
     {
         match Transaction::begin_on(alloc, disk) {
             Ok(transaction) => Ok(transaction),

@@ -5,8 +5,8 @@ use crate::place::Place;
 use cfb_files::failures::Failures;
 use cfb_files::locking;
 use cfb_format::medium::MediumFault;
-use cfb_journal::disk::Disk;
-use cfb_journal::recovery::recover;
+use cfb_journal::disk::{COMMIT_GATE, Disk};
+use cfb_journal::recovery::{is_committed, recover};
 use std::alloc::Global;
 use std::fs::{File, OpenOptions};
 use std::io::ErrorKind;
@@ -28,9 +28,6 @@ pub struct FileDisk {
     syncs: bool,
     failures: Failures,
 }
-
-/// Where the gate of the commit stands in the journal.
-const GATE: u64 = 8;
 
 /// How a change ended that was not told as done.
 #[derive(Clone, Copy, Debug, PartialEq, Eq)]
@@ -89,7 +86,7 @@ impl FileDisk {
     /// Whether the journal has a change that was committed.
     fn has_committed(&mut self, alloc: Global) -> bool {
         match self.read_journal(alloc) {
-            Ok(journal) => journal.len() >= 10 && journal[8] == 1 && journal[9] == 1,
+            Ok(journal) => is_committed(&journal),
             Err(_) => false,
         }
     }
@@ -124,7 +121,7 @@ impl FileDisk {
             return Err(io::Error::from(ErrorKind::InvalidInput));
         };
         journal.write_all_at(from, at)?;
-        self.is_committed = self.is_committed || at == GATE && from.first() == Some(&1);
+        self.is_committed = self.is_committed || at == COMMIT_GATE && from.first() == Some(&1);
         Ok(())
     }
 

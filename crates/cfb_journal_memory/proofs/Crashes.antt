@@ -3,7 +3,7 @@ use Rattle.std.proofs.Common.{◌≡◌, refl, inl, inr, ◌⊎◌, ℕ, List, [
 use Rattle.std.proofs.lemmas.List.{drop_all}
 use Rattle.cfb_format.specs.Medium.{written}
 use Rattle.cfb_journal.specs.Disk.{Image, View}
-use Rattle.cfb_journal.specs.Journal.{recovered, Restores, RestoresEither}
+use Rattle.cfb_journal.specs.Journal.{recovered, IsForeign, Restores, RestoresEither}
 use Rattle.cfb_journal.specs.Sound.{IsAllOrNothing, IsTakenBack}
 use Rattle.cfb_journal_memory.specs.Steps.{Step, nothing, seen_after, LeftSince, view_after}
 use Rattle.cfb_journal_memory.specs.Laws.{counts_now, seen_may_stay}
@@ -50,6 +50,10 @@ counted (Some bytes) = 1
 -- and no recovery of them finds a journal that no crash could have left
 pub not_damaged : recovered nothing ≡ None → ⊥
 not_damaged e = omega (arith, ap counted (sym e ∙ restores_nothing))
+
+-- nor one of another file
+pub not_foreign : IsForeign nothing → ⊥
+not_foreign refused = not_damaged refused.other
 
 -- a write of no bytes at the beginning
 pub written_none : (old from : List ℕ) → length from ≡ 0 → written old 0 from ≡ old

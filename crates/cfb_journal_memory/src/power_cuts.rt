@@ -4,7 +4,7 @@ ghost use Rattle.std.specs.Prelude.{false, []};
 use cfb_format::medium::{Medium, MediumFault, ReadMedium};
 use cfb_journal::disk::Disk;
 use cfb_journal::medium::JournaledMedium;
-use cfb_journal::recovery::recover;
+use cfb_journal::recovery::{RecoveryError, recover};
 use std::alloc::{AllocError, Global};
 use std::test::Fail;
 
@@ -465,5 +465,70 @@ fn a_crash_at_each_call_is_recovered(rt: HostRuntime) -> Result<(), Fail> {
         }
     }
     println!(rt; "tried {tried}")?;
+    Ok(())
+}
+
+/// Whether the gate of a change is open in this journal.
+fn is_open(journal: &[u8]) -> bool {
+    journal.len() >= 18 && journal[17] == 1
+}
+
+/// Whether this file beside this journal is refused, and neither of them is changed.
+fn is_refused(alloc: Global, file: &[u8], journal: &[u8]) -> Result<bool, AllocError> {
+    let mut disk = Sim {
+        alloc,
+        file: sim_file(alloc, file)?,
+        journal: sim_file(alloc, journal)?,
+        calls_left: u64::MAX,
+        calls: 0,
+    };
+    let found = recover(alloc, &mut disk);
+    Ok(
+        matches!(found, Err(RecoveryError::Foreign))
+            && disk.file.bytes.as_slice() == file
+            && disk.journal.bytes.as_slice() == journal,
+    )
+}
+
+/// Whether this journal is refused beside a file that has another byte at a place where the script writes none, and
+/// beside one that is too short.
+fn is_refused_elsewhere(alloc: Global, file: &[u8], journal: &[u8]) -> Result<bool, AllocError> {
+    let mut other = file.to_vec(alloc)?;
+    let byte = match file.get(2000) {
+        Some(byte) => *byte,
+        None => 0,
+    };
+    put_at(&mut other, 2000, &[byte ^ 1])?;
+    let is_other = is_refused(alloc, &other, journal)?;
+    let mut short = file.to_vec(alloc)?;
+    short.truncate(4000);
+    Ok(is_other && is_refused(alloc, &short, journal)?)
+}
+
+/// How many journals of the script's moments are open, if each of them is refused beside other files.
+fn refused_journals(alloc: Global, start: &[u8], calls: u64) -> Result<Option<u64>, AllocError> {
+    let mut refused = 0u64;
+    for stop in 0..calls {
+        let Some(ran) = make_run(alloc, start, stop)? else {
+            return Ok(None);
+        };
+        let journal = ran.disk.journal.bytes.as_slice();
+        if is_open(journal) {
+            if !is_refused_elsewhere(alloc, &ran.disk.file.bytes, journal)? {
+                return Ok(None);
+            }
+            refused = refused.saturating_add(1);
+        }
+    }
+    Ok(Some(refused))
+}
+
+#[test]
+fn a_journal_of_another_file_is_refused(rt: HostRuntime) -> Result<(), Fail> {
+    let alloc = rt.alloc();
+    let start = numbered(alloc, 4200, 7)?;
+    let whole = make_run(alloc, &start, u64::MAX)?.ok_or("not opened")?;
+    let refused = refused_journals(alloc, &start, whole.calls)?.ok_or("not refused")?;
+    assert!(rt; refused > 0);
     Ok(())
 }

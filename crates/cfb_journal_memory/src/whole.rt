@@ -4,7 +4,7 @@ ghost use Rattle.cfb_format.specs.Medium.{written};
 ghost use Rattle.cfb_journal.specs.Disk.{Image};
 ghost use Rattle.cfb_journal.specs.Journal.{RestoresEither};
 ghost use Rattle.cfb_journal.specs.States.{IsQuiet};
-ghost use Rattle.cfb_journal.specs.declared.recovery.RecoveryError.TheVariants.{Damaged};
+ghost use Rattle.cfb_journal.specs.declared.recovery.RecoveryError.TheVariants.{Damaged, Foreign};
 ghost use Rattle.cfb_journal_memory.specs.Memory.{shown};
 ghost use Rattle.cfb_journal_memory.specs.Steps.{nothing};
 
@@ -33,6 +33,7 @@ pub fn put_whole(
     ensures first { IfOk result (λ it. (shown it.1).left_since 0 nothing) }
     ensures last { IfOk result (λ it. (shown it.1).left_since 0 (shown it.1).seen) }
     ensures whole { IsErrOf result Damaged → ⊥ }
+    ensures own { IsErrOf result Foreign → ⊥ }
 {
     let mut change = Transaction::begin(alloc, MemoryDisk::new(alloc))?;
     match put_first(&mut change, bytes) {

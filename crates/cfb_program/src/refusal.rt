@@ -32,6 +32,8 @@ pub enum Refusal {
     TakenBack(io::Error),
     /// The journal of FILE is none that an interrupted change leaves.
     Damaged,
+    /// The journal beside FILE is of another file.
+    Foreign,
     /// The system refused to read the journal of FILE, to write it or to make it.
     Journal(io::Error),
     /// Another program is changing FILE.
@@ -237,6 +239,7 @@ pub fn tell<E: Output>(refusal: Refusal, about: About<'_>, faults: &mut E) {
         Refusal::System(place, e) => tell_system(place.name(about), &e, faults),
         Refusal::TakenBack(e) => tell_taken_back(file, &e, faults),
         Refusal::Damaged => tell_damaged(file, faults),
+        Refusal::Foreign => tell_foreign(file, faults),
         Refusal::Journal(e) => writeln!(faults, "cfbtool: medium failed: {file}-journal: {e}"),
         Refusal::Busy => writeln!(faults, "cfbtool: {file}: another program is changing it"),
         Refusal::NotWhole(extent) => {
@@ -269,6 +272,14 @@ fn tell_damaged<E: Output>(file: Shown<'_>, faults: &mut E) -> io::Result<()> {
     writeln!(
         faults,
         "cfbtool: {file}: {file}-journal is damaged; move it away to go on"
+    )
+}
+
+/// Writes the line on the journal beside this file, which is of another one.
+fn tell_foreign<E: Output>(file: Shown<'_>, faults: &mut E) -> io::Result<()> {
+    writeln!(
+        faults,
+        "cfbtool: {file}: {file}-journal is of another file; move it away, or restore the file"
     )
 }
 

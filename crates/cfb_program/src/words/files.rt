@@ -66,6 +66,7 @@ fn unrecovered(why: RecoveryError) -> Refusal {
     match why {
         RecoveryError::Medium(fault) => Refusal::Of(Error::Medium(fault)),
         RecoveryError::Damaged => Refusal::Damaged,
+        RecoveryError::Foreign => Refusal::Foreign,
     }
 }
 

@@ -2,11 +2,14 @@ use Rattle.std.proofs.Common.{rules, ◌≡◌, refl, subst, [], List, ℕ, OnOk
 use Rattle.cfb_journal.specs.Sound.{IsAllOrNothing}
 use Rattle.cfb_journal_memory.specs.Memory.{shown}
 use Rattle.cfb_journal_memory.specs.Steps.{nothing, view_after}
-use Rattle.cfb_journal_memory.proofs.Crashes.{each_image, each_back, written_first, not_damaged}
+use Rattle.cfb_journal_memory.proofs.Crashes.{each_image, each_back, written_first, not_damaged, not_foreign}
 use Rattle.cfb_journal_memory.proofs.whole.put_whole.Goals as goal
 
 pub returns-in_err-change-clause-whole : goal.returns-in_err-change-clause-whole
 returns-in_err-change-clause-whole c damaged = not_damaged (c.in_err-change.ensures.damaged refl (search rules))
+
+pub returns-in_err-change-clause-own : goal.returns-in_err-change-clause-own
+returns-in_err-change-clause-own c foreign = not_foreign (c.in_err-change.ensures.foreign refl (search rules))
 
 pub returns-in-Ok-clause-done : goal.returns-in-Ok-clause-done
 returns-in-Ok-clause-done c =

@@ -2,8 +2,8 @@ use Rattle.std.proofs.Common.{◌≡◌, ◌∙◌, ◌+◌, ◌-◌, ◌≤◌,
 use Rattle.cfb_format.specs.Medium.{part}
 use Rattle.cfb_format.proofs.ByteLemmas.{put_mid_written, length-part}
 use Rattle.cfb_journal.proofs.LaidFrames.{shows_laid, shows_apart}
-use Rattle.cfb_journal.proofs.looking.lay_frame.Goals as goal
-use Rattle.cfb_journal.proofs.looking.lay_frame.Goals.{then-place-end-via-then-place-end, then-place-end-via-else-place-end+then-frame_end-at}
+use Rattle.cfb_journal.proofs.laying.lay_frame.Goals as goal
+use Rattle.cfb_journal.proofs.laying.lay_frame.Goals.{then-place-end-via-then-place-end, then-place-end-via-else-place-end+then-frame_end-at}
 
 pub returns-then-place-end : goal.returns-then-place-end
 returns-then-place-end c =

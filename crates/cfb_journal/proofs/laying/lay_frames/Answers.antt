@@ -1,6 +1,6 @@
 use Rattle.std.proofs.Common.{arith}
 use Rattle.cfb_journal.proofs.LaidFrames.{laid_next}
-use Rattle.cfb_journal.proofs.looking.lay_frames.Goals as goal
+use Rattle.cfb_journal.proofs.laying.lay_frames.Goals as goal
 
 pub loop-left-preserved : goal.loop-left-preserved
 loop-left-preserved c =
