@@ -159,11 +159,7 @@ fn fail(failures: &mut u64, fault: MediumFault) -> MediumFault
 }
 
 /// Reads some of the bytes that lie at a place.
-fn read_some<M: ReadMedium>(
-    medium: &mut M,
-    at: u64,
-    into: &mut [u8],
-) -> Result<usize, MediumFault>
+fn read_some<M: ReadMedium>(medium: &mut M, at: u64, into: &mut [u8]) -> Result<usize, MediumFault>
     requires some { 0 < length into.old }
     requires inside { IsTrue M.tells → at < length (M.bytes medium.old) }
     ensures bound { IfOk result (λ n. n ≤ length into.new) }
