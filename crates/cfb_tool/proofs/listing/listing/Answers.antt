@@ -1,6 +1,6 @@
-use Rattle.std.proofs.Common.{refl}
+use Rattle.std.proofs.Common.{ℕ, List, [], ◌∷◌, chars, refl, subst}
 use Rattle.cfb_codecs.specs.EntryModel.{entries_of as entries_in}
-use Rattle.cfb_format.specs.Path.{path_of_names}
+use Rattle.cfb_listing.proofs.Slashes.{chars-slash}
 use Rattle.cfb_rules.specs.Calls.{walk}
 use Rattle.cfb_compound_file.proofs.Numbers.{object-in-list, root-is-object}
 use Rattle.cfb_shown.specs.Lines.{HasLinesOf}
@@ -13,8 +13,10 @@ write_walk-requires g c = object-in-list c.args.file.now c.entries.result.now 0 
 
 pub returns-clause-lists : goal.returns-clause-lists
 returns-clause-lists g c = λ told.
-    writes-as c.write_walk.result _ (HasLines c.args.form c.args.file.now walk) _ _
-    (λ text has. all-listed c.args.form c.args.file.now (entries_in c.entries.result.now) text (c.entries.ensures.agrees told) c.entries.ensures.entries has)
+    let es = entries_in c.entries.result.now in
+    writes-as c.write_walk.result (λ text. HasLinesOf c.args.form es (chars (47 ∷ [])) 0 text) (HasLines c.args.form c.args.file.now walk) _ _
+    (λ text has. all-listed c.args.form c.args.file.now es text (c.entries.ensures.agrees told) c.entries.ensures.entries
+    (subst (λ (p : List ℕ). HasLinesOf c.args.form es p 0 text) chars-slash has))
     c.write_walk.ensures.lines
 
 pub returns-clause-refused : goal.returns-clause-refused

@@ -1,4 +1,4 @@
-use Rattle.std.proofs.Common.{◌∙◌, ap, chars, get_or, refl, string_bytes, subst, sym}
+use Rattle.std.proofs.Common.{◌∙◌, ap, arith, chars, get_or, refl, string_bytes, subst, sym}
 use Rattle.std.proofs.lemmas.Result.{err_from_is_err_and}
 use Rattle.std.proofs.lemmas.List.{get_or-map}
 use Rattle.cfb_codecs.specs.EntryModel.{entries_of as entries_in, entry_of}
@@ -13,6 +13,12 @@ use Rattle.cfb_tool.proofs.listing.listing_at.Goals as goal
 pub bounds-entries-number : goal.bounds-entries-number
 bounds-entries-number g c =
     object-within c.args.file.now c.entries-entries.result.now c.in_ok-number.number c.entries-entries.ensures.entries c.entries-entries.ensures.in_order c.in_ok-number.ensures.found.object
+
+pub offset_bounds-entries-number : goal.offset_bounds-entries-number
+offset_bounds-entries-number g c = omega (
+  arith,
+  object-within c.args.file.now c.entries-entries.result.now c.in_ok-number.number c.entries-entries.ensures.entries c.entries-entries.ensures.in_order c.in_ok-number.ensures.found.object,
+)
 
 pub write_walk-requires : goal.write_walk-requires
 write_walk-requires g c =

@@ -1,4 +1,4 @@
-use Rattle.std.proofs.Common.{◌∙◌, ap, chars, inl, inr, map, string_bytes}
+use Rattle.std.proofs.Common.{◌≡◌, ◌∙◌, ap, chars, inl, inr, map, string_bytes}
 use Rattle.std.specs.Prelude.{Some}
 use Rattle.std.proofs.lemmas.Result.{err_from_is_err_and}
 use Rattle.cfb_codecs.specs.EntryModel.{entry_of}
@@ -15,11 +15,15 @@ returns-in_default-clause-ok g c =
 
 pub returns-clause-ok : goal.returns-clause-ok
 returns-clause-ok g c =
-    ok-then _ _ c.path_below.result
+    let name = c.as_str-2.result.now in
+    ok-then (λ text. chars (string_bytes text) ≡ child_path (chars c.as_str.result.now) (chars name))
+    (λ text. IsPathInWalk (chars c.args.path.now) (entry_of c.args.entry.now).name (chars (string_bytes text))) c.path_below.result
     (λ text is. inr (
       _,
       _,
       c.in_ok-names.ensures.ok ∙ ap (λ ns. Some ns) (map-split _ _ _ _ (rw c.deref.ensures.value at c.in-Some.ensures.cases.0)),
-      is ∙ ap (λ p. child_path p (entry_of c.args.entry.now).name) c.in_ok-parent.ensures.ok,
+      is ∙ (ap (λ bs. child_path (chars bs) (chars name)) c.as_str.ensures.value
+      ∙ (ap (λ bs. child_path (chars (string_bytes c.in_ok-parent.parent)) (chars bs)) c.as_str-2.ensures.value
+      ∙ ap (λ p. child_path p (entry_of c.args.entry.now).name) c.in_ok-parent.ensures.ok)),
     ))
     c.path_below.ensures.ok

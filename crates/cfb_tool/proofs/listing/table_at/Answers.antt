@@ -1,4 +1,4 @@
-use Rattle.std.proofs.Common.{chars, refl}
+use Rattle.std.proofs.Common.{arith, chars, refl}
 use Rattle.std.proofs.lemmas.Result.{err_from_is_err_and}
 use Rattle.cfb_rules.specs.Calls.{walk_storage}
 use Rattle.cfb_compound_file.proofs.Numbers.{object-in-list}
@@ -9,6 +9,12 @@ use Rattle.cfb_tool.proofs.listing.table_at.Goals as goal
 pub bounds-entries-number : goal.bounds-entries-number
 bounds-entries-number g c =
     object-within c.args.file.now c.entries-entries.result.now c.in_ok-number.number c.entries-entries.ensures.entries c.entries-entries.ensures.in_order c.in_ok-number.ensures.found.object
+
+pub offset_bounds-entries-number : goal.offset_bounds-entries-number
+offset_bounds-entries-number g c = omega (
+  arith,
+  object-within c.args.file.now c.entries-entries.result.now c.in_ok-number.number c.entries-entries.ensures.entries c.entries-entries.ensures.in_order c.in_ok-number.ensures.found.object,
+)
 
 pub write_table-requires : goal.write_table-requires
 write_table-requires g c =
