@@ -490,15 +490,15 @@ fn is_refused(alloc: Global, file: &[u8], journal: &[u8]) -> Result<bool, AllocE
     )
 }
 
-/// Whether this journal is refused beside a file that has another byte at a place where the script writes none, and
-/// beside one that is too short.
+/// Whether this journal is refused beside a file that has another byte in a block into which the script writes none,
+/// and beside one that is too short.
 fn is_refused_elsewhere(alloc: Global, file: &[u8], journal: &[u8]) -> Result<bool, AllocError> {
     let mut other = file.to_vec(alloc)?;
-    let byte = match file.get(2000) {
+    let byte = match file.get(9000) {
         Some(byte) => *byte,
         None => 0,
     };
-    put_at(&mut other, 2000, &[byte ^ 1])?;
+    put_at(&mut other, 9000, &[byte ^ 1])?;
     let is_other = is_refused(alloc, &other, journal)?;
     let mut short = file.to_vec(alloc)?;
     short.truncate(4000);
@@ -526,7 +526,7 @@ fn refused_journals(alloc: Global, start: &[u8], calls: u64) -> Result<Option<u6
 #[test]
 fn a_journal_of_another_file_is_refused(rt: HostRuntime) -> Result<(), Fail> {
     let alloc = rt.alloc();
-    let start = numbered(alloc, 4200, 7)?;
+    let start = numbered(alloc, 12_600, 7)?;
     let whole = make_run(alloc, &start, u64::MAX)?.ok_or("not opened")?;
     let refused = refused_journals(alloc, &start, whole.calls)?.ok_or("not refused")?;
     assert!(rt; refused > 0);
