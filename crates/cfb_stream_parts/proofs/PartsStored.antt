@@ -3,15 +3,15 @@ use Rattle.std.proofs.Common.{◌≡◌, ◌∙◌, ◌≤◌, ◌+◌, ◌-◌,
 use Rattle.std.proofs.lemmas.Bool.{leb-true}
 use Rattle.std.proofs.lemmas.Bool.Decides.{nat_tests}
 use Rattle.std.proofs.lemmas.List.{length-replicate, length-take, length-take-le, take-append-drop, take_all}
-use Rattle.std.specs.Prelude.{◌⊎◌, OnOk, Result, Ok, Err, if◌then◌else◌, MatchBool, MatchOption, Option, Some, None, nat_le, nat_lt, unwrap_or}
+use Rattle.std.specs.Prelude.{◌⊎◌, OnOk, Result, Ok, Err, if◌then◌else◌, MatchBool, MatchOption, Option, Some, None, nat_le, nat_lt}
 use Rattle.cfb_format.specs.Medium.{written}
 use Rattle.cfb_format.specs.Tree.{Tree}
 use Rattle.cfb_format.proofs.ByteLemmas.{length-written, written_inside, written_twice}
 use Rattle.cfb_commands.specs.cfb_rules.Laws.{IsClosed}
-use Rattle.cfb_commands.specs.cfb_rules.Lists.{CommandReply, CommandRuns, Deed, FileView, StreamCallStep, StreamCallsRun, StreamedRun, causes_between, names_at, on_stream, opens, replied, streamed}
+use Rattle.cfb_commands.specs.cfb_rules.Lists.{CommandReply, CommandRuns, Deed, FileView, StreamCallStep, StreamCallsRun, causes_between, names_at, on_stream, opens, replied, streamed}
 use Rattle.cfb_commands.specs.cfb_rules.Refusal.{Refusal, failed_earlier, invalid_input, not_sound}
 use Rattle.cfb_commands.specs.cfb_rules.Runs.{Causes, ClosedTree, IsStreamBroken, Setting, StreamCallRuns, StreamOnFailed, StreamRun, TreeState, opened_by_path}
-use Rattle.cfb_commands.specs.cfb_rules.StreamCalls.{Becomes, Moves, StreamCall, StreamReply, StreamSetting, StreamState, StreamStep, Write, Wrote, answered, count, from_start, got, got, not_done, offset, opened, place_within, ready, resized, seek, set_len, write}
+use Rattle.cfb_commands.specs.cfb_rules.StreamCalls.{Becomes, Moves, StreamCall, StreamReply, StreamSetting, StreamState, StreamStep, Write, Wrote, answered, count, from_start, got, got, not_done, offset, opened, ready, resized, seek, set_len, write}
 use Rattle.cfb_commands.proofs.cfb_rules.ClosedFound.{closed_found, unsound_stays}
 use Rattle.cfb_format.specs.declared.error.Error.{Error}
 use Rattle.cfb_format.specs.declared.medium.MediumFault.{MediumFault}

@@ -1,5 +1,5 @@
 -- What changes of a part of a stream come to: one command of the rules, on the stream at a path.
-use Rattle.std.specs.Prelude.{ℕ, ◌≡◌, Bool, List, [], ◌∷◌, OnOk, Option, None, Result}
+use Rattle.std.specs.Prelude.{ℕ, ◌≡◌, Bool, List, [], ◌∷◌, OnOk, None, Result}
 use Rattle.cfb_format.specs.declared.error.Error.{Error}
 use Rattle.cfb_format.specs.Medium.{written}
 use Rattle.cfb_format.specs.declared.medium.MediumFault.{MediumFault}

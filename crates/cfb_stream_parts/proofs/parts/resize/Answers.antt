@@ -1,5 +1,4 @@
 use Rattle.std.proofs.Common.{refl}
-use Rattle.std.specs.Prelude.{◌||◌}
 use Rattle.cfb_commands.specs.cfb_compound_file.Streams.{open_of}
 use Rattle.cfb_commands.specs.cfb_rules.StreamCalls.{ready, set_len}
 use Rattle.cfb_commands.proofs.Operations.{worked_on}
