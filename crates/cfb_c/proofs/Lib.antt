@@ -1,5 +1,4 @@
 pub mod Values
 pub mod Closed
 pub mod Pieces
-pub mod Ahead
 pub mod Told

@@ -1,16 +1,13 @@
 //! What a handle holds.
-use crate::open_file::OpenFile;
-use cfb_format::error::Error;
-use cfb_lent::lent::LentMedium;
-use cfb_listing::entry::Entry;
+use cfb::{CompoundFile, Entry, Error, MemoryMedium};
 
 /// What a handle holds.
 #[derive(Drop)]
 pub enum Kept {
-    /// An open file, whose bytes are in memory: lent by the caller, or its own.
-    File(OpenFile),
+    /// An open file, whose bytes are in memory.
+    File(CompoundFile<MemoryMedium>),
     /// The bytes of a file that is to be opened, or was open.
-    Bytes(LentMedium),
+    Bytes(Vec<u8>),
     /// What is told of objects, in order.
     Entries(Vec<Entry>),
     /// Nothing was opened.

@@ -15,8 +15,6 @@ pub mod giving;
 pub mod handle;
 pub mod held;
 pub mod listing;
-pub mod open_file;
 pub mod opening;
 pub mod refusal;
 pub mod streams;
-pub mod writing;
