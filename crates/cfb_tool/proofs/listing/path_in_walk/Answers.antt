@@ -23,7 +23,7 @@ returns-clause-ok g c =
       _,
       c.in_ok-names.ensures.ok ∙ ap (λ ns. Some ns) (map-split _ _ _ _ (rw c.deref.ensures.value at c.in-Some.ensures.cases.0)),
       is ∙ (ap (λ bs. child_path (chars bs) (chars name)) c.as_str.ensures.value
-      ∙ (ap (λ bs. child_path (chars (string_bytes c.in_ok-parent.parent)) (chars bs)) c.as_str-2.ensures.value
-      ∙ ap (λ p. child_path p (entry_of c.args.entry.now).name) c.in_ok-parent.ensures.ok)),
+          ∙ (ap (λ bs. child_path (chars (string_bytes c.in_ok-parent.parent)) (chars bs)) c.as_str-2.ensures.value
+          ∙ ap (λ p. child_path p (entry_of c.args.entry.now).name) c.in_ok-parent.ensures.ok)),
     ))
     c.path_below.ensures.ok
