@@ -13,10 +13,10 @@ invariant_of-self g c =
     let n = c.in-Ok.count in
     let none = ap length c.in_ok-write_out.ensures.none in
     let size = λ (tells : IsTrue g.M.ReadMedium.tells).
-        let whole : me.end ≡ length b = me.whole tells c.in_ok-write_out.ensures.usable in
-        let same : length (g.M.ReadMedium.bytes c.write_some.new.medium) ≡ c.max-self.result
-        = omega (arith, whole, c.max-self.ensures, c.in-Ok.ensures.bound, ap length (c.in-Ok.ensures.writes tells), length-written b c.args.at (take n from), length-take n from) in
-        same in
+    let whole : me.end ≡ length b = me.whole tells c.in_ok-write_out.ensures.usable in
+    let same : length (g.M.ReadMedium.bytes c.write_some.new.medium) ≡ c.max-self.result
+    = omega (arith, whole, c.max-self.ensures, c.in-Ok.ensures.bound, ap length (c.in-Ok.ensures.writes tells), length-written b c.args.at (take n from), length-take n from) in
+    same in
     record {
       fits = omega (arith, me.fits, none, c.max-self.ensures, c.requires.fits, c.in-Ok.ensures.bound);
       few = me.few;

@@ -14,9 +14,9 @@ invariant_of-self g c =
     let taken = take c.in-Ok.count some in
     let fits : c.args.at + length taken ≤ me.end = omega (arith, c.requires.below, c.min-room.ensures, length-take c.in-Ok.count some, length-take c.min-room.result c.args.from.now) in
     let size = λ (tells : IsTrue g.M.ReadMedium.tells).
-        let whole : me.end ≡ length b = me.whole tells c.requires.usable in
-        let same : length (g.M.ReadMedium.bytes c.write_some.new.medium) ≡ length b = omega (arith, whole, fits, ap length (c.in-Ok.ensures.writes tells), length-written b c.args.at taken) in
-        same in
+    let whole : me.end ≡ length b = me.whole tells c.requires.usable in
+    let same : length (g.M.ReadMedium.bytes c.write_some.new.medium) ≡ length b = omega (arith, whole, fits, ap length (c.in-Ok.ensures.writes tells), length-written b c.args.at taken) in
+    same in
     record {
       fits = me.fits;
       few = me.few;

@@ -10,8 +10,8 @@ invariant_of-self-2 g c =
     let b = g.M.ReadMedium.bytes me.medium in
     let none = ap length c.clear.ensures.items in
     let size = λ (tells : IsTrue g.M.ReadMedium.tells).
-        length-written_out b _ me.held.items me.end (me.whole tells c.requires.usable)
-        (c.in_default.ensures.ok tells ∙ ap (λ (xs : List ℕ). written b me.end xs) c.deref.ensures.value) in
+    length-written_out b _ me.held.items me.end (me.whole tells c.requires.usable)
+    (c.in_default.ensures.ok tells ∙ ap (λ (xs : List ℕ). written b me.end xs) c.deref.ensures.value) in
     record {
       fits = omega (arith, me.fits, c.len.ensures, none);
       few = omega (arith, none);
