@@ -3,7 +3,7 @@
 ghost use Rattle.std.specs.Prelude.{◌≡◌, ◌+◌, ◌*◌, ◌≤◌, [], IfOk, IsTrue, length, vec_capacity};
 ghost use Rattle.cfb_journal.specs.Disk.{IsOpened};
 
-use super::files::{Target, begun, committed, ended, opened, place_of, to_change};
+use super::files::{Target, begun, committed, ended, opened_to_change, place_of, to_change};
 use super::lines::{One, command_of, commands_of, explain, explained_commands_of};
 use super::print;
 use crate::lent::Lent;
@@ -139,11 +139,12 @@ fn play_in<H: System, F: Medium>(
     requires kept { length commands.now ≤ vec_capacity refusals.old }
     requires empty { refusals.old.items ≡ [] }
 {
-    let mut file = opened(rt, medium)?;
+    let mut file = opened_to_change(rt, medium)?;
     let is_done = play_explained(&rt.alloc(), &mut file, commands, lines, refusals)?;
     if file.is_failed() {
         return Err(Refusal::Of(why_failed(refusals.as_slice())));
     }
+    file.flush()?;
     Ok(is_done)
 }
 

@@ -8,6 +8,7 @@ use crate::output::Output;
 use crate::refusal::{About, Refusal, tell_cut};
 use crate::system::System;
 use cfb::{CompoundFile, Error, Medium, ReadMedium};
+use cfb_append_buffer::buffer::AppendBuffer;
 use cfb_tool::cuts::{cut_of, stream_by_entry};
 use std::alloc::Global;
 use std::io;
@@ -61,7 +62,7 @@ fn copy_in<F: ReadMedium, E: Output>(
     faults: &mut E,
 ) -> Result<(), Refusal> {
     let mut made = new.medium().map_err(Refusal::of_other_system)?;
-    let copied = copy_into(file, Lent(&mut made));
+    let copied = copy_into(alloc, file, Lent(&mut made));
     match (copied, made.last_error()) {
         (Err(Error::Medium(_)), Some(e)) => Err(Refusal::of_other_system(e)),
         (Err(Error::InvalidData(detail)), _) => {
@@ -72,11 +73,16 @@ fn copy_in<F: ReadMedium, E: Output>(
     }
 }
 
-fn copy_into<F: ReadMedium, T: Medium>(file: &mut CompoundFile<F>, medium: T) -> Result<(), Error>
+fn copy_into<F: ReadMedium, T: Medium>(
+    alloc: Global,
+    file: &mut CompoundFile<F>,
+    medium: T,
+) -> Result<(), Error>
     requires empty_medium { IsTrue T.tells → T.bytes medium ≡ [] }
 {
-    let _copy = file.copy_to(medium)?;
-    Ok(())
+    let buffer = AppendBuffer::over(alloc, medium)?;
+    let mut copy = file.copy_to(buffer)?;
+    copy.flush()
 }
 
 /// Tells of a stream that can't be read to its end, if one is found.

@@ -4,7 +4,8 @@ ghost use Rattle.cfb_journal.specs.Disk.{IsOpened};
 
 use crate::refusal::{Place as Blamed, Refusal};
 use crate::system::System;
-use cfb::{CompoundFile, Error, FileReadMedium, MediumFault, ReadMedium, seeded_options};
+use cfb::{CompoundFile, Error, FileReadMedium, Medium, MediumFault, ReadMedium, seeded_options};
+use cfb_append_buffer::buffer::AppendBuffer;
 use cfb_journal::disk::Disk;
 use cfb_journal::looking::Recovered;
 use cfb_journal::recovery::RecoveryError;
@@ -166,6 +167,17 @@ pub(super) fn opened<H: System, F: ReadMedium>(
     seeded_options(rt)
         .open_with(rt.alloc(), medium)
         .map_err(Refusal::Opening)
+}
+
+/// The compound file in it, to be changed. What is appended is held in memory until the file is flushed.
+pub(super) fn opened_to_change<H: System, F: Medium>(
+    rt: &H,
+    medium: F,
+) -> Result<CompoundFile<AppendBuffer<F>>, Refusal> {
+    match AppendBuffer::over(rt.alloc(), medium) {
+        Ok(buffer) => opened(rt, buffer),
+        Err(fault) => Err(Refusal::Opening(Error::Medium(fault))),
+    }
 }
 
 /// Whether something is there, be it a link that leads nowhere.

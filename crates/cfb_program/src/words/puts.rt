@@ -3,7 +3,7 @@
 ghost use Rattle.std.specs.Prelude.{IsTrue};
 ghost use Rattle.cfb_journal.specs.Disk.{IsOpened};
 
-use super::files::{Target, begun, committed, ended, opened, place_of, to_change};
+use super::files::{Target, begun, committed, ended, opened_to_change, place_of, to_change};
 use super::pieces::read_piece;
 use crate::lent::Lent;
 use crate::refusal::{Place, Refusal};
@@ -116,12 +116,13 @@ fn put_into<H: System, F: Medium, R: Read>(
     from: Place,
     piece: &mut Vec<u8>,
 ) -> Result<(), Refusal> {
-    let mut file = opened(rt, medium)?;
+    let mut file = opened_to_change(rt, medium)?;
     let mut stream = file.create_stream(stream)?;
     let written = write_pieces(&mut stream, input, from, piece);
     let closed = stream.close();
     written?;
-    closed.map_err(Refusal::Of)
+    closed?;
+    file.flush().map_err(Refusal::Of)
 }
 
 /// Writes all pieces.

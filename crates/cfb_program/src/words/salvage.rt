@@ -9,6 +9,7 @@ use crate::refusal::Refusal;
 use crate::shown::Shown;
 use crate::system::System;
 use cfb::{CompoundFile, Entry, Error, Extent, Medium, ReadMedium, Salvaged, seeded_options};
+use cfb_append_buffer::buffer::AppendBuffer;
 use cfb_mending::mending::mended;
 use std::alloc::Global;
 use std::io;
@@ -145,7 +146,7 @@ fn salvage_into<F: ReadMedium>(
     new: &NewFile,
 ) -> Result<Report, Refusal> {
     let mut made = new.medium().map_err(Refusal::of_other_system)?;
-    let extents = extents_of(file, Lent(&mut made));
+    let extents = extents_of(alloc, file, Lent(&mut made));
     match (extents, made.last_error()) {
         (Ok(extents), _) => Ok(report_of(alloc, file, &extents)?),
         (Err(Error::Medium(_)), Some(e)) => Err(Refusal::of_other_system(e)),
@@ -155,12 +156,19 @@ fn salvage_into<F: ReadMedium>(
 
 /// Fills the new file, and lets it go.
 fn extents_of<F: ReadMedium, T: Medium>(
+    alloc: Global,
     file: &mut CompoundFile<F>,
     medium: T,
 ) -> Result<Vec<Extent>, Error>
     requires empty_medium { IsTrue T.tells → T.bytes medium ≡ [] }
 {
-    let Salvaged { file: _, extents } = file.salvage_to(medium)?;
+    let buffer = AppendBuffer::over(alloc, medium)?;
+    let Salvaged {
+        file: made,
+        extents,
+    } = file.salvage_to(buffer)?;
+    let mut made = made;
+    made.flush()?;
     Ok(extents)
 }
 
