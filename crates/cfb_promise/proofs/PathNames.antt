@@ -30,11 +30,11 @@ onto_free x e (part ∷ parts) h = ap (λ b. not (b || list_any is_slash part) &
 
 parts_free : (path : List ℕ) → list_all is_free (slice_split is_slash path) ≡ true
 parts_free [] = refl
-parts_free (x ∷ path) = go (is_slash x) refl
+parts_free (x ∷ path) = go (is_slash x) refl (parts_free path)
   where
-    go : (b : Bool) → is_slash x ≡ b → list_all is_free (slice_split is_slash (x ∷ path)) ≡ true
-    go true e = ap (list_all is_free) (slice_split-cons_yes is_slash x path e) ∙ parts_free path
-    go false e = ap (list_all is_free) (slice_split-cons_no is_slash x path e) ∙ onto_free x e (slice_split is_slash path) (parts_free path)
+    go : (b : Bool) → is_slash x ≡ b → list_all is_free (slice_split is_slash path) ≡ true → list_all is_free (slice_split is_slash (x ∷ path)) ≡ true
+    go true e h = ap (list_all is_free) (slice_split-cons_yes is_slash x path e) ∙ h
+    go false e h = ap (list_all is_free) (slice_split-cons_no is_slash x path e) ∙ onto_free x e (slice_split is_slash path) h
 
 module _ {X : Type 0} (p : X → Bool) where
   all_taken : (n : ℕ) (xs : List X) → list_all p xs ≡ true → list_all p (take n xs) ≡ true
@@ -53,30 +53,33 @@ after_none : (parts : List (List ℕ)) → names_after parts None ≡ None
 after_none [] = refl
 after_none (part ∷ parts) = refl
 
+-- what these parts find after plain names is plain
+abbrev FoundPlain : List (List ℕ) → List (List ℕ) → Type 0
+FoundPlain parts found = (ns : List (List ℕ)) → list_all is_plain_name ns ≡ true → names_after parts (Some ns) ≡ Some found → list_all is_plain_name found ≡ true
+
 -- the names after the parts so far, last first
 after_plain : (parts names : List (List ℕ)) (found : List (List ℕ)) → list_all is_free parts ≡ true → list_all is_plain_name names ≡ true → names_after parts (Some names) ≡ Some found
     → list_all is_plain_name found ≡ true
 after_plain [] names found free plain is = subst (λ (ns : List (List ℕ)). list_all is_plain_name ns ≡ true) (same_Some names found is) plain
-after_plain (part ∷ parts) names found free plain is = nothing (part_says_nothing part) refl (part_says_parent part) refl
+after_plain (part ∷ parts) names found free plain is =
+    let each = both (is_free part) (list_all is_free parts) free in
+    nothing each.0 (λ ns. after_plain parts ns found each.1) (part_says_nothing part) refl (part_says_parent part) refl
   where
-    each : (is_free part ≡ true) × (list_all is_free parts ≡ true)
-    each = both (is_free part) (list_all is_free parts) free
-
     next : (a b : Bool) → part_says_nothing part ≡ a → part_says_parent part ≡ b → names_after parts (if a then Some names else if b then without_last names else Some (part ∷ names)) ≡ Some found
     next a b e f = (λ j. names_after parts (if sym e j then Some names else if sym f j then without_last names else Some (part ∷ names))) ∙ is
 
-    parent : (ns : List (List ℕ)) → list_all is_plain_name ns ≡ true → names_after parts (without_last ns) ≡ Some found → list_all is_plain_name found ≡ true
-    parent [] all at = absurd (none-some found (sym (after_none parts) ∙ at))
-    parent (name ∷ ns) all at = after_plain parts ns found each.1 (both (is_plain_name name) (list_all is_plain_name ns) all).1 at
+    parent : FoundPlain parts found → (ns : List (List ℕ)) → list_all is_plain_name ns ≡ true → names_after parts (without_last ns) ≡ Some found → list_all is_plain_name found ≡ true
+    parent rest [] all at = absurd (none-some found (sym (after_none parts) ∙ at))
+    parent rest (name ∷ ns) all at = rest ns (both (is_plain_name name) (list_all is_plain_name ns) all).1 at
 
-    plain_part : part_says_nothing part ≡ false → part_says_parent part ≡ false → is_plain_name part ≡ true
-    plain_part e f = (λ j. not (e j) && not (f j) && is_free part) ∙ each.0
+    plain_part : is_free part ≡ true → part_says_nothing part ≡ false → part_says_parent part ≡ false → is_plain_name part ≡ true
+    plain_part clear e f = (λ j. not (e j) && not (f j) && is_free part) ∙ clear
 
-    nothing : (a : Bool) → part_says_nothing part ≡ a → (b : Bool) → part_says_parent part ≡ b → list_all is_plain_name found ≡ true
-    nothing true e b f = after_plain parts names found each.1 plain (next true b e f)
-    nothing false e true f = parent names plain (next false true e f)
-    nothing false e false f =
-        after_plain parts (part ∷ names) found each.1 (both_back (is_plain_name part) (list_all is_plain_name names) (plain_part e f) plain) (next false false e f)
+    nothing : is_free part ≡ true → FoundPlain parts found → (a : Bool) → part_says_nothing part ≡ a → (b : Bool) → part_says_parent part ≡ b → list_all is_plain_name found ≡ true
+    nothing clear rest true e b f = rest names plain (next true b e f)
+    nothing clear rest false e true f = parent rest names plain (next false true e f)
+    nothing clear rest false e false f =
+        rest (part ∷ names) (both_back (is_plain_name part) (list_all is_plain_name names) (plain_part clear e f) plain) (next false false e f)
 
 names_plain : (path : List ℕ) (names : List (List ℕ)) → names_of_path path ≡ Some names → list_all is_plain_name names ≡ true
 unfolding names_of_path

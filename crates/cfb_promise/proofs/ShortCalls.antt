@@ -19,7 +19,7 @@ use Rattle.cfb_rules.specs.Calls.{Call, Reply, create_storage_all, create_stream
 use Rattle.cfb_rules.proofs.CallBreaks.{creation_is_full}
 use Rattle.cfb_rules.specs.Lists.{CallStep, ClosingStep, Deed, FileView, IsSeenAsBefore, LacksFor, LeavesAll, LeavesFile, StreamCallStep, by_call, by_closing, by_stream_call, causes_between, names_at}
 use Rattle.cfb_rules.specs.Refusal.{Refusal, failed_earlier, file_full, invalid_input, medium_failed, not_sound, out_of_memory}
-use Rattle.cfb_rules.specs.Runs.{BlamesOneOf, CallBreaksOff, Causes, CallRuns, Closes, FollowsRules, HasCause, IsBroken, IsStreamBroken, Setting, StreamBreaksOff, StreamCallRuns, StreamOnFailed, StreamRun, TreeState, Work, may_leave_failed}
+use Rattle.cfb_rules.specs.Runs.{BlamesOneOf, CallBreaksOff, Causes, CallRuns, Closes, FollowsRules, HasCause, IsBroken, IsStreamBroken, Setting, StreamBreaksOff, StreamCallRuns, StreamOnFailed, StreamRun, TreeState, Work, WorkMayBreak, may_leave_failed}
 use Rattle.cfb_rules.specs.Runs as rules
 use Rattle.cfb_rules.specs.Steps.{CallKind, asking, asking_freely, changing, creating, emptying, flushing, is_changing, is_there, kind_of, kind_on, outcome}
 use Rattle.cfb_rules.specs.StreamCalls.{Moves, Refuses, StreamReply, StreamState, StreamStep, not_done, offset}
@@ -459,20 +459,20 @@ module _ (cases : Cases) (version : Version) (sound : Bool) (names : List (List 
     writes_back (op.Write bytes) may = first_so _ _ may
     writes_back o may = may
 
-    left_here : (o : StreamOp A) (r : Refusal) → IsKept o → old.failed ≡ false → StreamBreaksOff s (work_of s o) r run_now → IsLeftBy s o r t new.failed
-    left_here o r kept was (inl x) = inl (x.0, ap (λ (z : StreamRun). z.stream) x.1, ap (λ (z : StreamRun). z.failed) x.1)
-    left_here o r kept was (inr x) = inr (writes_here o kept was x.1 x.0, x.1)
+    op_left_here : (o : StreamOp A) (r : Refusal) → IsKept o → old.failed ≡ false → StreamBreaksOff s (work_of s o) r run_now → IsLeftBy s o r t new.failed
+    op_left_here o r kept was (inl x) = inl (x.0, ap (λ (z : StreamRun). z.stream) x.1, ap (λ (z : StreamRun). z.failed) x.1)
+    op_left_here o r kept was (inr x) = inr (writes_here o kept was x.1 x.0, x.1)
 
-    left_back : (o : StreamOp A) (r : Refusal) → IsLeftBy s o r t new.failed → StreamBreaksOff s (work_of s o) r run_now
-    left_back o r (inl x) = inl (x.0, λ j. record { stream = x.1 j; failed = x.2 j })
-    left_back o r (inr x) = inr (writes_back o x.0, x.1)
+    op_left_back : (o : StreamOp A) (r : Refusal) → IsLeftBy s o r t new.failed → StreamBreaksOff s (work_of s o) r run_now
+    op_left_back o r (inl x) = inl (x.0, λ j. record { stream = x.1 j; failed = x.2 j })
+    op_left_back o r (inr x) = inr (writes_back o x.0, x.1)
 
     broken_op : (o : StreamOp A) → IsKept o → old.failed ≡ false → IsStreamBroken (lacks_of o) limits s (stream_call_of o) reply run_now → OpBreaks limits s o reply t new.failed
     broken_op o kept was x = (
       x.0,
       subst (λ (w : Work). CanBreak s.pending w x.0) (work_same o) (can_work (lacks_of o) s.pending (rules.work_of s (stream_call_of o)) x.0 x.1),
       x.2,
-      left_here o x.0 kept was (subst (λ (w : Work). StreamBreaksOff s w x.0 run_now) (work_same o) x.3),
+      op_left_here o x.0 kept was (subst (λ (w : Work). StreamBreaksOff s w x.0 run_now) (work_same o) x.3),
       allowed_here o x.4,
     )
 
@@ -482,7 +482,7 @@ module _ (cases : Cases) (version : Version) (sound : Bool) (names : List (List 
       subst (λ (w : Work). WorkMayBreak (lacks_of o) s.pending w x.0) (sym (work_same o))
           (may_work (lacks_of o) s.pending (work_of s o) x.0 tt (λ is. full (x.2 ∙ ap (λ (q : Refusal). not_done q) is)) x.1),
       x.2,
-      subst (λ (w : Work). StreamBreaksOff s w x.0 run_now) (sym (work_same o)) (left_back o x.0 x.3),
+      subst (λ (w : Work). StreamBreaksOff s w x.0 run_now) (sym (work_same o)) (op_left_back o x.0 x.3),
       allowed_back o x.4,
     )
 

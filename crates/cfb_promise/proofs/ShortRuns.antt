@@ -91,6 +91,18 @@ module _ (cases : Cases) (version : Version) (sound : Bool) where
   abbrev Long : File → Call → Reply → File → Type 0
   Long old call reply new = CallStep (seen_by cases version sound) (kept_by cases version sound) (setting_by cases version sound) old call reply new
 
+  -- the bytes are those of a file in which no entry is left
+  none_left : (old new : File) (path : List ℕ) (moment : ℕ) → Unfailed new (HasSoundBytes cases version new) → HasNoEntryOnTheWay cases version old path moment new → Unfailed new (HasNoEntry new.reading)
+  none_left old new path moment sound_now x calm =
+      let between = x.2 in
+      let there : HasSoundBytes cases version between = x.9.sound x.6 in
+      subst (λ (r : Reading). HasNoEntry r) (Reads-unique cases new.bytes between.reading new.reading
+      (subst (λ (b : List ℕ). Reads cases b between.reading) (sym x.5) there.reads) (sound_now calm).reads) x.7
+
+  sound_of : (b : Bool) (new : File) → IsTrue b → IsSet cases version b new → Unfailed new (HasSoundBytes cases version new)
+  sound_of true new is set = set
+  sound_of false new is set = absurd (let w : false ≡ true = is in cc)
+
   module _ {A : Type 0} where
     abbrev Here : File → Command A → Reply → File → Type 0
     Here old command reply new = short.CallRuns cases version sound old command reply new
@@ -102,14 +114,6 @@ module _ (cases : Cases) (version : Version) (sound : Bool) where
     full_to (command.Stream how.Create path ops) old new x lacks = (x, lacks x)
     full_to (command.Stream how.CreateNew path ops) old new x lacks = (x, lacks x)
     full_to c old new x lacks = (x, lacks x)
-
-    -- the bytes are those of a file in which no entry is left
-    none_left : (old new : File) (path : List ℕ) (moment : ℕ) → Unfailed new (HasSoundBytes cases version new) → HasNoEntryOnTheWay cases version old path moment new → Unfailed new (HasNoEntry new.reading)
-    none_left old new path moment sound_now x calm =
-        let between = x.2 in
-        let there : HasSoundBytes cases version between = x.9.sound x.6 in
-        subst (λ (r : Reading). HasNoEntry r) (Reads-unique cases new.bytes between.reading new.reading
-        (subst (λ (b : List ℕ). Reads cases b between.reading) (sym x.5) there.reads) (sound_now calm).reads) x.7
 
     full_from : (c : Command A) (old new : File) → Unfailed new (HasSoundBytes cases version new) → short.FullCall cases version sound old c new
         → FullByCall cases version old (call_of c) new × Unfailed new (HasNoEntry new.reading)
@@ -140,10 +144,6 @@ module _ (cases : Cases) (version : Version) (sound : Bool) where
     caused_to c old new reply h is calm =
         let k = call_caused cases version sound old new (call_of c) reply h is calm in
         (λ e. let x = k.0 e in full_to c old new x.0 x.1, λ e. memory_to c old new (k.1 e))
-
-    sound_of : (b : Bool) (new : File) → IsTrue b → IsSet cases version b new → Unfailed new (HasSoundBytes cases version new)
-    sound_of true new is set = set
-    sound_of false new is set = absurd (let w : false ≡ true = is in cc)
 
     caused_from : (c : Command A) (old new : File) (reply : Reply) → IsSet cases version sound new → IsCaused old c reply new
         → IsTrue sound → Caused cases version sound old new (call_of c) reply
