@@ -1,8 +1,8 @@
 -- Which refusals beside the rules an operation or a call can answer, where nothing is asked of them, and where it is.
-use Rattle.std.proofs.Common.{◌≡◌, Bool, true, false, refl, sym, ap, subst, ◌∙◌, ◌⊎◌, inl, inr}
+use Rattle.std.proofs.Common.{◌≡◌, Bool, true, false, refl, sym, subst, ◌⊎◌, inl, inr}
 use Rattle.std.specs.Prelude.{MatchBool, ⊤}
-use Rattle.cfb_rules.specs.Refusal.{Refusal, failed_earlier, file_full, is_of_rules, medium_failed, out_of_memory}
-use Rattle.cfb_rules.specs.Runs.{BlamesOneOf, CalmWorkMayBreak, Causes, IsStreamBroken, MayBreak, StreamCallRuns, StreamOnFailed, StreamRun, Work, WorkMayBreak, appending, is_served, moving, no_work, overwriting, reading, resizing, work_of, writing_out}
+use Rattle.cfb_rules.specs.Refusal.{Refusal, file_full, is_of_rules, medium_failed, out_of_memory}
+use Rattle.cfb_rules.specs.Runs.{BlamesOneOf, Causes, IsStreamBroken, MayBreak, StreamCallRuns, StreamOnFailed, StreamRun, Work, WorkMayBreak, appending, moving, no_work, resizing, work_of, writing_out}
 use Rattle.cfb_rules.specs.Steps.{CallKind, asking, asking_freely, creating, flushing, opening_to_read}
 use Rattle.cfb_rules.specs.StreamCalls.{StreamCall, StreamReply, StreamSetting, StreamStep, not_done}
 use Rattle.cfb_rules.proofs.RuleKinds.{StreamStep-rules}

@@ -6,7 +6,7 @@ use Rattle.std.proofs.lemmas.List.{reverse-append}
 use Rattle.std.proofs.lemmas.List.Folds.{list_all-append}
 use Rattle.std.proofs.lemmas.List.Splits.{slice_split-cons_no, slice_split-cons_yes}
 use Rattle.std.proofs.lemmas.Option.{none-some, same_Some}
-use Rattle.cfb_format.specs.Path.{is_plain_name, names_after, names_of_path, names_with, part_says_nothing, part_says_parent, path_of_names, slash, without_last}
+use Rattle.cfb_format.specs.Path.{is_plain_name, names_after, names_of_path, part_says_nothing, part_says_parent, path_of_names, slash, without_last}
 use Rattle.cfb_codecs.proofs.PathBack.{names-back}
 
 both : (a b : Bool) → (a && b) ≡ true → (a ≡ true) × (b ≡ true)

@@ -1,5 +1,5 @@
 -- What a step leaves alone: the bytes of the streams that it is not about, those of the header that speak of no table, and all but an open stream's content.
-use Rattle.std.proofs.Common.{◌≡◌, ◌<◌, ◌+◌, ◌/◌, ◌%◌, ◌∙◌, ℕ, suc, List, [], Bool, true, false, refl, sym, ap, subst, arith, inl, inr, mod-lt}
+use Rattle.std.proofs.Common.{◌≡◌, ◌<◌, ◌+◌, ◌/◌, ◌%◌, ◌∙◌, ℕ, suc, List, [], Bool, true, false, refl, sym, ap, subst, arith, inl, mod-lt}
 use Rattle.std.specs.Prelude.{Contains, Option, Some, None, if◌then◌else◌, option_and_then, unwrap_or}
 use Rattle.std.proofs.lemmas.Option.{get_or_from_slice_get, none-some, slice_get_within}
 use Rattle.cfb_format.specs.declared.error.Error.{Error}
