@@ -3,7 +3,7 @@ use Rattle.cfb_format.specs.Bytes.{max_stream_len}
 use Rattle.cfb_agreement.specs.Files.{IsFullFile}
 use Rattle.cfb_compound_file.specs.Flags.{still_is_tight}
 use Rattle.cfb_compound_file.proofs.Fitting.{fitting}
-use Rattle.cfb_compound_file.proofs.StoredStreams.{append_done, broken_kept, change_refused, changes_in_turn, stream_inside, stream_there}
+use Rattle.cfb_compound_file.proofs.StoredStreams.{append_done, broken_kept, change_refused, changes_in_turn, changes_tight, stream_inside, stream_there}
 use Rattle.cfb_compound_file.proofs.Heeding.{change_keeps_flags}
 use Rattle.cfb_compound_file.proofs.contents.CompoundFileContents.append.Goals as goal
 
@@ -37,7 +37,9 @@ returns-then-not-is_inside-clause-tight g c = rw (← c.self.view_is) (λ _. sti
 pub returns-clause-tight : goal.returns-clause-tight
 returns-clause-tight g c =
     let unfailed = sym c.is_failed.ensures ∙ c.if-is_failed.false in
-    rw (← c.self.view_is) (λ told. (c.append.ensures.changes told (c.self.invariant told unfailed)).grows)
+    rw (← c.self.view_is) (λ told.
+    let held = c.self.invariant told unfailed in
+    changes_tight c.args.id c.self.inside.volume c.append.new.self (c.append.ensures.changes told held) (c.append.ensures.agrees told held))
 
 pub returns-clause-len : goal.returns-clause-len
 returns-clause-len g c = rw (← c.self.view_is) c.append.ensures.len

@@ -2,7 +2,7 @@ use Rattle.std.proofs.Common.{◌≡◌, ◌∙◌, sym, subst}
 use Rattle.cfb_compound_file.specs.cfb_content.Contents.{IsTooLongFor}
 use Rattle.cfb_agreement.specs.Files.{FileState}
 use Rattle.cfb_compound_file.specs.Flags.{still_is_tight}
-use Rattle.cfb_compound_file.proofs.StoredStreams.{broken_kept, change_refused, changes_in_turn, full_then, resized_done, stream_there}
+use Rattle.cfb_compound_file.proofs.StoredStreams.{broken_kept, change_refused, changes_in_turn, changes_tight, full_then, resized_done, stream_there}
 use Rattle.cfb_compound_file.proofs.Heeding.{change_keeps_flags}
 use Rattle.cfb_compound_file.proofs.contents.CompoundFileContents.resize.Goals as goal
 
@@ -30,7 +30,9 @@ returns-clause-others g c =
 pub returns-clause-tight : goal.returns-clause-tight
 returns-clause-tight g c =
     let unfailed = sym c.is_failed.ensures ∙ c.if-is_failed.false in
-    rw (← c.self.view_is) (λ told. (c.resize.ensures.changes told (c.self.invariant told unfailed)).grows)
+    rw (← c.self.view_is) (λ told.
+    let held = c.self.invariant told unfailed in
+    changes_tight c.args.id c.self.inside.volume c.resize.new.self (c.resize.ensures.changes told held) (c.resize.ensures.agrees told held))
 
 pub returns-clause-counts : goal.returns-clause-counts
 returns-clause-counts g c = rw (← c.self.view_is) (λ told. c.resize.ensures.counts told)

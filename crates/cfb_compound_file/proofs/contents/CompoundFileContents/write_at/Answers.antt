@@ -4,7 +4,7 @@ use Rattle.cfb_compound_file.specs.cfb_mini_sectors.State.{MiniState, tables_in}
 use Rattle.cfb_agreement.specs.Files.{IsFullFile}
 use Rattle.cfb_compound_file.specs.cfb_content.Contents.{len_of}
 use Rattle.cfb_compound_file.specs.Flags.{still_is_tight}
-use Rattle.cfb_compound_file.proofs.StoredStreams.{broken_kept, change_refused, changes_in_turn, done_always, inside_too_long, stream_inside, stream_there, tables_tight, write_done, write_inside, write_same_len}
+use Rattle.cfb_compound_file.proofs.StoredStreams.{broken_kept, change_refused, changes_in_turn, changes_tight, done_always, inside_too_long, stream_inside, stream_there, tables_tight, write_done, write_inside, write_same_len}
 use Rattle.cfb_compound_file.proofs.Heeding.{change_keeps_flags}
 use Rattle.cfb_compound_file.proofs.contents.CompoundFileContents.write_at.Goals as goal
 
@@ -38,13 +38,16 @@ returns-then-not-is_inside-clause-tight g c = rw (← c.self.view_is) (λ _. sti
 pub returns-clause-tight : goal.returns-clause-tight
 returns-clause-tight g c =
     let unfailed = sym c.is_failed.ensures ∙ c.if-is_failed.false in
-    rw (← c.self.view_is) (λ told. (c.write.ensures.changes told (c.self.invariant told unfailed)).grows)
+    rw (← c.self.view_is) (λ told.
+    let held = c.self.invariant told unfailed in
+    changes_tight c.args.id c.self.inside.volume c.write.new.self (c.write.ensures.changes told held) (c.write.ensures.agrees told held))
 
 pub returns-clause-inside : goal.returns-clause-inside
 returns-clause-inside g c =
     let unfailed = sym c.is_failed.ensures ∙ c.if-is_failed.false in
     rw (← c.self.view_is) (λ told within first k. tables_tight first c.self.inside.volume c.write.new.self unfailed
-    (ap (λ (s : MiniState). tables_in s) (c.write.ensures.within (write_inside c.args.at (length c.args.bytes.now) (len_of c.self.inside.volume.base c.args.id) within))) k)
+    (ap (λ (s : MiniState). tables_in s) (c.write.ensures.within (write_inside c.args.at (length c.args.bytes.now) (len_of c.self.inside.volume.base c.args.id) within)))
+    (c.write.ensures.agrees told (c.self.invariant told unfailed)) k)
 
 pub returns-clause-takes_none : goal.returns-clause-takes_none
 returns-clause-takes_none g c = rw (← c.self.view_is) (λ told within. done_always c.write.result (λ len long. inside_too_long c.self.inside.volume.base c.write.new.self.base c.args.id len
