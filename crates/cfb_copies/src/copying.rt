@@ -1,5 +1,6 @@
 //! A whole file copied into an empty medium.
 ghost use Rattle.std.specs.Prelude.{◌≡◌, ◌<◌, ◌≤◌, ◌||◌, [], false, true, length, IsTrue, IfOk, IfErr, IfSome, IsErrAnd, MatchOption, OnOk, slice_index_or};
+ghost use Rattle.cfb_volume.specs.Changing.{CanChange};
 ghost use Rattle.cfb_format.specs.Content.{mini_stream_cutoff};
 ghost use Rattle.cfb_format.specs.declared.error.Error.TheVariants.{Failed};
 ghost use Rattle.cfb_format.specs.Meaning.{Means};
@@ -59,8 +60,7 @@ fn copy_listed<F: ReadMedium, W: Medium, A: Heap + Clone>(
     requires copyable { AreCopyable source.old list.now }
     requires in_version { version_of target.old.base ≡ version_of source.old.base }
     requires letters { cases_of target.old.base ≡ cases_of source.old.base }
-    requires sound { target.old.is_sound ≡ true }
-    requires unfailed { is_failed target.old ≡ false }
+    requires can_change { CanChange target.old }
     ensures reads { IsReadOnly F.tells source.old source.new }
     ensures grows { OnOk result (GrowsTree W.tells target.old target.new) }
     ensures tree { IsTrue F.tells → IsTrue W.tells → (tree : Tree) (o : Outline)
@@ -103,8 +103,7 @@ pub(crate) fn fill<F: ReadMedium, W: Medium, A: Heap + Clone>(
     requires copyable { AreCopyable source.old list.now }
     requires in_version { version_of target.old.base ≡ version_of source.old.base }
     requires letters { cases_of target.old.base ≡ cases_of source.old.base }
-    requires sound { target.old.is_sound ≡ true }
-    requires unfailed { is_failed target.old ≡ false }
+    requires can_change { CanChange target.old }
     ensures reads { IsReadOnly F.tells source.old source.new }
     ensures grows { OnOk result (GrowsTree W.tells target.old target.new) }
     ensures tree { IsTrue F.tells → IsTrue W.tells → Holds source.old → Holds target.old

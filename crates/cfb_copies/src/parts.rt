@@ -1,5 +1,6 @@
 //! One object copied, with its fields and its bytes, but without what is in it.
 ghost use Rattle.std.specs.Prelude.{◌≡◌, ◌+◌, ◌↔◌, ◌≤◌, ◌||◌, ◌∷◌, ℕ, List, false, true, length, chars, IsTrue, IfOk, IfErr, OnOk};
+ghost use Rattle.cfb_volume.specs.Changing.{CanChange};
 ghost use Rattle.cfb_format.specs.Content.{mini_stream_cutoff};
 ghost use Rattle.cfb_format.specs.DirectoryEntry.{Entry};
 ghost use Rattle.cfb_format.specs.Refused.{IsBreak};
@@ -70,8 +71,7 @@ fn insert_like<W: Medium, A: Heap + Clone>(
     target: &mut Volume<W, A>,
 ) -> Result<u32, Error>
     requires like { CanBeLike (entries_in entries.now) entry }
-    requires sound { target.old.is_sound ≡ true }
-    requires unfailed { is_failed target.old ≡ false }
+    requires can_change { CanChange target.old }
     requires parent { IsReachedIn target.old parent }
     ensures grows { OnOk result (GrowsTree W.tells target.old target.new) }
     ensures is_new { IfOk result (λ n. IsNewIn target.old target.new parent n
@@ -127,8 +127,7 @@ pub(crate) fn copy_object<F: ReadMedium, W: Medium, A: Heap + Clone>(
     requires room { mini_stream_cutoff ≤ length piece.old }
     requires copyable { IsCopyable source.old entry }
     requires in_version { version_of target.old.base ≡ version_of source.old.base }
-    requires sound { target.old.is_sound ≡ true }
-    requires unfailed { is_failed target.old ≡ false }
+    requires can_change { CanChange target.old }
     requires parent { IsReachedIn target.old parent }
     ensures reads { IsReadOnly F.tells source.old source.new }
     ensures grows { OnOk result (GrowsTree W.tells target.old target.new) }

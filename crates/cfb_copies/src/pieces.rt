@@ -1,5 +1,6 @@
 //! The bytes of a stream, copied piece by piece.
 ghost use Rattle.std.specs.Prelude.{◌≡◌, ◌+◌, ◌^◌, ◌<◌, ◌≤◌, ◌||◌, false, true, length, IsTrue, IfErr, OnOk};
+ghost use Rattle.cfb_volume.specs.Changing.{CanChange};
 ghost use Rattle.cfb_format.specs.Bytes.{max_stream_len};
 ghost use Rattle.cfb_format.specs.Content.{mini_stream_cutoff};
 ghost use Rattle.cfb_format.specs.Medium.{part};
@@ -62,8 +63,7 @@ pub(crate) fn copy_bytes<F: ReadMedium, W: Medium, A: Heap + Clone>(
     requires from { from < length (entries_of source.old.base) }
     requires within { len ≤ len_of source.old.base from }
     requires fits { len ≤ max_stream_len (version_of target.old.base) }
-    requires sound { target.old.is_sound ≡ true }
-    requires unfailed { is_failed target.old ≡ false }
+    requires can_change { CanChange target.old }
     requires stream { IsStreamOf target.old.base to }
     requires empty { len_of target.old.base to ≡ 0 }
     ensures reads { IsReadOnly F.tells source.old source.new }

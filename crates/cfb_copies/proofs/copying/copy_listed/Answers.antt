@@ -26,7 +26,7 @@ loop-place-init g c =
       room = refl;
       reads = read_none g.F.ReadMedium.tells c.args.source.now;
       calm = λ told. refl;
-      grows = grows_none g.W.ReadMedium.tells c.args.target.now c.requires.unfailed (ordered c.args.target.now c.entries-target.ensures.in_order);
+      grows = grows_none g.W.ReadMedium.tells c.args.target.now c.requires.can_change.unfailed (ordered c.args.target.now c.entries-target.ensures.in_order);
       so_far = none;
       numbered = λ o is j below. absurd (omega (arith, below, none));
       way = λ told tells tree o is ready. way_starts c.args.target.now (parts_in_file c.args.source.now o) tree ready.means (ready.allowed o is);
@@ -39,11 +39,11 @@ loop-place-init g c =
 pub copy_object-requires-clause-room : goal.copy_object-requires-clause-room
 copy_object-requires-clause-room g c = omega (arith, c.loop-place.invariant.room, c.requires.room)
 
-pub copy_object-requires-clause-sound : goal.copy_object-requires-clause-sound
-copy_object-requires-clause-sound g c = c.loop-place.invariant.grows.setting.is_sound ∙ c.requires.sound
-
-pub copy_object-requires-clause-unfailed : goal.copy_object-requires-clause-unfailed
-copy_object-requires-clause-unfailed g c = c.loop-place.invariant.grows.unfailed
+pub copy_object-requires-clause-can_change : goal.copy_object-requires-clause-can_change
+copy_object-requires-clause-can_change g c = record {
+  sound = c.loop-place.invariant.grows.setting.is_sound ∙ c.requires.can_change.sound;
+  unfailed = c.loop-place.invariant.grows.unfailed;
+}
 
 pub copy_object-requires-clause-in_version : goal.copy_object-requires-clause-in_version
 copy_object-requires-clause-in_version g c =
@@ -91,6 +91,7 @@ returns-in_err-number-clause-err g c told tells tree ready =
     (subst (λ (es : List Entry). TakesName target c.number_above-parent.result (entry_at es (number_at list at)).name) (sym i.reads.entries) takes))
 
 -- numbers are not what lacked
+
 pub returns-in_err-number-clause-enough : goal.returns-in_err-number-clause-enough
 returns-in_err-number-clause-enough g c told tells tree o is ready room =
     let p = err_from_is_err_and c.from_residual.result c.from_residual.ensures.1 in

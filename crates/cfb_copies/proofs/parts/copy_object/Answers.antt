@@ -69,7 +69,7 @@ returns-in_err-copy_bytes-in-Stream-clause-enough g c told tells holds target wh
     let joins = joined_as (cases_of old.base) (bytes_of old.base) (bytes_of mid.base) content e part is
     (tree is.first is.rest (above_as old c.args.parent content e part is to) (named_as content e part is)) in
     let kept = c.in_ok-len-in-Stream.ensures.kept told holds whole kind in
-    let can = filled_for g.W.ReadMedium.tells tells old mid n content e part is kind target w.grows w.used (w.grows.setting.is_sound ∙ c.requires.sound) stream
+    let can = filled_for g.W.ReadMedium.tells tells old mid n content e part is kind target w.grows w.used (w.grows.setting.is_sound ∙ c.requires.can_change.sound) stream
     (new_leads old mid c.args.parent n content e part is new_in to) joins room c.in_ok-len-in-Stream.len kept in
     rw (p.1, p.2) (c.in_err-copy_bytes-in-Stream.ensures.enough told tells holds (w.grows.holds tells target) kept can)
 
@@ -116,7 +116,7 @@ returns-in_ok-copy_bytes-in-Stream-clause-tree g c told tells holds target whole
     let new_in = subst (λ (es : List Entry). IsNewIn old mid c.args.parent n (entry_at es c.args.entry).name) same w.is_new in
     let tree = subst (λ (es : List Entry). (first : List ℕ) (names : List (List ℕ)) → LeadToEntry old (parent_names (first ∷ names)) c.args.parent → last_name (first ∷ names) ≡ (entry_at es c.args.entry).name
     → BecomesTree (cases_of old.base) (bytes_of old.base) (bytes_of mid.base) (like_added (cases_of old.base) (entry_at es c.args.entry) (first ∷ names))) same (w.tree tells target) in
-    stream_tree g.W.ReadMedium.tells tells old mid new n content e part is kind w.grows.setting.limits.cases held (w.grows.setting.is_sound ∙ c.requires.sound) stream b.fills
+    stream_tree g.W.ReadMedium.tells tells old mid new n content e part is kind w.grows.setting.limits.cases held (w.grows.setting.is_sound ∙ c.requires.can_change.sound) stream b.fills
     (b.content told tells holds held (c.in_ok-len-in-Stream.ensures.kept told holds whole kind)) (new_leads old mid c.args.parent n content e part is new_in to)
     (joined_as (cases_of old.base) (bytes_of old.base) (bytes_of mid.base) content e part is
     (tree is.first is.rest (above_as old c.args.parent content e part is to) (named_as content e part is)))
