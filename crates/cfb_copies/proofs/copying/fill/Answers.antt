@@ -93,7 +93,7 @@ returns-clause-tree g c told tells holds target kept none =
     subst (λ (x : Fields). GivesFields (entry_at (entries_of old.base) 0) x (λ (info : StorageInfo). storage_info root) same_stream) (sym is) (gives_all root (entry_at (entries_of old.base) 0) own at)) in
     let means = starts source old (bytes_of mid.base) target none
     (subst (λ (e : Entry). BecomesTree (cases_of old.base) (bytes_of old.base) (bytes_of mid.base) (fields_changed_at (cases_of old.base) (λ (info : StorageInfo). storage_info e) same_stream [])) is_root becomes) in
-    let cases = s.ends.setting.limits.cases ∙ c.requires.letters in
+    let cases = s.ends.setting.limits.cases ∙ c.requires.can_copy.letters in
     let laws = c.parts_stand_at_places.ensures in
     let ready : AreReady c.args.keep source mid c.args.list.now (root_alone source) = record {
       held = holds;
@@ -126,9 +126,9 @@ returns-clause-err g c told tells holds target kept none =
     subst (λ (x : Fields). GivesFields (entry_at (entries_of old.base) 0) x (λ (info : StorageInfo). storage_info root) same_stream) (sym is) (gives_all root (entry_at (entries_of old.base) 0) own at)) in
     let means = starts source old (bytes_of mid.base) target none
     (subst (λ (e : Entry). BecomesTree (cases_of old.base) (bytes_of old.base) (bytes_of mid.base) (fields_changed_at (cases_of old.base) (λ (info : StorageInfo). storage_info e) same_stream [])) is_root becomes) in
-    let cases = s.ends.setting.limits.cases ∙ c.requires.letters in
+    let cases = s.ends.setting.limits.cases ∙ c.requires.can_copy.letters in
     let laws = c.parts_stand_at_places.ensures in
-    c.copy_listed.ensures.err told tells (root_alone source) (record {
+    c.copy_listed.ensures.error.err told tells (root_alone source) (record {
       held = holds;
       target_held = s.ends.agrees tells target s.ends.ended;
       kept = kept;
@@ -152,12 +152,12 @@ returns-clause-enough g c told tells holds target kept none fresh fits =
     subst (λ (x : Fields). GivesFields (entry_at (entries_of old.base) 0) x (λ (info : StorageInfo). storage_info root) same_stream) (sym is) (gives_all root (entry_at (entries_of old.base) 0) own at)) in
     let means = starts source old (bytes_of mid.base) target none
     (subst (λ (e : Entry). BecomesTree (cases_of old.base) (bytes_of old.base) (bytes_of mid.base) (fields_changed_at (cases_of old.base) (λ (info : StorageInfo). storage_info e) same_stream [])) is_root becomes) in
-    let cases = s.ends.setting.limits.cases ∙ c.requires.letters in
+    let cases = s.ends.setting.limits.cases ∙ c.requires.can_copy.letters in
     let laws = c.parts_stand_at_places.ensures in
     let o = holds.outline in
     let is = holds.reads.outline in
     let goal = parts_copied (cases_of mid.base) (parts_in_file source o) (root_alone source) in
-    let version : version_of mid.base ≡ version_of source.base = s.ends.setting.limits.version ∙ c.requires.in_version in
+    let version : version_of mid.base ≡ version_of source.base = s.ends.setting.limits.version ∙ c.requires.can_copy.in_version in
     let ready : AreReady c.args.keep source mid c.args.list.now (root_alone source) = record {
       held = holds;
       target_held = s.ends.agrees tells target s.ends.ended;
@@ -174,4 +174,18 @@ returns-clause-enough g c told tells holds target kept none fresh fits =
           (subst (λ (t : Tree). IsTooLarge (version_of source.base) max_regular_sector t → ⊥)
           (sym (ends source laws.ordered o is c.copied_objects_are_the_tree.ensures.tree (cases_of mid.base) cases)) (fits (tree_in source holds) (means_in source holds)));
     } in
-    c.copy_listed.ensures.enough told tells (root_alone source) o is ready room
+    c.copy_listed.ensures.error.enough told tells (root_alone source) o is ready room
+
+pub copy_listed-requires-clause-can_change : goal.copy_listed-requires-clause-can_change
+copy_listed-requires-clause-can_change g c = record {
+  sound = first_of (search rules, grind (arith, common_steps));
+  unfailed = first_of (search rules, grind (arith, common_steps));
+}
+
+pub copy_listed-requires-clause-can_copy : goal.copy_listed-requires-clause-can_copy
+copy_listed-requires-clause-can_copy g c = record {
+  listed = first_of (search rules, grind (arith, common_steps));
+  copyable = first_of (search rules, grind (arith, common_steps));
+  in_version = first_of (search rules, grind (arith, common_steps));
+  letters = first_of (search rules, grind (arith, common_steps));
+}

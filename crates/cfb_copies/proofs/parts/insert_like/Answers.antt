@@ -1,4 +1,5 @@
-use Rattle.std.proofs.Common.{◌≡◌, ◌⊎◌, ◌∷◌, ℕ, List, false, true, sym, ◌∙◌, ap, subst, rules, IsTrue}
+use Rattle.std.proofs.lemmas.Grind.{common_steps}
+use Rattle.std.proofs.Common.{◌≡◌, ◌⊎◌, ◌∷◌, ℕ, List, false, true, sym, ◌∙◌, ap, subst, rules, IsTrue, arith}
 use Rattle.std.proofs.lemmas.Result.{err_from_is_err_and}
 use Rattle.cfb_format.specs.declared.objtype.ObjType.{ObjType}
 use Rattle.cfb_format.specs.declared.objtype.ObjType.TheVariants.{Storage, Stream}
@@ -55,26 +56,47 @@ set_fields-requires-clause-can_set g c = record {
       );
 }
 
-pub returns-clause-grows : goal.returns-clause-grows
-returns-clause-grows g c =
-    let tells = g.W.ReadMedium.tells in
+pub returns-clause-added : goal.returns-clause-added
+returns-clause-added g c =
     let old = c.args.target.now in
     let mid = c.insert.new.self in
     let new = c.set_fields.new.self in
     let w = c.in_ok-number.ensures in
     let s = c.in_ok-set_fields.ensures in
-    grows_then tells old mid new
-    (grows_by tells old mid w.ends.setting w.ends.ended (ordered old c.entries-before.ensures.in_order) (ordered mid c.entries-between.ensures.in_order) w.around.stays
-    (put_tight old.base mid.base w.ends.setting.limits.version w.takes.minifat w.takes.slots) (λ told holds. w.ends.agrees told holds)
-    (λ told. w.keeps.header told) (λ told holds made. parts-keep-made old.base mid.base (w.keeps.parts told holds) made) w.takes.stays_full (λ told. w.ends.counts told))
-    (grows_by tells mid new s.ends.setting s.ends.ended (ordered mid c.entries-between.ensures.in_order) (ordered new c.entries-behind.ensures.in_order)
-    (λ before after was is names k at. s.around.finds before after was is names ∙ at)
-    (marked_tight mid.base new.base c.in_ok-number.number s.fields.entries.0 s.fields.entries.2 s.ends.setting.limits.version s.around.minifat) (λ told holds. s.ends.agrees told holds) (λ told. s.keeps.header told) (λ told holds made. parts-keep-made mid.base new.base (s.keeps.parts told holds) made) (same_tables mid new s.around.tables) (λ told. s.ends.counts told))
+    record {
+      grows = (
+          let tells = g.W.ReadMedium.tells in
+          grows_then tells old mid new
+          (grows_by tells old mid w.ends.setting w.ends.ended (ordered old c.entries-before.ensures.in_order) (ordered mid c.entries-between.ensures.in_order) w.around.stays
+          (put_tight old.base mid.base w.ends.setting.limits.version w.takes.minifat w.takes.slots) (λ told holds. w.ends.agrees told holds)
+          (λ told. w.keeps.header told) (λ told holds made. parts-keep-made old.base mid.base (w.keeps.parts told holds) made) w.takes.stays_full (λ told. w.ends.counts told))
+          (grows_by tells mid new s.ends.setting s.ends.ended (ordered mid c.entries-between.ensures.in_order) (ordered new c.entries-behind.ensures.in_order)
+          (λ before after was is names k at. s.around.finds before after was is names ∙ at)
+          (marked_tight mid.base new.base c.in_ok-number.number s.fields.entries.0 s.fields.entries.2 s.ends.setting.limits.version s.around.minifat) (λ told holds. s.ends.agrees told holds) (λ told. s.keeps.header told) (λ told holds made. parts-keep-made mid.base new.base (s.keeps.parts told holds) made) (same_tables mid new s.around.tables) (λ told. s.ends.counts told))
+          );
+      is_new = (
+          let n = c.in_ok-number.number in
+          let was = c.entries-before.ensures.in_order in
+          let between = ordered mid c.entries-between.ensures.in_order in
+          let stays : KeepsFound mid.base new.base = λ before after was is names k at. s.around.finds before after was is names ∙ at in
+          record {
+            reached = reached_still mid new n between stays w.object.named;
+            found = λ first names to last. leads_still mid new (first ∷ names) n between stays
+                (λ o is. w.object.found first names was.outline o was.is is (to was.outline was.is) (last ∙ sym c.name_of-name.ensures));
+          }
+          );
+      used = marked_used c.insert.new.self.base c.set_fields.new.self.base c.in_ok-number.number s.fields.entries.0 s.fields.entries.2 ∙ c.in_ok-number.ensures.takes.slots.used;
+    }
 
-pub returns-then-not-takes_name-clause-err : goal.returns-then-not-takes_name-clause-err
-returns-then-not-takes_name-clause-err g c told holds takes =
-    absurd (let w : false ≡ true = sym c.if-not-takes_name.true
-    ∙ c.takes_name.ensures.1 (subst (λ (name : List ℕ). TakesName c.args.target.now c.args.parent name) (sym c.name_of-name.ensures) takes) in cc)
+pub returns-then-not-takes_name-clause-error : goal.returns-then-not-takes_name-clause-error
+returns-then-not-takes_name-clause-error g c = record {
+  err = λ told holds takes. (
+      absurd (let w : false ≡ true = sym c.if-not-takes_name.true
+      ∙ c.takes_name.ensures.1 (subst (λ (name : List ℕ). TakesName c.args.target.now c.args.parent name) (sym c.name_of-name.ensures) takes) in cc)
+      );
+  enough = first_of (search rules, grind (arith, common_steps));
+  fault = first_of (search rules, grind (arith, common_steps));
+}
 
 pub insert-requires-clause-can_insert : goal.insert-requires-clause-can_insert
 insert-requires-clause-can_insert g c = record {
@@ -88,42 +110,23 @@ insert-requires-clause-can_insert g c = record {
   kinds = subst (λ (k : ObjType). (k ≡ Storage) ⊎ (k ≡ Stream)) (sym (ap (λ (e : Entry). e.obj_type) c.listed_entry-like.ensures)) c.requires.like.object;
 }
 
-pub returns-in_err-number-clause-err : goal.returns-in_err-number-clause-err
-returns-in_err-number-clause-err g c told holds takes =
+pub returns-in_err-number-clause-error : goal.returns-in_err-number-clause-error
+returns-in_err-number-clause-error g c =
     let p = err_from_is_err_and c.from_residual.result c.from_residual.ensures.1 in
-    rw (p.1, p.2) (break_at_all _ c.in_err-number.field-0.0 (c.in_err-number.ensures.error.err told holds))
-
-pub returns-in_err-number-clause-fault : goal.returns-in_err-number-clause-fault
-returns-in_err-number-clause-fault g c told =
-    let p = err_from_is_err_and c.from_residual.result c.from_residual.ensures.1 in
-    rw (p.1, p.2) (counted_gives _ _ _ c.in_err-number.field-0.0 (c.in_err-number.ensures.ends.counts told))
-
-pub returns-in_err-set_fields-clause-err : goal.returns-in_err-set_fields-clause-err
-returns-in_err-set_fields-clause-err g c told holds takes =
-    let p = err_from_is_err_and c.from_residual-in_err-set_fields.result c.from_residual-in_err-set_fields.ensures.1 in
-    let w = c.in_ok-number.ensures in
-    rw (p.1, p.2) (medium_breaks _ c.in_err-set_fields.field-0.0 (c.in_err-set_fields.ensures.err told (w.ends.agrees told holds w.ends.ended)))
-
-pub returns-in_err-set_fields-clause-fault : goal.returns-in_err-set_fields-clause-fault
-returns-in_err-set_fields-clause-fault g c told =
-    let p = err_from_is_err_and c.from_residual-in_err-set_fields.result c.from_residual-in_err-set_fields.ensures.1 in
-    rw (p.1, p.2) (counted_gives _ _ _ c.in_err-set_fields.field-0.0 (c.in_err-set_fields.ensures.ends.counts told))
-
-pub returns-clause-is_new : goal.returns-clause-is_new
-returns-clause-is_new g c =
-    let old = c.args.target.now in
-    let mid = c.insert.new.self in
-    let new = c.set_fields.new.self in
-    let w = c.in_ok-number.ensures in
-    let s = c.in_ok-set_fields.ensures in
-    let n = c.in_ok-number.number in
-    let was = c.entries-before.ensures.in_order in
-    let between = ordered mid c.entries-between.ensures.in_order in
-    let stays : KeepsFound mid.base new.base = λ before after was is names k at. s.around.finds before after was is names ∙ at in
     record {
-      reached = reached_still mid new n between stays w.object.named;
-      found = λ first names to last. leads_still mid new (first ∷ names) n between stays
-          (λ o is. w.object.found first names was.outline o was.is is (to was.outline was.is) (last ∙ sym c.name_of-name.ensures));
+      err = λ told holds takes. rw (p.1, p.2) (break_at_all _ c.in_err-number.field-0.0 (c.in_err-number.ensures.error.err told holds));
+      enough = λ told holds enough. rw (p.1, p.2) (λ full. enough (full_why _ _ _ _ c.in_err-number.field-0.0 (c.in_err-number.ensures.error.reason holds) full));
+      fault = λ told. rw (p.1, p.2) (counted_gives _ _ _ c.in_err-number.field-0.0 (c.in_err-number.ensures.ends.counts told));
+    }
+
+pub returns-in_err-set_fields-clause-error : goal.returns-in_err-set_fields-clause-error
+returns-in_err-set_fields-clause-error g c =
+    let p = err_from_is_err_and c.from_residual-in_err-set_fields.result c.from_residual-in_err-set_fields.ensures.1 in
+    let w = c.in_ok-number.ensures in
+    record {
+      err = λ told holds takes. rw (p.1, p.2) (medium_breaks _ c.in_err-set_fields.field-0.0 (c.in_err-set_fields.ensures.err told (w.ends.agrees told holds w.ends.ended)));
+      enough = λ told holds enough. rw (p.1, p.2) (medium_not_full _ c.in_err-set_fields.field-0.0 (c.in_err-set_fields.ensures.err told (w.ends.agrees told holds w.ends.ended)));
+      fault = λ told. rw (p.1, p.2) (counted_gives _ _ _ c.in_err-set_fields.field-0.0 (c.in_err-set_fields.ensures.ends.counts told));
     }
 
 pub returns-clause-is_like : goal.returns-clause-is_like
@@ -161,20 +164,4 @@ returns-clause-tree g c told holds first names to last =
     (λ f g gives. s.fields.tree told (w.ends.agrees told holds w.ends.ended) f g (first ∷ names) between.outline between.is there
     (λ fields post. let is : fields ≡ fields_like like (fields_in midE) = search rules in subst (λ (x : Fields). GivesFields midE x f g) (sym is) gives)))
 
-pub returns-clause-used : goal.returns-clause-used
-returns-clause-used g c =
-    let s = c.in_ok-set_fields.ensures in
-    marked_used c.insert.new.self.base c.set_fields.new.self.base c.in_ok-number.number s.fields.entries.0 s.fields.entries.2 ∙ c.in_ok-number.ensures.takes.slots.used
-
 -- ---- numbers are not what lacked
-
-pub returns-in_err-number-clause-enough : goal.returns-in_err-number-clause-enough
-returns-in_err-number-clause-enough g c told holds enough =
-    let p = err_from_is_err_and c.from_residual.result c.from_residual.ensures.1 in
-    rw (p.1, p.2) (λ full. enough (full_why _ _ _ _ c.in_err-number.field-0.0 (c.in_err-number.ensures.error.reason holds) full))
-
-pub returns-in_err-set_fields-clause-enough : goal.returns-in_err-set_fields-clause-enough
-returns-in_err-set_fields-clause-enough g c told holds enough =
-    let p = err_from_is_err_and c.from_residual-in_err-set_fields.result c.from_residual-in_err-set_fields.ensures.1 in
-    let w = c.in_ok-number.ensures in
-    rw (p.1, p.2) (medium_not_full _ c.in_err-set_fields.field-0.0 (c.in_err-set_fields.ensures.err told (w.ends.agrees told holds w.ends.ended)))

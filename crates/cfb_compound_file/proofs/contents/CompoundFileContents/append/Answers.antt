@@ -1,4 +1,5 @@
-use Rattle.std.proofs.Common.{◌≡◌, ◌∙◌, ap, arith, false, sym, true}
+use Rattle.std.proofs.lemmas.Grind.{common_steps}
+use Rattle.std.proofs.Common.{◌≡◌, ◌∙◌, ap, arith, false, sym, true, rules}
 use Rattle.cfb_format.specs.Bytes.{max_stream_len}
 use Rattle.cfb_agreement.specs.Files.{IsFullFile}
 use Rattle.cfb_compound_file.specs.Flags.{still_is_tight}
@@ -100,3 +101,9 @@ pub returns-clause-any : goal.returns-clause-any
 returns-clause-any g c =
     let unfailed = sym c.is_failed.ensures ∙ c.if-is_failed.false in
     rw (← c.self.view_is) (change_keeps_flags _ _ _ c.append.result c.append.ensures.ends.setting unfailed c.append.ensures.ends.ended c.append.ensures.ends.in_memory)
+
+pub append-requires-clause-can_change : goal.append-requires-clause-can_change
+append-requires-clause-can_change g c = record {
+  sound = first_of (search rules, grind (arith, common_steps));
+  unfailed = first_of (search rules, grind (arith, common_steps));
+}

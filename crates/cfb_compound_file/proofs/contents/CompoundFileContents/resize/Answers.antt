@@ -79,3 +79,9 @@ pub returns-clause-leaves_room : goal.returns-clause-leaves_room
 returns-clause-leaves_room g c =
     let unfailed = sym c.is_failed.ensures ∙ c.if-is_failed.false in
     rw (← c.self.view_is) (λ told takes longer. c.resize.ensures.room.leaves_room told (c.self.invariant told unfailed) longer)
+
+pub resize-requires-clause-can_change : goal.resize-requires-clause-can_change
+resize-requires-clause-can_change g c = record {
+  sound = first_of (search rules, grind (arith, common_steps));
+  unfailed = first_of (search rules, grind (arith, common_steps));
+}

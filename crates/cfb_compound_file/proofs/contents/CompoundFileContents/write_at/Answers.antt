@@ -100,3 +100,9 @@ pub returns-clause-any : goal.returns-clause-any
 returns-clause-any g c =
     let unfailed = sym c.is_failed.ensures ∙ c.if-is_failed.false in
     rw (← c.self.view_is) (change_keeps_flags _ _ _ c.write.result c.write.ensures.ends.setting unfailed c.write.ensures.ends.ended c.write.ensures.ends.in_memory)
+
+pub write-requires-clause-can_change : goal.write-requires-clause-can_change
+write-requires-clause-can_change g c = record {
+  sound = first_of (search rules, grind (arith, common_steps));
+  unfailed = first_of (search rules, grind (arith, common_steps));
+}
