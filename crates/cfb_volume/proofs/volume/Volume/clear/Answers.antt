@@ -47,7 +47,7 @@ returns-in_err-clear-clause-keeps g c =
 pub returns-in_err-clear-clause-ends : goal.returns-in_err-clear-clause-ends
 returns-in_err-clear-clause-ends g c =
     let mid = c.clear.new.self in
-    let stops = subst (λ (f : FileState). StopsShort f.base mid c.in_err-clear.field-0.0) c.self.view_is c.in_err-clear.ensures.ends.refused in
+    let stops = subst (λ (f : FileState). StopsShort f.base mid c.in_err-clear.field-0.0) c.self.view_is c.in_err-clear.ensures.refused in
     let old = c.args.self.now in
     let p = err_from_is_err_and c.from_residual.result c.from_residual.ensures.1 in
     record {
@@ -65,7 +65,7 @@ returns-in_err-clear-clause-ends g c =
           );
       err = λ holds. (
           rw (p.1, p.2) (clear-break old c.requires.can_change.sound holds c.in_err-clear.field-0.0
-          (subst (λ (f : FileState). ChangeRefused (IsDirectoryNotHeld f.base.directory) (Unit {0}) ⊥ (Unit {0}) c.in_err-clear.field-0.0) c.self.view_is c.in_err-clear.ensures.ends.err))
+          (subst (λ (f : FileState). ChangeRefused (IsDirectoryNotHeld f.base.directory) (Unit {0}) ⊥ (Unit {0}) c.in_err-clear.field-0.0) c.self.view_is c.in_err-clear.ensures.err))
           );
       counts = first_of (search rules, grind (arith, common_steps));
     }
