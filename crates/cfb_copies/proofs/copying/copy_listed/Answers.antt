@@ -135,7 +135,7 @@ loop-place-preserved g c =
     record {
       room = c.copy_object.auto.piece ∙ i.room;
       reads = read_then g.F.ReadMedium.tells start mid new i.reads w.reads.reads;
-      calm = λ told. w.reads.reads.counts told ∙ i.calm told;
+      calm = λ told. w.reads.counts told ∙ i.calm told;
       grows = grows_then g.W.ReadMedium.tells c.args.target.now target after i.grows w.added.grows;
       so_far = rw c.in_ok-push.ensures.items (omega (arith, i.so_far, length-append numbers (n ∷ [])));
       numbered = λ o is. rw c.in_ok-push.ensures.items
