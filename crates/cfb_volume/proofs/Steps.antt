@@ -1,6 +1,6 @@
 -- A change in several steps, of which a later one was refused.
 use Rattle.std.proofs.Common.{◌≡◌, inl, inr, ℕ, Bool, true, false, refl, sym, ◌∙◌, ap, subst, arith}
-use Rattle.std.specs.Prelude.{IsTrue, IfErr, IfNone, IfOk, IfSome, MatchOption, None, Option, Some, nat_lt, OnErr, OnOk, Result, Ok, Err, if◌then◌else◌, ◌||◌, ◌&&◌, is_err}
+use Rattle.std.specs.Prelude.{IsTrue, IfErr, IfNone, IfOk, IfSome, None, Option, Some, nat_lt, OnErr, OnOk, Result, Ok, Err, if◌then◌else◌, ◌||◌, ◌&&◌, is_err}
 use Rattle.std.proofs.lemmas.Bool.Decides.{nat_tests}
 use Rattle.cfb_format.specs.declared.error.Error.{Error}
 use Rattle.cfb_format.specs.declared.error.Error.TheVariants.{AlreadyExists, Failed, Full, InvalidData, InvalidInput, Medium, Memory, NotFound, Unsound}
@@ -163,9 +163,3 @@ at-none {X} {P} o e h = subst (λ (q : Option X). IfNone q P) (sym e) h
 
 pub none-of : {X P : Type 0} (o : Option X) → o ≡ None → IfNone o P → P
 none-of {X} {P} o e h = subst (λ (q : Option X). IfNone q P) e h
-
-pub matched-some : {X P : Type 0} (Q : X → Type 0) (o : Option X) (x : X) → o ≡ Some x → MatchOption o P Q → Q x
-matched-some {X} {P} Q o x e h = subst (λ (q : Option X). MatchOption q P Q) e h
-
-pub matched-none : {X P : Type 0} (Q : X → Type 0) (o : Option X) → o ≡ None → MatchOption o P Q → P
-matched-none {X} {P} Q o e h = subst (λ (q : Option X). MatchOption q P Q) e h

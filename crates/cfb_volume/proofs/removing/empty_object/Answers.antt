@@ -1,5 +1,5 @@
 use Rattle.std.proofs.lemmas.Grind.{common_steps}
-use Rattle.std.proofs.Common.{inl, inr, refl, sym, ◌∙◌, ap, arith, rules}
+use Rattle.std.proofs.Common.{◌≡◌, true, false, inl, inr, refl, sym, ◌∙◌, ap, arith, rules}
 use Rattle.std.specs.Prelude.{IsTrue}
 use Rattle.std.proofs.lemmas.Bool.{cases_lt}
 use Rattle.std.proofs.lemmas.Result.{err_from_is_err_and}
@@ -51,6 +51,16 @@ returns-in_err-resize_content-in-Stream-clause-error g c =
           );
     }
 
+pub returns-in_err-resize_content-in-Stream-clause-gives : goal.returns-in_err-resize_content-in-Stream-clause-gives
+returns-in_err-resize_content-in-Stream-clause-gives g c =
+    let p = err_from_is_err_and c.from_residual.result c.from_residual.ensures.1 in
+    record {
+      emptied = λ told. rw p.1 tt;
+      none = λ ne. absurd (ne (sym (ap (λ (x : Entry). x.obj_type) c.dir_entry.ensures) ∙ c.in-Stream.is));
+      quiet = rw p.1 tt;
+      gave_back = rw p.1 tt;
+    }
+
 pub returns-in_ok-resize_content-in-Stream-clause-gives : goal.returns-in_ok-resize_content-in-Stream-clause-gives
 returns-in_ok-resize_content-in-Stream-clause-gives g c =
     let ok = c.in_ok-resize_content-in-Stream.ensures in
@@ -76,7 +86,13 @@ returns-in_ok-resize_content-in-Stream-clause-gives g c =
           }
           );
       none = first_of (search rules, grind (arith, common_steps));
-      quiet = first_of (search rules, grind (arith, common_steps));
+      quiet = λ down. (
+          let s = c.args.mini.now in
+          elim (cases_lt 0 (len_of s c.args.entry)) [
+            | inl some ↦ absurd (let clash : true ≡ false = sym (ok.begun.1 (λ same. omega (arith, some, same))) ∙ down in cc)
+            | inr none ↦ (ok.none (omega (arith, none))).1
+          ]
+          );
       gave_back = (
           let s = c.args.mini.now in
           elim (cases_lt 0 (len_of s c.args.entry)) [

@@ -1,18 +1,19 @@
 use Rattle.std.proofs.lemmas.Grind.{common_steps}
 use Rattle.std.proofs.Common.{ℕ, [], sym, ap, rules, arith}
 use Rattle.std.specs.Prelude.{Some, ◌||◌}
+use Rattle.std.proofs.lemmas.Option.{MatchOption-at_none, MatchOption-at_some}
 use Rattle.cfb_format.specs.Refused.{IsBreak}
 use Rattle.cfb_volume.proofs.cfb_directory.DirectoryRefusals.{err_map}
 use Rattle.cfb_volume.proofs.cfb_entries.Changed.{on-ok}
 use Rattle.cfb_volume.specs.Clearing.{ClearingBreaksOff}
 use Rattle.cfb_volume.proofs.Balances.{balanced-but}
 use Rattle.cfb_volume.proofs.RemovedStorages.{same-grows}
-use Rattle.cfb_volume.proofs.Steps.{after-both, at-none, at-some, counts-both, matched-none, matched-some, none-at-some, on-refused, some-at-none}
+use Rattle.cfb_volume.proofs.Steps.{after-both, at-none, at-some, counts-both, none-at-some, on-refused, some-at-none}
 use Rattle.cfb_agreement.specs.Files.{failures_of}
 use Rattle.cfb_volume.proofs.volume.Volume.remove_all.Goals as goal
 
 pub remove_with_all-requires-clause-child : goal.remove_with_all-requires-clause-child
-remove_with_all-requires-clause-child g c = matched-some _ c.args.parent (c.in-Some.storage, c.in-Some.name) c.in-Some.is c.requires.place
+remove_with_all-requires-clause-child g c = MatchOption-at_some _ _ (c.in-Some.storage, c.in-Some.name) c.in-Some.is c.requires.place
 
 -- ---- an object in a storage
 
@@ -57,7 +58,7 @@ returns-in-None-clause-tree g c told holds = on-ok c.empty_storage.result (λ w.
 
 pub returns-in-None-clause-root_tree : goal.returns-in-None-clause-root_tree
 returns-in-None-clause-root_tree g c told holds =
-    let zero = matched-none _ c.args.parent c.in-None.is c.requires.place in
+    let zero = MatchOption-at_none _ _ c.in-None.is c.requires.place in
     let order = c.entries-entries.ensures.in_order in
     on-ok c.empty_storage.result (λ w. at-none c.args.parent c.in-None.is (w.tree told holds [] order.outline order.is (ap (λ (k : ℕ). Some k) (sym zero)))) c.empty_storage.ensures.emptied
 

@@ -40,6 +40,7 @@ with_dir_entry_mut-requires-clause-inside g c =
 pub returns-in_err-with_dir_entry_mut-clause-keeps : goal.returns-in_err-with_dir_entry_mut-clause-keeps
 returns-in_err-with_dir_entry_mut-clause-keeps g c =
     let mid = c.with_dir_entry_mut.new.self in
+    let p = err_from_is_err_and c.from_residual.result c.from_residual.ensures.1 in
     record {
       others = λ told holds. (
           let was = c.with_dir_entry_mut.ensures in
@@ -48,7 +49,7 @@ returns-in_err-with_dir_entry_mut-clause-keeps g c =
           (subst (λ (s : MiniState). Spares s.directory.sectors (table_of s) (table_of mid)) e (was.spares told)) (subst (λ (s : MiniState). KeepsMini s mid) e was.mini)
           );
       header = λ told. subst (λ (f : FileState). KeepsFixedHeader f.base mid) c.self.view_is (spared-keeps-header _ c.self.inside.mini mid (c.with_dir_entry_mut.ensures.spares told));
-      parts = first_of (search rules, grind (arith, common_steps));
+      parts = λ told holds. rw p.1 tt;
     }
 
 pub returns-in_err-with_dir_entry_mut-clause-ends : goal.returns-in_err-with_dir_entry_mut-clause-ends
