@@ -49,7 +49,7 @@ returns-clause-inside g c =
     let unfailed = sym c.is_failed.ensures ∙ c.if-is_failed.false in
     rw (← c.self.view_is) (λ told within first k. tables_tight first c.self.inside.volume c.write.new.self unfailed
     (ap (λ (s : MiniState). tables_in s) (c.write.ensures.within (write_inside c.args.at (length c.args.bytes.now) (len_of c.self.inside.volume.base c.args.id) within)))
-    (c.write.ensures.agrees told (c.self.invariant told unfailed)) k)
+    (c.write.ensures.ends.agrees told (c.self.invariant told unfailed)) k)
 
 pub returns-clause-takes_none : goal.returns-clause-takes_none
 returns-clause-takes_none g c = rw (← c.self.view_is) (λ told within. done_always c.write.result (λ len long. inside_too_long c.self.inside.volume.base c.write.new.self.base c.args.id len
