@@ -1,14 +1,15 @@
 /* cfb.h: compound files (MS-CFB), the container of .doc, .xls, .msg, .msi and Thumbs.db, by a
    library that is proved. docs/BINDINGS.md says what the proofs cover.
 
-   A handle is one pointer in memory of your own. Initialize it with CFB_CLOSED, pass its address,
+   A handle is a struct in memory of your own. Initialize it with CFB_CLOSED, pass its address,
    and end it with cfb_close or cfb_entries_close. It is closed then and can be opened again.
    Closing a closed handle does nothing. Do not copy an open handle, and do not write to it.
 
    A call returns CFB_DONE, or why it failed. cfb_error_text has a text for each number, and
    cfb_reason has the details of the last failure. A failed call leaves the file unchanged, unless
    cfb_is_failed says that a change broke off, for example because memory ran out; cfb_write and
-   cfb_put may leave the first of their bytes. What a call reports through a pointer is 0 if the call fails.
+   cfb_put may leave the first of their bytes. What a call reports through a pointer is 0 if the
+   call fails.
 
    Paths are UTF-8 and start at the root: "/Macros/VBA/dir". Names are compared without case, as
    the format wants. Calls whose name ends in _n take a path with its length; the macros below them
@@ -16,12 +17,13 @@
 
    A NULL handle is CFB_NOT_OPEN and any other NULL is CFB_INVALID_INPUT, except where the length
    beside it is 0. A handle that is closed, or holds another kind of thing, is CFB_NOT_OPEN.
-   Two things no call can check: a length must be that of the memory that it describes, and no
-   pointer may point into a handle or overlap what another pointer of the call reports to.
+   Three things no call can check: a length must be that of the memory that it describes; no
+   pointer may point into a handle or overlap what another pointer of the call reports to; and
+   bytes that are lent must stay as they are until cfb_close.
 
-   No call keeps a pointer. A handle stays on the thread that opened it; other threads can use
-   other handles at the same time. Make no call from a signal handler, nor in the child of fork in
-   a program with threads. */
+   No call but cfb_open_lent keeps a pointer. A handle stays on the thread that opened it; other
+   threads can use other handles at the same time. Make no call from a signal handler, nor in the
+   child of fork in a program with threads. */
 #ifndef CFB_H
 #define CFB_H
 #include <stdbool.h>
@@ -33,10 +35,14 @@
 extern "C" {
 #endif
 
-/* An open file, and a list of objects. */
-typedef struct cfb_file { void *at; } cfb_file;
+/* An open file, with what cfb_open keeps of it; and a list of objects. */
+typedef struct cfb_file { void *at; struct cfb_source *source; } cfb_file;
 typedef struct cfb_entries { void *at; } cfb_entries;
-#define CFB_CLOSED { NULL }
+#ifdef __cplusplus
+#define CFB_CLOSED {}
+#else
+#define CFB_CLOSED { 0 }
+#endif
 
 /* What calls return. */
 enum {
@@ -74,7 +80,10 @@ typedef struct cfb_entry_info {
    the reason until cfb_close. A file is read and changed in memory. */
 uint8_t cfb_open_bytes(cfb_file *file, const uint8_t *bytes, size_t len, bool is_strict);
 uint8_t cfb_create_bytes(cfb_file *file, uint32_t version); /* version 3 or 4 */
-/* The same without a copy of all bytes: begin with memory for `room` bytes (more is taken as
+/* The same without a copy: the bytes must stay as they are until cfb_close. The first change of the
+   file copies them, and never writes to them. */
+uint8_t cfb_open_lent(cfb_file *file, const uint8_t *bytes, size_t len, bool is_strict);
+/* The same with bytes that come in pieces: begin with memory for `room` bytes (more is taken as
    needed), add the bytes in pieces, then open. If opening fails the bytes are gone. */
 uint8_t cfb_bytes_begin(cfb_file *file, size_t room);
 uint8_t cfb_bytes_add(cfb_file *file, const uint8_t *bytes, size_t len);
@@ -90,9 +99,15 @@ uint8_t cfb_image(cfb_file *file, uint64_t at, uint8_t *into, size_t room, size_
 void cfb_close(cfb_file *file);
 
 /* ---- Files of the system, by their paths (C in cfb_files.c, tested and not proved).
-   A file is read whole. is_strict also rejects what other writers are known to leave behind and
-   what does no harm. Nothing changes a file in place: the proved part cannot reach files of the
-   system from a static library, so a change reaches the disk by cfb_save alone. */
+   A file above 128 KiB is mapped, so that only what is asked for is read, and kept open. No other
+   program should change it until cfb_close; to replace it, as cfb_save does, is no change of it.
+   If its bytes change, what is read can be wrong. If it was cut, calls that read it return
+   CFB_MEDIUM with ESTALE; if it is cut while a call reads it, SIGBUS ends the program. The first
+   change copies the bytes, and then nothing of this holds. To be safe from other programs, read
+   the file yourself and use cfb_open_bytes or cfb_open_lent. Other files are read whole.
+   is_strict also rejects what other writers are known to leave behind and what does no harm.
+   Nothing changes a file in place: the proved part cannot reach files of the system from a static
+   library, so a change reaches the disk by cfb_save alone. */
 uint8_t cfb_open(cfb_file *file, const char *path, bool is_strict);
 /* Replaces the file at the path with a copy without free sectors: all of it, or nothing. The copy
    is written beside it, synced, renamed, and the folder is synced. It gets the mode and the owner
@@ -121,8 +136,8 @@ uint8_t cfb_entries_get(cfb_entries *entries, size_t number, cfb_entry_info *inf
 uint8_t cfb_entries_path(cfb_entries *entries, size_t number, char *into, size_t room, size_t *len);
 
 /* ---- Streams, by their paths. */
-/* Up to `room` bytes from `at` on; fewer only at the end. Each call looks the stream up anew, so
-   large pieces cost less. */
+/* Up to `room` bytes from `at` on; fewer only at the end. Where pieces are read in turn, up to 1 MiB
+   is read ahead and kept, until another stream is read or a call changes the file. */
 uint8_t cfb_read_n(cfb_file *file, const char *path, size_t path_len, uint64_t at, uint8_t *into, size_t room, size_t *len);
 /* All bytes. */
 uint8_t cfb_get_n(cfb_file *file, const char *path, size_t path_len, uint8_t *into, size_t room, size_t *len);
@@ -177,7 +192,8 @@ CFB_BY_TEXT(cfb_set_modified, (cfb_file *file, const char *path, uint64_t moment
 /* Closes a list. */
 static inline void cfb_entries_close(cfb_entries *entries) {
     if (!entries) return;
-    cfb_file rest = { entries->at };
+    cfb_file rest = CFB_CLOSED;
+    rest.at = entries->at;
     entries->at = NULL;
     cfb_close(&rest);
 }

@@ -65,6 +65,9 @@ class file {
     ~file() { cfb_close(&at); }
     static file open(const std::string &path, bool is_strict = false) { file f; f.done(cfb_open(&f.at, path.c_str(), is_strict)); return f; }
     static file open_bytes(std::string_view bytes, bool is_strict = false) { file f; f.done(cfb_open_bytes(&f.at, some(bytes), bytes.size(), is_strict)); return f; }
+    // the bytes must stay as they are as long as the file is open, so they are no temporary value
+    static file open_lent(std::string &&, bool = false) = delete;
+    static file open_lent(std::string_view bytes, bool is_strict = false) { file f; f.done(cfb_open_lent(&f.at, some(bytes), bytes.size(), is_strict)); return f; }
     static file create(uint32_t version = 4) { file f; f.done(cfb_create_bytes(&f.at, version)); return f; }
     uint32_t version() { uint32_t v = 0; done(cfb_version(&at, &v)); return v; }
     bool is_sound() { bool is = false; done(cfb_is_sound(&at, &is)); return is; }

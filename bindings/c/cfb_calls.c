@@ -1,9 +1,13 @@
 /* The proved calls of cfb.h, each behind tests of what a proof takes for granted: no pointer is NULL,
    no length is past the greatest object, and two handles are two. No proof covers this file. build.sh
    renames the calls of the proved library to cfb_proved_*, and hides them. */
-#include "cfb.h"
+#include "cfb_source.h"
 
 #define HANDLE(handle) if (!(handle)) return CFB_NOT_OPEN
+/* of a file whose bytes the call reads: what was mapped is there still */
+#define FILE_OF(file) \
+    HANDLE(file); \
+    if ((file)->source && source_is_cut((file)->source)) return CFB_MEDIUM
 /* what is reported is 0 if the call fails */
 #define REPORT(at, nothing) if (!(at)) return CFB_INVALID_INPUT; *(at) = (nothing)
 /* NULL stands for no bytes */
@@ -13,7 +17,21 @@
 
 static uint8_t no_bytes[1];
 
+/* What cfb_open has kept is read no more: the handle was closed, or holds something else. */
+static uint8_t ended(cfb_file *file, uint8_t number) {
+    if (file->source) source_end(file->source);
+    file->source = NULL;
+    return number;
+}
+
+/* The first change copies the bytes. */
+static uint8_t changed(cfb_file *file, uint8_t number) {
+    if (file->source && number == CFB_DONE) file->source->is_copied = true;
+    return number;
+}
+
 uint8_t cfb_proved_open_bytes(cfb_file *file, const uint8_t *bytes, size_t len, bool is_strict);
+uint8_t cfb_proved_open_lent(cfb_file *file, const uint8_t *bytes, size_t len, bool is_strict);
 uint8_t cfb_proved_create_bytes(cfb_file *file, uint32_t version);
 uint8_t cfb_proved_bytes_begin(cfb_file *file, size_t room);
 uint8_t cfb_proved_bytes_add(cfb_file *file, const uint8_t *bytes, size_t len);
@@ -56,35 +74,42 @@ uint8_t cfb_proved_set_modified_n(cfb_file *file, const char *path, size_t path_
 uint8_t cfb_open_bytes(cfb_file *file, const uint8_t *bytes, size_t len, bool is_strict) {
     HANDLE(file);
     BYTES(bytes, len);
-    return cfb_proved_open_bytes(file, bytes, len, is_strict);
+    return ended(file, cfb_proved_open_bytes(file, bytes, len, is_strict));
+}
+
+uint8_t cfb_open_lent(cfb_file *file, const uint8_t *bytes, size_t len, bool is_strict) {
+    HANDLE(file);
+    BYTES(bytes, len);
+    return ended(file, cfb_proved_open_lent(file, bytes, len, is_strict));
 }
 
 uint8_t cfb_create_bytes(cfb_file *file, uint32_t version) {
     HANDLE(file);
-    return cfb_proved_create_bytes(file, version);
+    return ended(file, cfb_proved_create_bytes(file, version));
 }
 
 uint8_t cfb_bytes_begin(cfb_file *file, size_t room) {
     HANDLE(file);
-    return cfb_proved_bytes_begin(file, room);
+    return ended(file, cfb_proved_bytes_begin(file, room));
 }
 
 uint8_t cfb_bytes_add(cfb_file *file, const uint8_t *bytes, size_t len) {
-    HANDLE(file);
+    FILE_OF(file);
     BYTES(bytes, len);
-    return cfb_proved_bytes_add(file, bytes, len);
+    return changed(file, cfb_proved_bytes_add(file, bytes, len));
 }
 
 uint8_t cfb_bytes_open(cfb_file *file, bool is_strict) {
-    HANDLE(file);
+    FILE_OF(file);
     return cfb_proved_bytes_open(file, is_strict);
 }
 
 uint8_t cfb_copy_bytes(cfb_file *file, cfb_file *copy) {
-    HANDLE(file);
+    FILE_OF(file);
     if (!copy) return CFB_NOT_OPEN;
     if ((void *)file == (void *)copy) return CFB_INVALID_INPUT;
-    return cfb_proved_copy_bytes(file, copy);
+    uint8_t refused = cfb_proved_copy_bytes(file, copy);
+    return refused && copy->at ? refused : ended(copy, refused); /* else it holds what it held */
 }
 
 uint8_t cfb_into_bytes(cfb_file *file, size_t *len) {
@@ -95,7 +120,7 @@ uint8_t cfb_into_bytes(cfb_file *file, size_t *len) {
 
 uint8_t cfb_bytes(cfb_file *file, uint8_t *into, size_t room, size_t *len) {
     REPORT(len, 0);
-    HANDLE(file);
+    FILE_OF(file);
     BYTES(into, room);
     return cfb_proved_bytes(file, into, room, len);
 }
@@ -108,13 +133,15 @@ uint8_t cfb_image_len(cfb_file *file, uint64_t *len) {
 
 uint8_t cfb_image(cfb_file *file, uint64_t at, uint8_t *into, size_t room, size_t *len) {
     REPORT(len, 0);
-    HANDLE(file);
+    FILE_OF(file);
     BYTES(into, room);
     return cfb_proved_image(file, at, into, room, len);
 }
 
 void cfb_close(cfb_file *file) {
-    if (file) cfb_proved_close(file);
+    if (!file) return;
+    cfb_proved_close(file);
+    ended(file, CFB_DONE);
 }
 
 uint8_t cfb_version(cfb_file *file, uint32_t *version) {
@@ -209,7 +236,7 @@ uint8_t cfb_entries_path(cfb_entries *entries, size_t number, char *into, size_t
 
 uint8_t cfb_read_n(cfb_file *file, const char *path, size_t path_len, uint64_t at, uint8_t *into, size_t room, size_t *len) {
     REPORT(len, 0);
-    HANDLE(file);
+    FILE_OF(file);
     BYTES(path, path_len);
     BYTES(into, room);
     return cfb_proved_read_n(file, path, path_len, at, into, room, len);
@@ -217,89 +244,89 @@ uint8_t cfb_read_n(cfb_file *file, const char *path, size_t path_len, uint64_t a
 
 uint8_t cfb_get_n(cfb_file *file, const char *path, size_t path_len, uint8_t *into, size_t room, size_t *len) {
     REPORT(len, 0);
-    HANDLE(file);
+    FILE_OF(file);
     BYTES(path, path_len);
     BYTES(into, room);
     return cfb_proved_get_n(file, path, path_len, into, room, len);
 }
 
 uint8_t cfb_put_n(cfb_file *file, const char *path, size_t path_len, const uint8_t *bytes, size_t len) {
-    HANDLE(file);
+    FILE_OF(file);
     BYTES(path, path_len);
     BYTES(bytes, len);
-    return cfb_proved_put_n(file, path, path_len, bytes, len);
+    return changed(file, cfb_proved_put_n(file, path, path_len, bytes, len));
 }
 
 uint8_t cfb_create_stream_n(cfb_file *file, const char *path, size_t path_len, bool is_new) {
-    HANDLE(file);
+    FILE_OF(file);
     BYTES(path, path_len);
-    return cfb_proved_create_stream_n(file, path, path_len, is_new);
+    return changed(file, cfb_proved_create_stream_n(file, path, path_len, is_new));
 }
 
 uint8_t cfb_write_n(cfb_file *file, const char *path, size_t path_len, uint64_t at, const uint8_t *bytes, size_t len) {
-    HANDLE(file);
+    FILE_OF(file);
     BYTES(path, path_len);
     BYTES(bytes, len);
-    return cfb_proved_write_n(file, path, path_len, at, bytes, len);
+    return changed(file, cfb_proved_write_n(file, path, path_len, at, bytes, len));
 }
 
 uint8_t cfb_set_len_n(cfb_file *file, const char *path, size_t path_len, uint64_t len) {
-    HANDLE(file);
+    FILE_OF(file);
     BYTES(path, path_len);
-    return cfb_proved_set_len_n(file, path, path_len, len);
+    return changed(file, cfb_proved_set_len_n(file, path, path_len, len));
 }
 
 uint8_t cfb_remove_stream_n(cfb_file *file, const char *path, size_t path_len) {
-    HANDLE(file);
+    FILE_OF(file);
     BYTES(path, path_len);
-    return cfb_proved_remove_stream_n(file, path, path_len);
+    return changed(file, cfb_proved_remove_stream_n(file, path, path_len));
 }
 
 uint8_t cfb_create_storage_n(cfb_file *file, const char *path, size_t path_len, uint64_t moment) {
-    HANDLE(file);
+    FILE_OF(file);
     BYTES(path, path_len);
-    return cfb_proved_create_storage_n(file, path, path_len, moment);
+    return changed(file, cfb_proved_create_storage_n(file, path, path_len, moment));
 }
 
 uint8_t cfb_create_storage_all_n(cfb_file *file, const char *path, size_t path_len, uint64_t moment) {
-    HANDLE(file);
+    FILE_OF(file);
     BYTES(path, path_len);
-    return cfb_proved_create_storage_all_n(file, path, path_len, moment);
+    return changed(file, cfb_proved_create_storage_all_n(file, path, path_len, moment));
 }
 
 uint8_t cfb_remove_storage_n(cfb_file *file, const char *path, size_t path_len) {
-    HANDLE(file);
+    FILE_OF(file);
     BYTES(path, path_len);
-    return cfb_proved_remove_storage_n(file, path, path_len);
+    return changed(file, cfb_proved_remove_storage_n(file, path, path_len));
 }
 
 uint8_t cfb_remove_storage_all_n(cfb_file *file, const char *path, size_t path_len) {
-    HANDLE(file);
+    FILE_OF(file);
     BYTES(path, path_len);
-    return cfb_proved_remove_storage_all_n(file, path, path_len);
+    return changed(file, cfb_proved_remove_storage_all_n(file, path, path_len));
 }
 
 uint8_t cfb_set_clsid_n(cfb_file *file, const char *path, size_t path_len, const uint8_t clsid[16]) {
-    HANDLE(file);
+    FILE_OF(file);
     BYTES(path, path_len);
     if (!clsid) return CFB_INVALID_INPUT;
-    return cfb_proved_set_clsid_n(file, path, path_len, clsid);
+    return changed(file, cfb_proved_set_clsid_n(file, path, path_len, clsid));
 }
 
 uint8_t cfb_set_state_bits_n(cfb_file *file, const char *path, size_t path_len, uint32_t bits) {
-    HANDLE(file);
+    FILE_OF(file);
     BYTES(path, path_len);
-    return cfb_proved_set_state_bits_n(file, path, path_len, bits);
+    return changed(file, cfb_proved_set_state_bits_n(file, path, path_len, bits));
 }
 
 uint8_t cfb_set_created_n(cfb_file *file, const char *path, size_t path_len, uint64_t moment) {
-    HANDLE(file);
+    FILE_OF(file);
     BYTES(path, path_len);
-    return cfb_proved_set_created_n(file, path, path_len, moment);
+    return changed(file, cfb_proved_set_created_n(file, path, path_len, moment));
 }
 
 uint8_t cfb_set_modified_n(cfb_file *file, const char *path, size_t path_len, uint64_t moment) {
-    HANDLE(file);
+    FILE_OF(file);
     BYTES(path, path_len);
-    return cfb_proved_set_modified_n(file, path, path_len, moment);
+    return changed(file, cfb_proved_set_modified_n(file, path, path_len, moment));
 }

@@ -1,28 +1,72 @@
-/* Files of the system for cfb.h. No proof covers this file. A file is read whole and saved whole. */
+/* Files of the system for cfb.h. No proof covers this file. A file is mapped or read whole, and saved whole. */
 #define _GNU_SOURCE
-#include "cfb.h"
+#include "cfb_source.h"
 #include <errno.h>
 #include <fcntl.h>
 #include <limits.h>
 #include <stdio.h>
+#include <sys/mman.h>
 #include <sys/stat.h>
 #include <unistd.h>
 
 #define PIECE ((size_t)1 << 18)
 
-/* Adds all bytes of what is open to the handle, through a piece of memory. */
-static uint8_t add_all(cfb_file *file, int fd, uint8_t *piece) {
+/* A file above this is mapped. A smaller one is read as quickly, and then nothing can cut it. */
+#define MAPPED ((size_t)1 << 17)
+
+void source_end(struct cfb_source *source) {
+    if (source->fd < 0) {
+        free(source->bytes);
+    } else {
+        munmap(source->bytes, source->len);
+        close(source->fd);
+    }
+    free(source);
+}
+
+bool source_is_cut(const struct cfb_source *source) {
     struct stat now;
-    size_t room = PIECE;
-    if (fstat(fd, &now) == 0 && now.st_size > 0 && (uint64_t)now.st_size < SIZE_MAX) room = (size_t)now.st_size;
-    uint8_t refused = cfb_bytes_begin(file, room);
-    while (!refused) {
-        ssize_t got = read(fd, piece, PIECE);
+    if (source->fd < 0 || source->is_copied) return false;
+    if (fstat(source->fd, &now) == 0 && now.st_size >= 0 && (uint64_t)now.st_size >= source->len) return false;
+    errno = ESTALE;
+    return true;
+}
+
+/* Reads all bytes of what is open into memory: so much at first, and more as needed. */
+static uint8_t read_all(struct cfb_source *source, int fd, size_t room) {
+    void *more = malloc(room);
+    while (more) {
+        source->bytes = more;
+        ssize_t got = read(fd, (uint8_t *)more + source->len, room - source->len);
         if (got < 0 && errno == EINTR) continue;
         if (got < 0) return CFB_MEDIUM;
         if (got == 0) return CFB_DONE;
-        refused = cfb_bytes_add(file, piece, (size_t)got);
+        source->len += (size_t)got;
+        if (source->len == room) more = room > PTRDIFF_MAX / 2 ? NULL : realloc(more, room *= 2);
     }
+    return CFB_MEMORY;
+}
+
+/* The bytes of what is open: mapped, with the file kept open, or read. */
+static uint8_t take(struct cfb_source *source, int fd) {
+    struct stat now;
+    bool is_known = fstat(fd, &now) == 0 && S_ISREG(now.st_mode) && now.st_size > 0 && (uint64_t)now.st_size < PTRDIFF_MAX;
+    size_t len = is_known ? (size_t)now.st_size : MAPPED;
+    void *map = len > MAPPED ? mmap(NULL, len, PROT_READ, MAP_PRIVATE, fd, 0) : MAP_FAILED;
+    if (map == MAP_FAILED) return read_all(source, fd, len + 1);
+    *source = (struct cfb_source){ map, len, fd, false };
+    return CFB_DONE;
+}
+
+/* Opens what is open, and closes it unless it is mapped. */
+static uint8_t open_source(cfb_file *file, struct cfb_source *source, int fd, bool is_strict) {
+    uint8_t refused = source ? take(source, fd) : CFB_MEMORY;
+    int fault = errno;
+    if (!source || source->fd < 0) close(fd);
+    if (!refused) refused = cfb_open_lent(file, source->bytes, source->len, is_strict);
+    if (refused && source) source_end(source);
+    else file->source = source;
+    errno = fault;
     return refused;
 }
 
@@ -32,15 +76,9 @@ uint8_t cfb_open(cfb_file *file, const char *path, bool is_strict) {
     if (!path) return CFB_INVALID_INPUT;
     int fd = open(path, O_RDONLY | O_CLOEXEC | O_NOCTTY);
     if (fd < 0) return CFB_MEDIUM;
-    uint8_t *piece = malloc(PIECE);
-    uint8_t refused = piece ? add_all(file, fd, piece) : CFB_MEMORY;
-    int fault = errno;
-    close(fd);
-    free(piece);
-    if (refused) cfb_close(file);
-    else refused = cfb_bytes_open(file, is_strict);
-    errno = fault;
-    return refused;
+    struct cfb_source *source = malloc(sizeof *source);
+    if (source) *source = (struct cfb_source){ NULL, 0, -1, false };
+    return open_source(file, source, fd, is_strict);
 }
 
 /* Writes all bytes of the file as it stands. */

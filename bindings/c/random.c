@@ -25,7 +25,7 @@ static const struct { const char *text; size_t len; } paths[] = {
     { "/aaaaaaaaaaaaaaaaaaaaaaaaaaaaaaaa", 33 }, { NULL, 0 }, { NULL, 3 },
 };
 
-static uint8_t pool[70000], room[70000], image[400000], before[400000], after[400000];
+static uint8_t pool[70000], room[70000], image[400000], before[400000], after[400000], lent[4][400000], as_lent[4][400000], loan[400000];
 
 /* The bytes of a file as they stand; 0 where none is open, or they are too many to keep. */
 static size_t image_of(cfb_file *file, uint8_t *into, size_t most) {
@@ -41,6 +41,31 @@ static void holds(cfb_file *file, size_t which, uint64_t at, const uint8_t *byte
     CHECK(is_whole ? info.len == at + len : info.len >= at + len);
     CHECK(cfb_read_n(file, paths[which].text, paths[which].len, at, room, len, &got) == CFB_DONE);
     CHECK(got == len && memcmp(room, bytes, len) == 0);
+}
+
+/* Calls on lent bytes that change meanwhile, against the rule of cfb.h: what is answered can be wrong, and no more than that. */
+static void on_changing_loan(cfb_file *file) {
+    cfb_file f = CFB_CLOSED, copy = CFB_CLOSED;
+    cfb_entries list = CFB_CLOSED;
+    size_t len = image_of(file, loan, sizeof loan), got = 0;
+    if (len == 0 || cfb_open_lent(&f, loan, len, false) != CFB_DONE) return;
+    for (uint32_t left = 20; left; left--) {
+        const char *path = paths[next(10)].text;
+        uint8_t number = 0;
+        for (uint32_t more = next(9); more; more--) loan[next(3) ? next((uint32_t)len) : next(512)] = (uint8_t)next(256);
+        switch (next(12)) {
+        case 0: number = cfb_put(&f, path, pool, next(9000)); break;
+        case 1: number = cfb_set_len(&f, path, next(9000)); break;
+        case 2: number = cfb_copy_bytes(&f, &copy); break;
+        case 3: number = cfb_walk(&f, "/", &list); break;
+        case 4: case 5: case 6: number = cfb_get(&f, path, room, sizeof room, &got); CHECK(number || got <= sizeof room); break;
+        default: number = cfb_read(&f, path, next(20000), room, next(9000), &got); CHECK(number || got < 9000); break;
+        }
+        CHECK(number <= CFB_NOT_OPEN);
+    }
+    cfb_entries_close(&list);
+    cfb_close(&copy);
+    cfb_close(&f);
 }
 
 int main(int argc, char **argv) {
@@ -78,7 +103,16 @@ int main(int argc, char **argv) {
         case 7: number = cfb_bytes_add(file, pool, len); break;
         case 8: number = cfb_bytes_open(file, next(2)); break;
         case 9: number = cfb_open_bytes(next(9) ? other : file, pool, len, next(2)); break;
-        case 10: case 11: /* a file with some bytes changed */
+        case 10: /* a file over bytes that are lent, and must stay as they are */
+            if (cfb_image(file, 0, image, sizeof image, &got) == CFB_DONE && got > 0) {
+                uint32_t to = next(4);
+                cfb_close(&f[to]);
+                memcpy(lent[to], image, got);
+                memcpy(as_lent[to], image, got);
+                number = cfb_open_lent(&f[to], lent[to], got, next(2));
+            }
+            break;
+        case 11: /* a file with some bytes changed */
             if (cfb_image(file, 0, image, sizeof image, &got) == CFB_DONE && got > 0) {
                 for (uint32_t left = next(6); left; left--) image[next(2) ? next(512) : next((uint32_t)got)] = (uint8_t)next(256);
                 number = cfb_open_bytes(next(4) ? other : file, image, next(3) ? got : next((uint32_t)got), next(2));
@@ -129,6 +163,7 @@ int main(int argc, char **argv) {
         case 47: number = cfb_set_modified_n(file, path, n, moment); break;
         }
         CHECK(number <= CFB_NOT_OPEN);
+        if (step % 64 == 0) { CHECK(memcmp(lent, as_lent, sizeof lent) == 0); on_changing_loan(&f[next(2)]); }
         counts[number]++;
         if (number == CFB_NOT_OPEN && (file == &f[0] || file == &f[1]) && next(2)) CHECK(cfb_create_bytes(file, 3 + next(2)) == CFB_DONE);
         /* A whole write that runs out of room midway, and storages that are made one after the other, leave a part. */

@@ -3,6 +3,7 @@
 #include "cfb.h"
 #include <errno.h>
 #include <stdio.h>
+#include <sys/mman.h>
 #include <sys/stat.h>
 #include <unistd.h>
 
@@ -213,6 +214,131 @@ static void pieces(uint8_t *bytes, size_t len) {
     cfb_entries_close(&list);
 }
 
+static uint8_t of(size_t at) { return (uint8_t)(at * 7 + at / 251); }
+
+/* Streams that are read in turn, in small pieces, and changed meanwhile. */
+static void in_turn(cfb_file *f) {
+    enum { LEN = 300000, PIECE = 4096 };
+    static uint8_t bytes[LEN], room[PIECE];
+    size_t got = 0, other = 0;
+    for (size_t i = 0; i < LEN; i++) bytes[i] = of(i);
+    CHECK(cfb_put(f, "/t", bytes, LEN) == CFB_DONE && cfb_put(f, "/u", bytes + 1, LEN - 1) == CFB_DONE);
+    for (size_t at = 0; at < LEN; at += got) {
+        CHECK(cfb_read(f, "/t", at, room, PIECE, &got) == CFB_DONE && got == (LEN - at < PIECE ? LEN - at : PIECE));
+        CHECK(memcmp(room, bytes + at, got) == 0);
+    }
+    CHECK(cfb_read(f, "/t", LEN, room, PIECE, &got) == CFB_DONE && got == 0);
+    CHECK(cfb_read(f, "/t", LEN + 1, room, PIECE, &got) == CFB_DONE && got == 0);
+    CHECK(cfb_read(f, "/t", UINT64_MAX, room, PIECE, &got) == CFB_DONE && got == 0);
+    /* two at once, and back and forth */
+    for (size_t at = 0; at + 500 < LEN; at += 100) {
+        CHECK(cfb_read(f, at % 300 ? "/T" : "/u", at, room, 500, &got) == CFB_DONE && got == 500);
+        CHECK(memcmp(room, bytes + at + (at % 300 ? 0 : 1), 500) == 0);
+    }
+    /* what was read ahead is not what is there after a change */
+    for (size_t at = 0; at + PIECE < LEN; at += PIECE) {
+        CHECK(cfb_read(f, "/t", at, room, PIECE, &got) == CFB_DONE && memcmp(room, bytes + at, got) == 0);
+        bytes[at + PIECE] ^= 0xff;
+        CHECK(cfb_write(f, "/t", at + PIECE, bytes + at + PIECE, 1) == CFB_DONE);
+    }
+    CHECK(cfb_read(f, "/t", LEN - PIECE, room, PIECE, &got) == CFB_DONE && cfb_set_len(f, "/t", LEN - 9) == CFB_DONE);
+    CHECK(cfb_read(f, "/t", LEN - 10, room, PIECE, &got) == CFB_DONE && got == 1);
+    CHECK(cfb_read(f, "/t", 0, room, 1, &got) == CFB_DONE && cfb_read(f, "/t", 1, room, 1, &got) == CFB_DONE && cfb_read(f, "/t", 2, room, 1, &got) == CFB_DONE);
+    CHECK(cfb_put(f, "/t", bytes, 3) == CFB_DONE && cfb_read(f, "/t", 3, room, 1, &got) == CFB_DONE && got == 0);
+    CHECK(cfb_read(f, "/t", 2, room, 9, &other) == CFB_DONE && other == 1 && room[0] == bytes[2]);
+    CHECK(cfb_remove_stream(f, "/t") == CFB_DONE && cfb_read(f, "/t", 3, room, 1, &got) == CFB_NOT_FOUND && got == 0);
+    CHECK(cfb_remove_stream(f, "/u") == CFB_DONE);
+}
+
+/* Bytes that are lent: they can be in memory that nothing writes to, and a file over them can be changed. */
+static void lent(const uint8_t *bytes, size_t len) {
+    cfb_file f = CFB_CLOSED, g = CFB_CLOSED;
+    uint8_t room[8], *there = mmap(NULL, len, PROT_READ | PROT_WRITE, MAP_PRIVATE | MAP_ANONYMOUS, -1, 0);
+    size_t got = 0;
+    uint64_t all = 0;
+    bool is = false;
+    CHECK(there != MAP_FAILED);
+    memcpy(there, bytes, len);
+    CHECK(mprotect(there, len, PROT_READ) == 0);
+    CHECK(cfb_open_lent(NULL, there, len, false) == CFB_NOT_OPEN && cfb_open_lent(&f, NULL, 1, false) == CFB_INVALID_INPUT);
+    CHECK(cfb_open_lent(&f, there, 100, false) == CFB_INVALID_DATA);
+    refuses_all(&f);
+    CHECK(cfb_open_lent(&f, there, len, true) == CFB_DONE && cfb_get(&f, "/z", room, 8, &got) == CFB_DONE && got == 2);
+    CHECK(cfb_open_lent(&g, there, len, true) == CFB_DONE && cfb_image_len(&g, &all) == CFB_DONE && all == len);
+    CHECK(cfb_put(&f, "/w", there, 5000) == CFB_DONE && cfb_remove_stream(&f, "/z") == CFB_DONE);
+    CHECK(cfb_is_stream(&f, "/z", &is) == CFB_DONE && !is && cfb_is_stream(&g, "/z", &is) == CFB_DONE && is);
+    CHECK(memcmp(there, bytes, len) == 0);
+    /* closed and kept, they are lent still */
+    CHECK(cfb_into_bytes(&g, &got) == CFB_DONE && got == len && cfb_bytes_open(&g, true) == CFB_DONE);
+    CHECK(cfb_into_bytes(&g, &got) == CFB_DONE && cfb_bytes_add(&g, room, 1) == CFB_DONE && cfb_bytes(&g, room, 0, &got) == CFB_TOO_SMALL && got == len + 1);
+    CHECK(cfb_open_lent(&g, there, len, false) == CFB_DONE && cfb_copy_bytes(&g, &f) == CFB_DONE && cfb_is_stream(&f, "/z", &is) == CFB_DONE && is);
+    cfb_close(&g);
+    CHECK(munmap(there, len) == 0);
+    /* a copy has bytes of its own */
+    CHECK(cfb_get(&f, "/z", room, 8, &got) == CFB_DONE && got == 2);
+    cfb_close(&f);
+}
+
+/* A file that is mapped, and what can happen to it meanwhile. */
+static void mapped(const char *path) {
+    enum { LEN = 300000 };
+    static uint8_t bytes[LEN], room[LEN];
+    cfb_file f = CFB_CLOSED, g = CFB_CLOSED;
+    bool is = false;
+    size_t got = 0;
+    for (size_t i = 0; i < LEN; i++) bytes[i] = of(i);
+    CHECK(cfb_create_bytes(&f, 3) == CFB_DONE && cfb_put(&f, "/big", bytes, LEN) == CFB_DONE && cfb_put(&f, "/z", bytes, 2) == CFB_DONE);
+    CHECK(cfb_save(&f, path) == CFB_DONE);
+    /* what is kept of it goes when the handle holds something else, and stays when that is refused */
+    CHECK(cfb_open(&f, path, true) == CFB_DONE && f.source && cfb_create_bytes(&f, 3) == CFB_DONE && !f.source);
+    CHECK(cfb_open(&g, path, true) == CFB_DONE && g.source && cfb_copy_bytes(&f, &g) == CFB_DONE && !g.source);
+    CHECK(cfb_open(&g, path, true) == CFB_DONE && cfb_into_bytes(&f, &got) == CFB_DONE);
+    CHECK(cfb_copy_bytes(&f, &g) == CFB_NOT_OPEN && g.source && cfb_is_stream(&g, "/z", &is) == CFB_DONE && is);
+    CHECK(cfb_into_bytes(&g, &got) == CFB_DONE && g.source && cfb_bytes_open(&g, true) == CFB_DONE && g.source);
+    /* to replace it is no change of it */
+    CHECK(cfb_open(&f, path, true) == CFB_DONE && cfb_put(&g, "/w", NULL, 0) == CFB_DONE && cfb_save(&g, path) == CFB_DONE);
+    CHECK(cfb_is_stream(&g, "/w", &is) == CFB_DONE && is && cfb_is_stream(&f, "/w", &is) == CFB_DONE && !is);
+    CHECK(cfb_get(&f, "/big", room, LEN, &got) == CFB_DONE && got == LEN && memcmp(room, bytes, LEN) == 0);
+    /* where it is cut, what was changed has bytes of its own, and the rest is told */
+    CHECK(cfb_open(&f, path, true) == CFB_DONE && cfb_open(&g, path, true) == CFB_DONE && cfb_put(&f, "/w", bytes, 9) == CFB_DONE);
+    CHECK(truncate(path, 1000) == 0);
+    CHECK(cfb_get(&f, "/big", room, LEN, &got) == CFB_DONE && got == LEN && memcmp(room, bytes, LEN) == 0);
+    errno = 0;
+    CHECK(cfb_get(&g, "/big", room, LEN, &got) == CFB_MEDIUM && errno == ESTALE && got == 0);
+    CHECK(cfb_put(&g, "/w", bytes, 9) == CFB_MEDIUM && cfb_image(&g, 0, room, LEN, &got) == CFB_MEDIUM);
+    CHECK(cfb_read(&g, "/z", 0, room, 9, &got) == CFB_MEDIUM && cfb_is_stream(&g, "/z", &is) == CFB_DONE && is);
+    errno = 0;
+    CHECK(cfb_save(&g, path) == CFB_MEDIUM && errno == ESTALE && cfb_save(&f, path) == CFB_DONE);
+    CHECK(cfb_open(&g, path, true) == CFB_DONE && cfb_get(&g, "/w", room, LEN, &got) == CFB_DONE && got == 9 && memcmp(room, bytes, 9) == 0);
+    cfb_close(&f);
+    cfb_close(&g);
+}
+
+/* Files that are not mapped: a small one, which can be cut, a pipe and what has no bytes. */
+static void not_mapped(const char *path) {
+    cfb_file f = CFB_CLOSED;
+    uint8_t room[8], bytes[60000];
+    char name[32];
+    int ends[2];
+    size_t got = 0, len = 0;
+    CHECK(cfb_open(&f, path, true) == CFB_DONE && truncate(path, 0) == 0);
+    CHECK(cfb_get(&f, "/z", room, 8, &got) == CFB_DONE && got == 2 && cfb_save(&f, path) == CFB_DONE);
+    CHECK(cfb_image(&f, 0, bytes, sizeof bytes, &len) == CFB_DONE && len < sizeof bytes);
+    CHECK(pipe(ends) == 0 && write(ends[1], bytes, len) == (ssize_t)len && close(ends[1]) == 0);
+    snprintf(name, sizeof name, "/dev/fd/%d", ends[0]);
+    CHECK(cfb_open(&f, name, true) == CFB_DONE && close(ends[0]) == 0 && cfb_get(&f, "/z", room, 8, &got) == CFB_DONE && got == 2);
+    CHECK(cfb_open(&f, "/dev/null", false) == CFB_INVALID_DATA && !f.source);
+    CHECK(cfb_open(&f, "/", false) == CFB_MEDIUM && errno == EISDIR && !f.source);
+    cfb_close(&f);
+}
+
+/* The number that the next file gets that is opened. */
+static int next_number(void) {
+    int number = dup(0);
+    close(number);
+    return number;
+}
+
 int main(int argc, char **argv) {
     const char *dir = argc > 1 ? argv[1] : "/tmp";
     char made[512];
@@ -229,6 +355,7 @@ int main(int argc, char **argv) {
         CHECK(cfb_create_bytes(&f, 5) == CFB_INVALID_INPUT && says(&f, "version") && cfb_version(&f, &version) == CFB_NOT_OPEN);
         CHECK(cfb_create_bytes(&f, v) == CFB_DONE && cfb_version(&f, &version) == CFB_DONE && version == v);
         change(&f);
+        in_turn(&f);
         refuses_path(&f, "/\xff", 2);
         CHECK(says(&f, "UTF-8"));
         refuses_path(&f, "/a\0b", 4);
@@ -242,6 +369,7 @@ int main(int argc, char **argv) {
         CHECK(cfb_bytes(&f, bytes, len, &len) == CFB_DONE && cfb_version(&f, &version) == CFB_NOT_OPEN);
         CHECK(cfb_open_bytes(&g, bytes, len, true) == CFB_DONE && cfb_is_stream(&g, "/z", &is) == CFB_DONE && is);
         pieces(bytes, len);
+        lent(bytes, len);
         cfb_open_bytes(&g, bytes, len / 2, false);
         bytes[0] ^= 1;
         CHECK(cfb_open_bytes(&g, bytes, len, false) == CFB_INVALID_DATA && !says(&g, "no such text"));
@@ -258,7 +386,10 @@ int main(int argc, char **argv) {
         CHECK(cfb_save(&f, "/nowhere/x") == CFB_MEDIUM && errno == ENOENT);
         CHECK(cfb_save(&f, "/dev/null") == CFB_MEDIUM && errno == EINVAL);
         CHECK(cfb_open(&g, made, true) == CFB_DONE && cfb_is_stream(&g, "/y", &is) == CFB_DONE && is);
-        CHECK(unlink(made) == 0);
+        int number = next_number();
+        not_mapped(made);
+        mapped(made);
+        CHECK(next_number() == number && unlink(made) == 0);
     }
     cfb_close(&f);
     cfb_close(&f);

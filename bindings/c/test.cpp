@@ -62,7 +62,9 @@ int main() {
     if (!f.is_stream("/t/v") || f.is_storage("/t/v") || !f.exists("/t") || f.is_failed() || f.list("/t").size() != 2) return 12;
     f.remove_stream("/t/v");
     f.remove_storage_all("/t");
-    auto g = cfb::file::open_bytes(f.into_bytes(), true);
+    const std::string bytes = f.into_bytes();
+    auto g = cfb::file::open_lent(bytes, true);
+    if (g.get("/s/x") != "abcdef" || cfb::file::open_bytes(bytes).get("/s/x") != "abcdef") return 20;
     std::string seen;
     for (auto &e : g.walk()) seen += e.path + (e.is_stream() ? "=" + std::to_string(e.info.len) : "") + " ";
     if (seen != "/ /s /s/x=6 ") return 2;

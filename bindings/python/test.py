@@ -3,6 +3,7 @@
     test.py [LIST [FILE..]]      LIST: the C program list.c; FILE: compound files to be read beside olefile
 """
 import datetime
+import errno
 import io
 import os
 import random
@@ -411,6 +412,40 @@ def beside_olefile(paths):
     print(f"python: {count} files as olefile reads them")
 
 
+def lent():
+    """Bytes are read where they stand, also when nobody else has them, and never written to."""
+    data = made(3).into_bytes()
+    f = cfb.OleFileIO(bytes(bytearray(data)))
+    others = [bytes(len(data)) for _ in range(9)]
+    assert f.read("s") == b"hello there" and len(others) == 9
+    f.open(data)
+    with cfb.OleFileIO(data) as g, f.copied() as copy:
+        g.put("new", b"n" * 5000)
+        f.close()
+        assert g.read("new") == b"n" * 5000 and copy.read("s") == g.read("s") == b"hello there"
+        assert not cfb.OleFileIO(data).exists("new") and not copy.exists("new")
+
+
+def cut():
+    """A file that is mapped, and cut or replaced meanwhile."""
+    with tempfile.TemporaryDirectory() as folder:
+        path = os.path.join(folder, "big.cfb")
+        with cfb.create(path, 3) as f:
+            f.put("big", b"b" * 300_000)
+        f, g = cfb.OleFileIO(path), cfb.open(path, "r+")
+        g.put("big", b"c" * 300_000)
+        g.close()
+        assert f.read("big") == b"b" * 300_000
+        f.open(path)
+        os.truncate(path, 1000)
+        try:
+            f.read("big")
+            raise AssertionError("a file that was cut was read")
+        except OSError as e:
+            assert e.errno == errno.ESTALE and f.exists("big"), e
+        f.close()
+
+
 def main(listing=None, *paths):
     for version in (3, 4):
         f = made(version)
@@ -423,6 +458,8 @@ def main(listing=None, *paths):
     odd_files()
     closed()
     shared()
+    lent()
+    cut()
     subprocess.run([sys.executable, os.path.abspath(__file__), "--without-memory"], check=True)
     if olefile:
         beside_olefile(list(paths))

@@ -19,6 +19,7 @@ from __future__ import annotations
 
 import ctypes
 import datetime
+import errno
 import glob
 import io
 import os
@@ -88,7 +89,7 @@ _H, _P, _N, _Q, _U, _B = ctypes.c_void_p, ctypes.c_char_p, ctypes.c_size_t, ctyp
 _ByN, _ByQ, _ByU, _ByB = map(ctypes.POINTER, (_N, _Q, _U, _B))
 # The calls of cfb.h but cfb_close. bindings/declarations compares the two.
 _CALLS = {
-    "open_bytes": [_H, _P, _N, _B], "create_bytes": [_H, _U],
+    "open_bytes": [_H, _P, _N, _B], "open_lent": [_H, _P, _N, _B], "create_bytes": [_H, _U],
     "bytes_begin": [_H, _N], "bytes_add": [_H, _P, _N], "bytes_open": [_H, _B],
     "copy_bytes": [_H, _H], "into_bytes": [_H, _ByN], "bytes": [_H, _H, _N, _ByN],
     "image_len": [_H, _ByQ], "image": [_H, _Q, _H, _N, _ByN],
@@ -115,16 +116,18 @@ _Piece = ctypes.c_char * (1 << 16)
 
 
 class _Handle:
-    """One pointer, which the library fills; it is closed when nobody has it. One thread at a time holds its lock in a call."""
+    """A `cfb_file`, which the library fills; it is closed when nobody has it. One thread at a time holds its lock in a call."""
 
     def __init__(self):
         self.lock = threading.Lock()
-        self.at = ctypes.c_void_p()
+        self.at = (ctypes.c_void_p * 2)()
+        self.lent: Any = None  # bytes that the library reads as long as the file is open
         self.ref = ctypes.addressof(self.at)
 
     def close(self):
         with self.lock:
             _lib.cfb_close(self.ref)
+            self.lent = None
 
     def __del__(self):
         if _lib is not None:
@@ -284,6 +287,8 @@ class OleFileIO:
     def _call(self, name: str, *arguments: Any) -> None:
         with self._handle.lock:
             number = getattr(_lib, "cfb_" + name)(self._handle.ref, *arguments)
+            if name == "open_lent":
+                self._handle.lent = arguments[0]
             if number:
                 raise self._error(number, name, arguments[0] if name.endswith("_n") or name in _BY_PATH else b"")
 
@@ -293,7 +298,7 @@ class OleFileIO:
 
     def _error(self, number: int, name: str, path: bytes) -> Exception:
         about = os.fsdecode(path) if name in _BY_PATH else path.decode("utf-8", "replace")
-        if number == _MEDIUM and name in _BY_PATH:
+        if number == _MEDIUM and (name in _BY_PATH or ctypes.get_errno() == errno.ESTALE):
             return OSError(ctypes.get_errno(), os.strerror(ctypes.get_errno()), about)
         if number == _MEDIUM:
             number = _MEMORY  # bytes in memory fail for no other reason
@@ -341,7 +346,7 @@ class OleFileIO:
             data = bytes(filename)
         self._path, self._is_changed = None, False
         if data is not None:
-            self._call("open_bytes", data, len(data), self.strict)
+            self._call("open_lent", data, len(data), self.strict)
         else:
             self._call("open", _system_path(filename), self.strict)
             self._path = filename if write_mode else None

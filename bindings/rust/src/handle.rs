@@ -47,7 +47,7 @@ unsafe impl Send for Handle {}
 
 impl Handle {
     pub fn closed() -> Handle {
-        Handle(sys::Handle { at: std::ptr::null_mut() })
+        Handle(sys::Handle { at: std::ptr::null_mut(), source: std::ptr::null_mut() })
     }
 
     /// What a call returned, as a result.

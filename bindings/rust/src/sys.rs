@@ -2,6 +2,7 @@
 #[repr(C)]
 pub struct Handle {
     pub at: *mut std::ffi::c_void,
+    pub source: *mut std::ffi::c_void,
 }
 
 #[repr(C)]
@@ -41,6 +42,7 @@ pub const ROOT: u8 = 5;
 #[allow(dead_code)]
 extern "C" {
     pub fn cfb_open_bytes(file: *mut Handle, bytes: *const u8, len: usize, is_strict: bool) -> u8;
+    pub fn cfb_open_lent(file: *mut Handle, bytes: *const u8, len: usize, is_strict: bool) -> u8;
     pub fn cfb_create_bytes(file: *mut Handle, version: u32) -> u8;
     pub fn cfb_bytes_begin(file: *mut Handle, room: usize) -> u8;
     pub fn cfb_bytes_add(file: *mut Handle, bytes: *const u8, len: usize) -> u8;

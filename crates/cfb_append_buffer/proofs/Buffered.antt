@@ -1,5 +1,5 @@
 -- What is read and written of bytes that are held behind those of a medium.
-use Rattle.std.proofs.Common.{◌≡◌, ◌∙◌, ℕ, ◌+◌, ◌-◌, ◌<◌, ◌≤◌, List, [], ◌++◌, ap, append-nil, arith, drop, get_or-take, inl, inr, length, length-append, length-take, slice_index, sym, take}
+use Rattle.std.proofs.Common.{◌≡◌, ◌∙◌, ℕ, ◌+◌, ◌-◌, ◌<◌, ◌≤◌, List, [], ◌++◌, ap, append-nil, arith, get_or-take, inl, inr, length, length-append, length-take, slice_index, sym, take}
 use Rattle.std.proofs.lemmas.Bool.{cases_lt}
 use Rattle.std.proofs.lemmas.List.{drop_all, ext_get_or, get_or-append_right, get_or_append_left, take_all}
 use Rattle.cfb_append_buffer.specs.Buffer.{buffered}

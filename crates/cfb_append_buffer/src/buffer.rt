@@ -10,9 +10,6 @@ use std::alloc::{AllocError, Allocator as Heap, Global};
 /// No more bytes are held.
 const LIMIT: usize = 4 << 20;
 
-/// A write of so many bytes is not held.
-const BULK: usize = 16 << 10;
-
 /// A medium over another one, of which it holds the bytes behind the end in memory. They are written there at
 /// a flush, or once they are too many. A buffer that is let go without a flush loses them.
 #[derive(Drop)]
@@ -216,7 +213,7 @@ fn hold<A: Heap>(held: &mut Vec<u8, A>, at: u64, from: &[u8]) -> bool
     ensures size { length held.new.items ≤ max (length held.old.items) (at + length from.now) }
     ensures same { result ≡ false → held.new.items ≡ held.old.items }
 {
-    if from.len() >= BULK || at > (LIMIT - from.len()) as u64 {
+    if from.len() > LIMIT || at > (LIMIT - from.len()) as u64 {
         return false;
     }
     overwrite(held, at as usize, from).is_ok()
@@ -277,8 +274,8 @@ impl<M: Medium, A: Heap> ReadMedium for AppendBuffer<M, A> {
 impl<M: Medium, A: Heap> Medium for AppendBuffer<M, A> {
     ghost write_faults = { or_write M.write_faults };
 
-    /// Holds `from`, if it lies behind the medium's end and is small; else a beginning of it is written to the
-    /// medium, behind what is held. After a write that failed all others are refused.
+    /// Holds `from`, if it lies behind the medium's end and the limit has room for it; else a beginning of it is
+    /// written to the medium, behind what is held. After a write that failed all others are refused.
     fn write_at(&mut self, at: u64, from: &[u8]) -> Result<usize, MediumFault> {
         if from.is_empty() {
             return Ok(0);

@@ -1,4 +1,5 @@
 pub mod Values
 pub mod Closed
 pub mod Pieces
+pub mod Ahead
 pub mod Told

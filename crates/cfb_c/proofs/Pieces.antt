@@ -3,15 +3,28 @@ use Rattle.std.proofs.Common.{◌≡◌, ◌∙◌, ◌≤◌, ◌<◌, ℕ, Boo
 use borrow.Rule.Slice.PartMut.{post_of, put_mid}
 use Rattle.std.proofs.lemmas.List.{drop-drop, length-append, length-drop, length-take-le, take-append-le}
 use Rattle.std.proofs.Math.Seq.{take-add, take-append-add}
-use Rattle.std.specs.Prelude.{◌⊎◌, ◌||◌, ◌==◌, MatchBool, MatchOption, Option, Some, None, nat_lt, nat_le, ⊤, if◌then◌else◌}
+use Rattle.std.specs.Prelude.{◌⊎◌, ◌||◌, ◌==◌, IfErr, IfOk, MatchBool, MatchOption, Option, Some, None, Result, Ok, Err, nat_lt, nat_le, ⊤, if◌then◌else◌}
+use Rattle.cfb_format.specs.declared.error.Error.{Error}
+use Rattle.cfb_format.specs.declared.error.Error.TheVariants.{NotFound, AlreadyExists, InvalidInput, InvalidData, Medium, Memory, Full, Unsound, Failed}
+use Rattle.cfb_format.specs.Refused.{CountsError}
+use Rattle.cfb_format.specs.Tree.{Tree}
+use Rattle.cfb_commands.specs.cfb_agreement.Files.{FileState, failures_of, is_failed}
+use Rattle.cfb_commands.specs.cfb_agreement.Laws.{with_flags}
+use Rattle.cfb_commands.specs.cfb_mini_sectors.State.{cases_of}
+use Rattle.cfb_commands.specs.cfb_path_changes.Answers.{Answers, MeansTree, setting_of}
+use Rattle.cfb_commands.specs.cfb_rules.Calls.{done, open_read_stream}
 use Rattle.cfb_commands.specs.cfb_rules.Refusal.{Refusal, failed_earlier, invalid_data, invalid_input}
-use Rattle.cfb_commands.specs.cfb_rules.Runs.{Causes, IsStreamBroken, StreamCallRuns, StreamOnFailed, StreamRun}
-use Rattle.cfb_commands.specs.cfb_rules.StreamCalls.{Moves, Read, Seek, Serves, Refuses, StreamReply, StreamSetting, StreamState, StreamStep, from_start, got, not_done, offset, place_within, read, seek, sought}
+use Rattle.cfb_commands.specs.cfb_rules.Runs.{Causes, IsStreamBroken, StreamCallRuns, StreamOnFailed, StreamRun, opened_by_path}
+use Rattle.cfb_commands.specs.cfb_rules.StreamCalls.{Moves, Read, Seek, Serves, Refuses, StreamCall, StreamReply, StreamSetting, StreamState, StreamStep, from_start, got, not_done, offset, place_within, read, seek, sought}
 use Rattle.cfb_format.specs.Medium.{part}
 use Rattle.cfb_commands.specs.cfb_stream_buffer.Contents.{stream_setting_of}
 use Rattle.cfb_commands.specs.cfb_stream_window.Windows.{Runs}
-use Rattle.cfb_commands.specs.cfb_compound_file.StreamAnswers.{OpenStream, StreamRunsBy, run_in, stored_in, stream_in}
-use Rattle.cfb_c.specs.Pieces.{HasRead, StandsIn}
+use Rattle.cfb_commands.specs.cfb_compound_file.OpenedStreams.{BeginsAt}
+use Rattle.cfb_commands.specs.cfb_compound_file.Stored.{kept_of}
+use Rattle.cfb_commands.specs.cfb_compound_file.StreamAnswers.{IsStreamRefused, OpenStream, StreamRunsBy, causes_of_reading, run_in, stored_in, stream_in}
+use Rattle.cfb_commands.specs.Commands.{refusal_of_error}
+use Rattle.cfb_commands.proofs.Errors.{known}
+use Rattle.cfb_c.specs.Pieces.{HasRead, IsNotReadFrom, IsPieceRefused, IsPieceRefusedBy, ReadsPart, ReadsPiece, StandsIn}
 
 got_not_done : (bytes : List ℕ) (r : Refusal) → got bytes ≡ not_done r → ⊥
 got_not_done bytes r e = cc
@@ -179,3 +192,59 @@ module _ (causes : Causes) (s next : OpenStream) where
   pub piece_in : (wanted : ℕ) (bytes : List ℕ) → StreamRunsBy causes s (read wanted) (got bytes) next → IsPiece (stream_in s) wanted bytes (stream_in next)
   unfolding Runs
   piece_in wanted bytes runs = piece_read causes (stream_setting_of (stored_in s)) (run_in s) (run_in next) wanted bytes runs
+
+-- ---- of the file
+
+-- what is kept but for the count of failures, which is the same, is the same
+pub same_file : (old new : FileState) → kept_of new ≡ kept_of old → failures_of new ≡ failures_of old → new ≡ old
+same_file old new kept count =
+    ap (λ (file : FileState). with_flags file (failures_of new) (is_failed file)) kept ∙ ap (λ (n : ℕ). with_flags old n (is_failed old)) count
+
+-- bytes in memory are read without a fault of the medium
+pub none_counted : (old new : ℕ) (e : Error) → CountsError (λ f. false) old new e → new ≡ old
+none_counted old new (NotFound d) same = same
+none_counted old new (AlreadyExists d) same = same
+none_counted old new (InvalidInput d) same = same
+none_counted old new (InvalidData d) same = same
+none_counted old new (Medium f) fails = absurd (let w : false ≡ true = fails.can in cc)
+none_counted old new Memory same = same
+none_counted old new Full same = same
+none_counted old new Unsound same = same
+none_counted old new Failed same = same
+
+-- ---- refused
+
+-- a call on the stream as it was opened, or behind bytes that were read
+pub piece_refused : (first old next : OpenStream) (at : ℕ) (call : StreamCall) (e : Error) → old.file ≡ first.file → next.file ≡ first.file → (stream_in old).len ≡ (stream_in first).len
+    → (stream_in old).content ≡ (stream_in first).content → (call ≡ seek (from_start at)) ⊎ ((wanted : ℕ) × (call ≡ read wanted) × (at ≤ (stream_in old).position))
+    → IsStreamRefused (causes_of_reading old.file next.file) (λ f. false) old call next e → IsPieceRefused first at e
+unfolding Runs
+piece_refused first old next at call e same still len content is why = record {
+  call = call;
+  old = run_in old;
+  new = run_in next;
+  is = is;
+  len = len;
+  content = content;
+  failed = ap (λ (file : FileState). is_failed file) same;
+  runs = subst (λ (r : Refusal). StreamCallRuns (causes_of_reading first.file first.file) (setting_of first.file).stream (run_in old) call (not_done r) (run_in next)) (known why.rules.0 e why.rules.1)
+      (subst (λ (file : FileState). StreamCallRuns (causes_of_reading first.file file) (setting_of first.file).stream (run_in old) call (not_done why.rules.0) (run_in next)) still
+      (subst (λ (file : FileState). StreamCallRuns (causes_of_reading file next.file) (setting_of file).stream (run_in old) call (not_done why.rules.0) (run_in next)) same why.rules.2));
+}
+
+-- ---- at a path
+
+module _ (file : FileState) (path : List ℕ) (s : OpenStream) (at : ℕ) (into : List ℕ) (opens : Answers file (open_read_stream path) done) (begins : BeginsAt file path s) where
+  pub reads_piece : (result : Result ℕ Error) → IfOk result (ReadsPart (stream_in s) at into) → IfOk result (ReadsPiece file path at into)
+  reads_piece (Ok n) part =
+      record { opens = opens; reads = λ tree means. subst (λ (z : StreamState). ReadsPart z at into n) (begins tree means) part }
+  reads_piece (Err e) part = tt
+
+  pub piece_not_read : (result : Result ℕ Error) → s.file ≡ file → IfErr result (IsPieceRefused s at) → IfErr result (IsNotReadFrom file path at)
+  piece_not_read (Ok n) same why = tt
+  piece_not_read (Err e) same why = inr (record {
+    opens = opens;
+    reads = λ tree means.
+        subst (λ (z : StreamState). IsPieceRefusedBy (causes_of_reading file file) (setting_of file).stream (record { stream = z; failed = is_failed file }) at (refusal_of_error e)) (begins tree means)
+        (subst (λ (f : FileState). IsPieceRefusedBy (causes_of_reading f f) (setting_of f).stream (record { stream = stream_in s; failed = is_failed f }) at (refusal_of_error e)) same why);
+  })

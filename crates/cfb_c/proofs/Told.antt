@@ -1,6 +1,9 @@
 -- What is told of objects, and of copies, put together.
-use Rattle.std.proofs.Common.{◌≡◌, ◌∙◌, ℕ, List, arith, subst, sym}
+use Rattle.std.proofs.Common.{◌≡◌, ◌∙◌, ℕ, List, ap, arith, drop, inl, length, min, replicate, subst, sym, take, ◌++◌}
+use Rattle.std.proofs.lemmas.List.{drop-replicate, length-take-le}
+use Rattle.std.proofs.Math.Seq.{drop-append_seam, take-append_seam}
 use Rattle.std.specs.Prelude.{None, Ok, Option, Some, Result, chars}
+use Rattle.cfb_format.specs.declared.error.Error.{Error}
 use Rattle.cfb_commands.specs.cfb_agreement.Files.{FileState}
 use Rattle.cfb_commands.specs.cfb_path_changes.Answers.{Answers}
 use Rattle.cfb_commands.specs.cfb_rules.Calls.{Call, EntryInfo, entries, one_entry}
@@ -13,7 +16,8 @@ use Rattle.cfb_c.specs.declared.refusal.Refusal.{Refusal}
 use Rattle.cfb_c.specs.Calls.{IsFileAnd, IsHeld, IsListAnd}
 use Rattle.cfb_c.specs.Files.{HoldsCopy}
 use Rattle.cfb_c.specs.Given.{IsGiven}
-use Rattle.cfb_c.specs.Lists.{GivesPath, HoldsList, IsInfoOf, KeepsList, TellsOne}
+use Rattle.cfb_c.specs.Reasons.{GivesReason}
+use Rattle.cfb_c.specs.Lists.{GivesPath, HoldsList, IsInfoOf, IsNamed, IsNameOf, KeepsList, TellsOne}
 
 pub told_one : (call : Call) (info : ObjectInfo) (file : FileState) (entry : EntryInfo) → Answers file call (one_entry entry) → IsInfoOf entry info → TellsOne call info file
 told_one call info file entry answers is = record { entry = entry; answers = answers; told = is }
@@ -41,3 +45,18 @@ module _ (call : Call) (file : FileState) (list : List EntryInfo) (answers : Ans
   pub holds_list : (listed : List EntryInfo) (new : Option Held) → listed ≡ list → KeepsList listed new → HoldsList call new file
   holds_list listed None same keeps = absurd keeps
   holds_list listed (Some held) same keeps = answered listed same held.kept keeps
+
+pub gives_some_text : {T : Type 0} (e : Error) (text room filled : List ℕ) (len : ℕ) (outcome : Result T Refusal) → IsGiven text room outcome filled len → GivesReason (Some e) room outcome filled len
+gives_some_text e text room filled len outcome given = inl (text, given)
+
+pub name_in_utf8 : (letters stored name : List ℕ) (len : ℕ) → chars stored ≡ letters → IsNamed stored name len → IsNameOf letters name len
+name_in_utf8 letters stored name len is named = record { stored = stored; is = is; named = named }
+
+pub named : (stored new zeros : List ℕ) (n : ℕ) → n ≡ min (length stored) 95 → new ≡ take n stored → zeros ≡ replicate 96 0 → IsNamed stored (new ++ drop n zeros) n
+named stored new zeros n count same none =
+    let len : length new ≡ n = ap (λ (bs : List ℕ). length bs) same ∙ length-take-le n stored (omega (arith, count)) in
+    record {
+      count = count;
+      bytes = ap (λ (k : ℕ). take k (new ++ drop n zeros)) (sym len) ∙ take-append_seam new (drop n zeros) ∙ same;
+      rest = ap (λ (k : ℕ). drop k (new ++ drop n zeros)) (sym len) ∙ drop-append_seam new (drop n zeros) ∙ ap (λ (bs : List ℕ). drop n bs) none ∙ drop-replicate n 96 0;
+    }

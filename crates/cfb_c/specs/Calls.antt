@@ -23,7 +23,7 @@ IsFileAnd P Nothing = ⊥
 -- bytes are held, of which P holds
 abbrev pub IsBytesAnd : (List ℕ → Type 0) → Kept → Type 0
 IsBytesAnd P (File file) = ⊥
-IsBytesAnd P (Bytes bytes) = P bytes.items
+IsBytesAnd P (Bytes bytes) = P bytes.bytes
 IsBytesAnd P (Entries list) = ⊥
 IsBytesAnd P Nothing = ⊥
 
@@ -71,7 +71,7 @@ module _ {T : Type 0} (does : List EntryInfo → Result T Refusal → Type 0) wh
 -- on the bytes that are held, if any are
 module _ {T : Type 0} (does : List ℕ → Result T Refusal → List ℕ → Type 0) where
   abbrev pub OnBytes : Kept → Result T Refusal → Kept → Type 0
-  OnBytes (Bytes bytes) outcome new = IsBytesAnd (does bytes.items outcome) new
+  OnBytes (Bytes bytes) outcome new = IsBytesAnd (does bytes.bytes outcome) new
   OnBytes (File file) outcome new = IsNotOpen (File file) outcome new
   OnBytes (Entries list) outcome new = IsNotOpen (Entries list) outcome new
   OnBytes Nothing outcome new = IsNotOpen Nothing outcome new

@@ -20,10 +20,11 @@ abbrev pub HoldsCopy : FileState → Option Held → Type 0
 HoldsCopy file None = ⊥
 HoldsCopy file (Some held) = IsFileAnd (λ copy. IsMadeCopy 0 copy × MeansTheSame file copy) held.kept
 
--- it was copied into what this handle holds, or the library refused, or memory lacked for what the handle would hold; the file is only read
-pub record CopiesInto {T : Type 0} (copy : Option Held) (old : FileState) (outcome : Result T Error) (new : FileState) : Type 0 where
+-- It was copied into what this handle holds; or the library refused, and the handle holds what it held; or memory lacked for what it would hold.
+-- The file is only read
+pub record CopiesInto {T : Type 0} (held copy : Option Held) (old : FileState) (outcome : Result T Error) (new : FileState) : Type 0 where
   pub reads : IsReadOnly true old new
-  pub answer : MatchResult outcome (λ _. HoldsCopy old copy) (λ e. CopyRefused old e ⊎ IsMemory e)
+  pub answer : MatchResult outcome (λ _. HoldsCopy old copy) (λ e. (CopyRefused old e × (copy ≡ held)) ⊎ IsMemory e)
 
 -- the bytes of this file are left, so many
 pub record IsLeftOf (file : FileState) (len : ℕ) (bytes : List ℕ) : Type 0 where
@@ -49,8 +50,8 @@ pub record StaysHeld (old : Option Held) (number : ℕ) (new : Option Held) : Ty
 
 -- the bytes that are held were opened as a file, or not
 abbrev pub OpensKept : (is_strict : Bool) → Option Held → Kept → ℕ → Option Held → Type 0
-OpensKept is_strict old (Bytes bytes) number new = Makes (IsFileAnd (IsOpenedWith (options_of is_strict) bytes.items 0))
-    (IsLibraryAnd (IsNotOpened is_strict bytes.items)) number new
+OpensKept is_strict old (Bytes bytes) number new = Makes (IsFileAnd (IsOpenedWith (options_of is_strict) bytes.bytes 0))
+    (IsLibraryAnd (IsNotOpened is_strict bytes.bytes)) number new
 OpensKept is_strict old kept number new = StaysHeld old number new
 
 abbrev pub OpensHeld : (is_strict : Bool) → Option Held → ℕ → Option Held → Type 0

@@ -1,10 +1,12 @@
 pub mod Holding
 pub mod Numbers
 pub mod Given
+pub mod Reasons
 pub mod Calls
 pub mod Lists
 pub mod Opened
 pub mod Streams
 pub mod Files
 pub mod Pieces
+pub mod Ahead
 pub mod Answered

@@ -1,5 +1,5 @@
 -- What is told of objects and of lists of them.
-use Rattle.std.specs.Prelude.{ℕ, ◌≡◌, ◌⊎◌, List, Option, None, Some, IsErrAnd, IsOk, MatchOption, Result, chars, slice_get}
+use Rattle.std.specs.Prelude.{ℕ, ◌≡◌, ◌⊎◌, ◌-◌, List, Option, None, Some, IsErrAnd, IsOk, MatchOption, Result, chars, drop, length, min, replicate, slice_get, take}
 use Rattle.cfb_format.specs.declared.error.Error.{Error}
 use Rattle.cfb_format.specs.declared.objtype.ObjType.{ObjType}
 use Rattle.cfb_format.specs.declared.objtype.ObjType.TheVariants.{Unallocated, Storage, Stream, Root}
@@ -21,8 +21,21 @@ kind_byte Storage = 1
 kind_byte Stream = 2
 kind_byte Root = 5
 
--- This is told of the object. Of its name no clause speaks.
+-- The first bytes of this name, as many as there is room for before a 0, and zeros behind them. A stored name has at most 93 bytes.
+pub record IsNamed (stored : List ℕ) (name : List ℕ) (len : ℕ) : Type 0 where
+  pub count : len ≡ min (length stored) 95
+  pub bytes : take len name ≡ take len stored
+  pub rest : drop len name ≡ replicate (96 - len) 0
+
+-- in UTF-8
+pub record IsNameOf (letters : List ℕ) (name : List ℕ) (len : ℕ) : Type 0 where
+  pub stored : List ℕ
+  pub is : chars stored ≡ letters
+  pub named : IsNamed stored name len
+
+-- This is told of the object.
 pub record IsInfoOf (entry : EntryInfo) (info : ObjectInfo) : Type 0 where
+  pub name : IsNameOf entry.name info.name info.name_len
   pub len : info.len ≡ entry.len
   pub created : info.created ≡ entry.created
   pub modified : info.modified ≡ entry.modified
@@ -46,9 +59,9 @@ abbrev pub HoldsList : Call → Option Held → FileState → Type 0
 HoldsList call None file = ⊥
 HoldsList call (Some held) file = IsListAnd (λ list. Answers file call (entries list)) held.kept
 
--- why there is none: the library refuses the call, or memory was refused for the list
-abbrev pub IsNotListed : Call → FileState → Error → Type 0
-IsNotListed call file e = AnswersNot file call e ⊎ IsMemory e
+-- why there is none: the library refuses the call, and the handle for the list holds what it held; or memory was refused for the list
+abbrev pub IsNotListed : (old new : Option Held) → Call → FileState → Error → Type 0
+IsNotListed old new call file e = (AnswersNot file call e × (new ≡ old)) ⊎ IsMemory e
 
 -- of the object of this number, if the list has so many, this is told; else an argument is wrong
 abbrev pub TellsAt : {T : Type 0} → (EntryInfo → Result T Refusal → Type 0) → List EntryInfo → (number : ℕ) → Result T Refusal → Type 0

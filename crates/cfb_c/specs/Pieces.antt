@@ -1,14 +1,16 @@
 -- What is read of a stream from a place on.
-use Rattle.std.specs.Prelude.{ℕ, ◌≡◌, ◌<◌, ◌≤◌, ◌+◌, ◌⊎◌, List, OnOk, Result, drop, length, take}
+use Rattle.std.specs.Prelude.{ℕ, ◌≡◌, ◌<◌, ◌≤◌, ◌+◌, ◌⊎◌, List, IfErr, OnOk, Result, drop, length, take}
 use Rattle.cfb_format.specs.declared.error.Error.{Error}
 use Rattle.cfb_format.specs.Tree.{Tree}
-use Rattle.cfb_commands.specs.cfb_agreement.Files.{FileState}
+use Rattle.cfb_commands.specs.cfb_agreement.Files.{FileState, is_failed}
+use Rattle.cfb_commands.specs.cfb_compound_file.StreamAnswers.{OpenStream, causes_of_reading, run_in}
 use Rattle.cfb_commands.specs.cfb_mini_sectors.State.{cases_of}
-use Rattle.cfb_commands.specs.cfb_path_changes.Answers.{Answers, MeansTree}
+use Rattle.cfb_commands.specs.cfb_path_changes.Answers.{Answers, AnswersNot, MeansTree, setting_of}
 use Rattle.cfb_commands.specs.cfb_rules.Calls.{done, open_read_stream}
-use Rattle.cfb_commands.specs.cfb_rules.Runs.{opened_by_path}
-use Rattle.cfb_commands.specs.cfb_rules.StreamCalls.{StreamState}
-use Rattle.cfb_whole_streams.specs.Content.{IsOnlyRead}
+use Rattle.cfb_commands.specs.cfb_rules.Refusal.{Refusal}
+use Rattle.cfb_commands.specs.cfb_rules.Runs.{Causes, StreamCallRuns, StreamRun, opened_by_path}
+use Rattle.cfb_commands.specs.cfb_rules.StreamCalls.{StreamCall, StreamSetting, StreamState, from_start, not_done, read, seek}
+use Rattle.cfb_commands.specs.Commands.{refusal_of_error}
 
 -- the same stream, at this place
 pub record StandsIn (s : StreamState) (at : ℕ) (next : StreamState) : Type 0 where
@@ -32,7 +34,33 @@ pub record ReadsPiece (file : FileState) (path : List ℕ) (at : ℕ) (into : Li
   pub opens : Answers file (open_read_stream path) done
   pub reads : (tree : Tree) → MeansTree file tree → ReadsPart (opened_by_path (cases_of file.base) tree path) at into count
 
--- of the file nothing has changed but the count of failures
+-- by the rules a seek to this place of the stream was refused so, or a read of it from there on
+pub record IsPieceRefusedBy (causes : Causes) (setting : StreamSetting) (first : StreamRun) (at : ℕ) (refusal : Refusal) : Type 0 where
+  pub call : StreamCall
+  pub old : StreamRun
+  pub new : StreamRun
+  pub is : (call ≡ seek (from_start at)) ⊎ ((wanted : ℕ) × (call ≡ read wanted) × (at ≤ old.stream.position))
+  pub len : old.stream.len ≡ first.stream.len
+  pub content : old.stream.content ≡ first.stream.content
+  pub failed : old.failed ≡ first.failed
+  pub runs : StreamCallRuns causes setting old call (not_done refusal) new
+
+-- of an open stream, whose file stays as it is
+abbrev pub IsPieceRefused : OpenStream → (at : ℕ) → Error → Type 0
+IsPieceRefused s at e = IsPieceRefusedBy (causes_of_reading s.file s.file) (setting_of s.file).stream (run_in s) at (refusal_of_error e)
+
+-- of the stream at this path, which was opened to be read, whatever tree the bytes mean
+pub record IsUnreadFrom (file : FileState) (path : List ℕ) (at : ℕ) (refusal : Refusal) : Type 0 where
+  pub opens : Answers file (open_read_stream path) done
+  pub reads : (tree : Tree) → MeansTree file tree → IsPieceRefusedBy (causes_of_reading file file) (setting_of file).stream
+      (record { stream = opened_by_path (cases_of file.base) tree path; failed = is_failed file }) at refusal
+
+-- the stream was not opened, or the piece was not read
+abbrev pub IsNotReadFrom : FileState → (path : List ℕ) → (at : ℕ) → Error → Type 0
+IsNotReadFrom file path at e = AnswersNot file (open_read_stream path) e ⊎ IsUnreadFrom file path at (refusal_of_error e)
+
+-- of the file nothing has changed
 pub record ReadsFrom {T : Type 0} (at : ℕ) (into : List ℕ) (count : ℕ) (path : List ℕ) (old : FileState) (outcome : Result T Error) (new : FileState) : Type 0 where
-  pub kept : IsOnlyRead old new
+  pub same : new ≡ old
   pub piece : OnOk outcome (ReadsPiece old path at into count)
+  pub refused : IfErr outcome (IsNotReadFrom old path at)

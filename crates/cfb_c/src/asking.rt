@@ -6,12 +6,13 @@ ghost use Rattle.cfb_commands.specs.cfb_mini_sectors.State.{version_of};
 ghost use Rattle.cfb_commands.specs.cfb_path_changes.Answers.{Answers};
 ghost use Rattle.cfb_commands.specs.cfb_rules.Calls as calls;
 ghost use Rattle.cfb_c.specs.Calls.{AtPath, Calls, OnFile, Tells};
+ghost use Rattle.cfb_c.specs.Reasons.{GivesReason, TellsReason};
 
 use crate::giving::give;
 use crate::handle::Handle;
 use crate::held::Kept;
 use crate::refusal::{NOT_OPEN, Refusal, answer, text};
-use cfb::Error;
+use cfb_format::error::Error;
 use std::alloc::Global;
 
 /// The version of a file: 3 or 4.
@@ -35,7 +36,7 @@ fn tell_version(kept: &Kept, version: &mut u32) -> Result<(), Refusal>
     let Kept::File(file) = kept else {
         return Err(Refusal::NotOpen);
     };
-    *version = u32::from(file.version().number());
+    *version = u32::from(file.inner.version().number());
     Ok(())
 }
 
@@ -61,7 +62,7 @@ fn tell_soundness(kept: &Kept, is_so: &mut bool) -> Result<(), Refusal>
     let Kept::File(file) = kept else {
         return Err(Refusal::NotOpen);
     };
-    *is_so = file.is_sound();
+    *is_so = file.inner.is_sound();
     Ok(())
 }
 
@@ -87,7 +88,7 @@ fn tell_failure(kept: &Kept, is_so: &mut bool) -> Result<(), Refusal>
     let Kept::File(file) = kept else {
         return Err(Refusal::NotOpen);
     };
-    *is_so = file.is_failed();
+    *is_so = file.inner.is_failed();
     Ok(())
 }
 
@@ -119,7 +120,7 @@ fn tell_existence(kept: &Kept, path: &[u8], is_so: &mut bool) -> Result<(), Refu
     let Kept::File(file) = kept else {
         return Err(Refusal::NotOpen);
     };
-    *is_so = file.exists(text(path)?);
+    *is_so = file.inner.exists(text(path)?);
     Ok(())
 }
 
@@ -151,7 +152,7 @@ fn tell_stream(kept: &Kept, path: &[u8], is_so: &mut bool) -> Result<(), Refusal
     let Kept::File(file) = kept else {
         return Err(Refusal::NotOpen);
     };
-    *is_so = file.is_stream(text(path)?);
+    *is_so = file.inner.is_stream(text(path)?);
     Ok(())
 }
 
@@ -183,7 +184,7 @@ fn tell_storage(kept: &Kept, path: &[u8], is_so: &mut bool) -> Result<(), Refusa
     let Kept::File(file) = kept else {
         return Err(Refusal::NotOpen);
     };
-    *is_so = file.is_storage(text(path)?);
+    *is_so = file.inner.is_storage(text(path)?);
     Ok(())
 }
 
@@ -196,24 +197,33 @@ pub extern "C" fn cfb_reason(
     into: &mut [u8],
     len: &mut usize,
 ) -> u8
-    ensures { file.new.value ≡ file.old.value }
+    ensures same { file.new.value ≡ file.old.value }
+    ensures told { TellsReason file.old.value into.old into.new len.new result }
 {
     *len = 0;
     let Some(held) = file.take(alloc) else {
         return NOT_OPEN;
     };
-    let told = reason(alloc, &held.refusal);
+    let told = tell_reason(alloc, &held.refusal, into, len);
     file.put(alloc, held);
-    match told {
-        Ok(text) => answer(give(text.as_bytes(), into, len)),
-        Err(e) => e.number(),
-    }
+    answer(told)
 }
 
-fn reason(alloc: Global, refusal: &Option<Error>) -> Result<String, Error> {
+#[tactic(auto, using(crate::proofs::Told::gives_some_text))]
+fn tell_reason(
+    alloc: Global,
+    refusal: &Option<Error>,
+    into: &mut [u8],
+    len: &mut usize,
+) -> Result<(), Refusal>
+    ensures { GivesReason refusal.now into.old result into.new len.new }
+{
+    let Some(e) = refusal else {
+        return give(&[], into, len);
+    };
     let mut text = String::new(alloc);
-    if let Some(e) = refusal {
-        write!(text, "{e}")?;
+    if write!(text, "{e}").is_err() {
+        return Err(Refusal::Library(Error::Memory));
     }
-    Ok(text)
+    give(text.as_bytes(), into, len)
 }

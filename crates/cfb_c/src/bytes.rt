@@ -10,9 +10,11 @@ ghost use Rattle.cfb_c.specs.Numbers.{IsLibraryAnd};
 use crate::giving::{give, give_part};
 use crate::handle::Handle;
 use crate::held::Kept;
+use crate::open_file::OpenFile;
 use crate::opening::opened_over;
 use crate::refusal::{NOT_OPEN, Refusal};
-use cfb::{Error, MemoryMedium};
+use cfb_format::error::Error;
+use cfb_lent::lent::LentMedium;
 use std::alloc::Global;
 use std::mem;
 
@@ -36,7 +38,7 @@ fn begun(alloc: Global, room: usize) -> Result<Kept, Refusal>
     ensures { MatchResult result (IsBytesAnd (λ bytes. bytes ≡ [])) (IsLibraryAnd IsMemory) }
 {
     match Vec::with_capacity(alloc, room) {
-        Ok(bytes) => Ok(Kept::Bytes(bytes)),
+        Ok(bytes) => Ok(Kept::Bytes(LentMedium::from_bytes(bytes))),
         Err(_) => Err(Refusal::Library(Error::Memory)),
     }
 }
@@ -63,7 +65,7 @@ fn append(kept: &mut Kept, more: &[u8]) -> Result<(), Refusal>
     let Kept::Bytes(bytes) = kept else {
         return Err(Refusal::NotOpen);
     };
-    match bytes.extend_from_slice(more) {
+    match bytes.append(more) {
         Ok(()) => Ok(()),
         Err(_) => Err(Refusal::Library(Error::Memory)),
     }
@@ -110,8 +112,8 @@ fn leave_bytes(kept: &mut Kept, len: &mut usize) -> Result<(), Refusal>
 {
     match mem::replace(kept, Kept::Nothing) {
         Kept::File(file) => {
-            let bytes = file.into_inner().into_bytes();
-            *len = bytes.len();
+            let bytes = file.into_file().into_inner();
+            *len = bytes.bytes().len();
             *kept = Kept::Bytes(bytes);
             Ok(())
         }
@@ -150,7 +152,7 @@ fn give_bytes(kept: &Kept, into: &mut [u8], len: &mut usize) -> Result<(), Refus
     let Kept::Bytes(bytes) = kept else {
         return Err(Refusal::NotOpen);
     };
-    give(bytes, into, len)
+    give(bytes.bytes(), into, len)
 }
 
 /// Copies a file, without its free sectors, to a file in memory, which `copy` holds then in place
@@ -161,7 +163,7 @@ fn give_bytes(kept: &Kept, into: &mut [u8], len: &mut usize) -> Result<(), Refus
 /// As `CompoundFile::copy_to`; `Memory` for what `copy` would hold too.
 #[unsafe(no_mangle)]
 pub extern "C" fn cfb_copy_bytes(alloc: Global, file: &mut Handle, copy: &mut Handle) -> u8
-    ensures { Calls (OnFile (CopiesInto copy.new.value)) file.old.value result file.new.value }
+    ensures { Calls (OnFile (CopiesInto copy.old.value copy.new.value)) file.old.value result file.new.value }
 {
     let Some(mut held) = file.take(alloc) else {
         return NOT_OPEN;
@@ -172,13 +174,14 @@ pub extern "C" fn cfb_copy_bytes(alloc: Global, file: &mut Handle, copy: &mut Ha
 
 #[tactic(auto, using(crate::proofs::Told::holds_copy))]
 fn copy_into(alloc: Global, kept: &mut Kept, copy: &mut Handle) -> Result<(), Refusal>
-    ensures { OnFile (CopiesInto copy.new.value) kept.old result kept.new }
+    ensures { OnFile (CopiesInto copy.old.value copy.new.value) kept.old result kept.new }
 {
     let Kept::File(file) = kept else {
         return Err(Refusal::NotOpen);
     };
-    let copied = file.copy_to(MemoryMedium::new(alloc))?;
-    if copy.hold(alloc, Ok(Kept::File(copied))) == 0 {
+    file.ahead = None;
+    let copied = file.inner.copy_to(LentMedium::from_bytes(Vec::new(alloc)))?;
+    if copy.hold(alloc, Ok(Kept::File(OpenFile::new(copied)))) == 0 {
         Ok(())
     } else {
         Err(Refusal::Library(Error::Memory))
@@ -206,7 +209,7 @@ fn tell_image_len(kept: &Kept, len: &mut u64) -> Result<(), Refusal>
     let Kept::File(file) = kept else {
         return Err(Refusal::NotOpen);
     };
-    *len = file.medium().bytes().len() as u64;
+    *len = file.inner.medium().bytes().len() as u64;
     Ok(())
 }
 
@@ -239,6 +242,6 @@ fn give_image(kept: &Kept, at: u64, into: &mut [u8], len: &mut usize) -> Result<
     let Kept::File(file) = kept else {
         return Err(Refusal::NotOpen);
     };
-    *len = give_part(file.medium().bytes(), at, into);
+    *len = give_part(file.inner.medium().bytes(), at, into);
     Ok(())
 }

@@ -7,7 +7,10 @@ ghost use Rattle.cfb_c.specs.Calls.{AtPath, Calls, OnFile};
 use crate::handle::Handle;
 use crate::held::Kept;
 use crate::refusal::{NOT_OPEN, Refusal, text};
-use cfb::{CompoundFile, Error, MemoryMedium, Timestamp};
+use cfb_codecs::timestamp::Timestamp;
+use cfb_compound_file::compound_file::CompoundFile;
+use cfb_format::error::Error;
+use cfb_lent::lent::LentMedium;
 use std::alloc::Global;
 use uuid::Uuid;
 
@@ -49,7 +52,8 @@ fn create_storage(kept: &mut Kept, path: &[u8], moment: u64) -> Result<(), Refus
     let Kept::File(file) = kept else {
         return Err(Refusal::NotOpen);
     };
-    create_storage_at(file, text(path)?, moment_of_units(moment))?;
+    file.ahead = None;
+    create_storage_at(&mut file.inner, text(path)?, moment_of_units(moment))?;
     Ok(())
 }
 
@@ -85,7 +89,8 @@ fn create_storage_all(kept: &mut Kept, path: &[u8], moment: u64) -> Result<(), R
     let Kept::File(file) = kept else {
         return Err(Refusal::NotOpen);
     };
-    create_storage_all_at(file, text(path)?, moment_of_units(moment))?;
+    file.ahead = None;
+    create_storage_all_at(&mut file.inner, text(path)?, moment_of_units(moment))?;
     Ok(())
 }
 
@@ -115,7 +120,8 @@ fn remove_storage(kept: &mut Kept, path: &[u8]) -> Result<(), Refusal>
     let Kept::File(file) = kept else {
         return Err(Refusal::NotOpen);
     };
-    remove_storage_at(file, text(path)?)?;
+    file.ahead = None;
+    remove_storage_at(&mut file.inner, text(path)?)?;
     Ok(())
 }
 
@@ -145,7 +151,8 @@ fn remove_storage_all(kept: &mut Kept, path: &[u8]) -> Result<(), Refusal>
     let Kept::File(file) = kept else {
         return Err(Refusal::NotOpen);
     };
-    remove_storage_all_at(file, text(path)?)?;
+    file.ahead = None;
+    remove_storage_all_at(&mut file.inner, text(path)?)?;
     Ok(())
 }
 
@@ -175,7 +182,8 @@ fn remove_stream(kept: &mut Kept, path: &[u8]) -> Result<(), Refusal>
     let Kept::File(file) = kept else {
         return Err(Refusal::NotOpen);
     };
-    remove_stream_at(file, text(path)?)?;
+    file.ahead = None;
+    remove_stream_at(&mut file.inner, text(path)?)?;
     Ok(())
 }
 
@@ -211,7 +219,8 @@ fn set_storage_clsid(kept: &mut Kept, path: &[u8], clsid: &[u8; 16]) -> Result<(
     let Kept::File(file) = kept else {
         return Err(Refusal::NotOpen);
     };
-    set_storage_clsid_at(file, text(path)?, Uuid::from_bytes(*clsid))?;
+    file.ahead = None;
+    set_storage_clsid_at(&mut file.inner, text(path)?, Uuid::from_bytes(*clsid))?;
     Ok(())
 }
 
@@ -246,7 +255,8 @@ fn set_state_bits(kept: &mut Kept, path: &[u8], bits: u32) -> Result<(), Refusal
     let Kept::File(file) = kept else {
         return Err(Refusal::NotOpen);
     };
-    set_state_bits_at(file, text(path)?, bits)?;
+    file.ahead = None;
+    set_state_bits_at(&mut file.inner, text(path)?, bits)?;
     Ok(())
 }
 
@@ -281,7 +291,8 @@ fn set_created_time(kept: &mut Kept, path: &[u8], moment: u64) -> Result<(), Ref
     let Kept::File(file) = kept else {
         return Err(Refusal::NotOpen);
     };
-    set_created_time_at(file, text(path)?, moment_of_units(moment))?;
+    file.ahead = None;
+    set_created_time_at(&mut file.inner, text(path)?, moment_of_units(moment))?;
     Ok(())
 }
 
@@ -316,12 +327,13 @@ fn set_modified_time(kept: &mut Kept, path: &[u8], moment: u64) -> Result<(), Re
     let Kept::File(file) = kept else {
         return Err(Refusal::NotOpen);
     };
-    set_modified_time_at(file, text(path)?, moment_of_units(moment))?;
+    file.ahead = None;
+    set_modified_time_at(&mut file.inner, text(path)?, moment_of_units(moment))?;
     Ok(())
 }
 
 fn create_storage_all_at(
-    file: &mut CompoundFile<MemoryMedium>,
+    file: &mut CompoundFile<LentMedium>,
     path: &str,
     moment: Timestamp,
 ) -> Result<(), Error>
@@ -330,20 +342,20 @@ fn create_storage_all_at(
     file.create_storage_all(path, moment)
 }
 
-fn remove_storage_all_at(file: &mut CompoundFile<MemoryMedium>, path: &str) -> Result<(), Error>
+fn remove_storage_all_at(file: &mut CompoundFile<LentMedium>, path: &str) -> Result<(), Error>
     ensures { IsAnswered (calls.remove_storage_all (chars path.now)) file.old result file.new }
 {
     file.remove_storage_all(path)
 }
 
-fn remove_stream_at(file: &mut CompoundFile<MemoryMedium>, path: &str) -> Result<(), Error>
+fn remove_stream_at(file: &mut CompoundFile<LentMedium>, path: &str) -> Result<(), Error>
     ensures { IsAnswered (calls.remove_stream (chars path.now)) file.old result file.new }
 {
     file.remove_stream(path)
 }
 
 fn create_storage_at(
-    file: &mut CompoundFile<MemoryMedium>,
+    file: &mut CompoundFile<LentMedium>,
     path: &str,
     moment: Timestamp,
 ) -> Result<(), Error>
@@ -352,14 +364,14 @@ fn create_storage_at(
     file.create_storage(path, moment)
 }
 
-fn remove_storage_at(file: &mut CompoundFile<MemoryMedium>, path: &str) -> Result<(), Error>
+fn remove_storage_at(file: &mut CompoundFile<LentMedium>, path: &str) -> Result<(), Error>
     ensures { IsAnswered (calls.remove_storage (chars path.now)) file.old result file.new }
 {
     file.remove_storage(path)
 }
 
 fn set_state_bits_at(
-    file: &mut CompoundFile<MemoryMedium>,
+    file: &mut CompoundFile<LentMedium>,
     path: &str,
     bits: u32,
 ) -> Result<(), Error>
@@ -369,7 +381,7 @@ fn set_state_bits_at(
 }
 
 fn set_created_time_at(
-    file: &mut CompoundFile<MemoryMedium>,
+    file: &mut CompoundFile<LentMedium>,
     path: &str,
     moment: Timestamp,
 ) -> Result<(), Error>
@@ -379,7 +391,7 @@ fn set_created_time_at(
 }
 
 fn set_modified_time_at(
-    file: &mut CompoundFile<MemoryMedium>,
+    file: &mut CompoundFile<LentMedium>,
     path: &str,
     moment: Timestamp,
 ) -> Result<(), Error>
@@ -389,7 +401,7 @@ fn set_modified_time_at(
 }
 
 fn set_storage_clsid_at(
-    file: &mut CompoundFile<MemoryMedium>,
+    file: &mut CompoundFile<LentMedium>,
     path: &str,
     clsid: Uuid,
 ) -> Result<(), Error>

@@ -9,8 +9,8 @@ ghost use Rattle.std.specs.Option.{MatchOption};
 
 use crate::held::{Held, Kept};
 use crate::refusal::{DONE, Refusal, answer};
-use cfb::Error;
 use cfb_boxes::loose::Loose;
+use cfb_format::error::Error;
 use std::alloc::Global;
 use std::marker::Model;
 use std::{mem, ptr};

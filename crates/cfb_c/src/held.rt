@@ -1,13 +1,16 @@
 //! What a handle holds.
-use cfb::{CompoundFile, Entry, Error, MemoryMedium};
+use crate::open_file::OpenFile;
+use cfb_format::error::Error;
+use cfb_lent::lent::LentMedium;
+use cfb_listing::entry::Entry;
 
 /// What a handle holds.
 #[derive(Drop)]
 pub enum Kept {
-    /// An open file, whose bytes are in memory.
-    File(CompoundFile<MemoryMedium>),
+    /// An open file, whose bytes are in memory: lent by the caller, or its own.
+    File(OpenFile),
     /// The bytes of a file that is to be opened, or was open.
-    Bytes(Vec<u8>),
+    Bytes(LentMedium),
     /// What is told of objects, in order.
     Entries(Vec<Entry>),
     /// Nothing was opened.

@@ -15,6 +15,8 @@ pub mod giving;
 pub mod handle;
 pub mod held;
 pub mod listing;
+pub mod open_file;
 pub mod opening;
 pub mod refusal;
 pub mod streams;
+pub mod writing;

@@ -5,13 +5,16 @@ ghost use Rattle.cfb_commands.specs.cfb_path_changes.Answers.{AnswersNot};
 ghost use Rattle.cfb_commands.specs.cfb_rules.Calls as calls;
 ghost use Rattle.cfb_listing.specs.Left.{entries_left};
 ghost use Rattle.cfb_c.specs.Calls.{Asks, AtPath, Calls, OnFile, OnList};
-ghost use Rattle.cfb_c.specs.Lists.{GivesInfo, GivesPath, HoldsList, IsInfoOf, IsNotListed, KeepsList, TellsAt, TellsOne, kind_byte};
+ghost use Rattle.cfb_c.specs.Lists.{GivesInfo, GivesPath, HoldsList, IsInfoOf, IsNamed, IsNotListed, KeepsList, TellsAt, TellsOne, kind_byte};
 
 use crate::giving::give;
 use crate::handle::Handle;
 use crate::held::Kept;
 use crate::refusal::{NOT_OPEN, Refusal, text, wrong};
-use cfb::{Entries, Entry, Error, MemoryMedium};
+use cfb_format::error::Error;
+use cfb_lent::lent::LentMedium;
+use cfb_listing::entries::Entries;
+use cfb_listing::entry::Entry;
 use std::alloc::Global;
 
 /// How many bytes a name has room for. A stored name has at most 31 UTF-16 units, of at most 3
@@ -63,20 +66,29 @@ fn kind_of(entry: &Entry) -> u8
     }
 }
 
+/// The name with zeros behind it, and how many bytes it has.
+#[tactic(auto, using(crate::proofs::Told::named))]
+fn name_of(stored: &[u8]) -> ([u8; NAME_ROOM], u8)
+    ensures { IsNamed stored.now result.0 result.1 }
+{
+    let mut name = [0; NAME_ROOM];
+    let len = stored.len().min(NAME_ROOM - 1);
+    name[..len].copy_from_slice(&stored[..len]);
+    (name, len as u8)
+}
+
+#[tactic(auto, using(crate::proofs::Told::name_in_utf8))]
 fn info_of(entry: &Entry) -> ObjectInfo
     ensures { IsInfoOf entry.now result }
 {
-    let mut name = [0; 96];
-    let stored = entry.name().as_bytes();
-    let name_len = stored.len().min(NAME_ROOM - 1);
-    name[..name_len].copy_from_slice(&stored[..name_len]);
+    let (name, name_len) = name_of(entry.name().as_bytes());
     ObjectInfo {
         len: entry.len(),
         created: entry.created().value(),
         modified: entry.modified().value(),
         state_bits: entry.state_bits(),
         kind: kind_of(entry),
-        name_len: name_len as u8,
+        name_len,
         clsid: entry.clsid().into_bytes(),
         name,
     }
@@ -111,7 +123,7 @@ fn tell_entry(kept: &Kept, path: &[u8], info: &mut ObjectInfo) -> Result<(), Ref
     let Kept::File(file) = kept else {
         return Err(Refusal::NotOpen);
     };
-    let entry = file.entry(text(path)?)?;
+    let entry = file.inner.entry(text(path)?)?;
     *info = info_of(&entry);
     Ok(())
 }
@@ -133,7 +145,7 @@ pub extern "C" fn cfb_list_n(
 ) -> u8
     ensures { Calls (OnFile (AtPath path.now (λ path.
         Asks (HoldsList (calls.read_storage path) entries.new.value)
-        (IsNotListed (calls.read_storage path))))) file.old.value result file.new.value }
+        (IsNotListed entries.old.value entries.new.value (calls.read_storage path))))) file.old.value result file.new.value }
 {
     let Some(held) = file.take(alloc) else {
         return NOT_OPEN;
@@ -145,12 +157,12 @@ pub extern "C" fn cfb_list_n(
 fn list(alloc: Global, kept: &Kept, path: &[u8], entries: &mut Handle) -> Result<(), Refusal>
     ensures { OnFile (AtPath path.now (λ path.
         Asks (HoldsList (calls.read_storage path) entries.new.value)
-        (IsNotListed (calls.read_storage path)))) kept.now result kept.now }
+        (IsNotListed entries.old.value entries.new.value (calls.read_storage path)))) kept.now result kept.now }
 {
     let Kept::File(file) = kept else {
         return Err(Refusal::NotOpen);
     };
-    let listed = collected(alloc, file.read_storage(text(path)?)?)?;
+    let listed = collected(alloc, file.inner.read_storage(text(path)?)?)?;
     keep_list(alloc, entries, listed)?;
     Ok(())
 }
@@ -173,7 +185,7 @@ pub extern "C" fn cfb_walk_n(
 ) -> u8
     ensures { Calls (OnFile (AtPath path.now (λ path.
         Asks (HoldsList (calls.walk_storage path) entries.new.value)
-        (IsNotListed (calls.walk_storage path))))) file.old.value result file.new.value }
+        (IsNotListed entries.old.value entries.new.value (calls.walk_storage path))))) file.old.value result file.new.value }
 {
     let Some(held) = file.take(alloc) else {
         return NOT_OPEN;
@@ -185,17 +197,17 @@ pub extern "C" fn cfb_walk_n(
 fn walk(alloc: Global, kept: &Kept, path: &[u8], entries: &mut Handle) -> Result<(), Refusal>
     ensures { OnFile (AtPath path.now (λ path.
         Asks (HoldsList (calls.walk_storage path) entries.new.value)
-        (IsNotListed (calls.walk_storage path)))) kept.now result kept.now }
+        (IsNotListed entries.old.value entries.new.value (calls.walk_storage path)))) kept.now result kept.now }
 {
     let Kept::File(file) = kept else {
         return Err(Refusal::NotOpen);
     };
-    let listed = collected(alloc, file.walk_storage(text(path)?)?)?;
+    let listed = collected(alloc, file.inner.walk_storage(text(path)?)?)?;
     keep_list(alloc, entries, listed)?;
     Ok(())
 }
 
-fn collected(alloc: Global, entries: Entries<'_, MemoryMedium>) -> Result<Vec<Entry>, Error>
+fn collected(alloc: Global, entries: Entries<'_, LentMedium>) -> Result<Vec<Entry>, Error>
     ensures { MatchResult result (λ list. list.items ≡ entries_left entries.entry) IsMemory }
 {
     match entries.collect(alloc) {

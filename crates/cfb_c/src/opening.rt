@@ -9,8 +9,13 @@ ghost use Rattle.cfb_commands.specs.cfb_compound_file.Opening.{IsCreatedWith, Is
 
 use crate::handle::Handle;
 use crate::held::Kept;
+use crate::open_file::OpenFile;
 use crate::refusal::{Refusal, wrong};
-use cfb::{CompoundFile, Error, MemoryMedium, OpenOptions, Version};
+use cfb_compound_file::compound_file::CompoundFile;
+use cfb_compound_file::options::OpenOptions;
+use cfb_format::error::Error;
+use cfb_format::version::Version;
+use cfb_lent::lent::LentMedium;
 use std::alloc::Global;
 
 /// Opens a file of these bytes, which are copied; where `is_strict` says so, what other writers are
@@ -41,20 +46,45 @@ fn opened(alloc: Global, bytes: &[u8], is_strict: bool) -> Result<Kept, Refusal>
         (IsLibraryAnd (IsNotOpened is_strict bytes.now)) }
 {
     match Vec::from_slice(alloc, bytes) {
-        Ok(copy) => opened_over(alloc, copy, is_strict),
+        Ok(copy) => opened_over(alloc, LentMedium::from_bytes(copy), is_strict),
         Err(_) => Err(Refusal::Library(Error::Memory)),
     }
 }
 
-/// Opens a file of these bytes, which it keeps.
-pub fn opened_over(alloc: Global, bytes: Vec<u8>, is_strict: bool) -> Result<Kept, Refusal>
-    ensures { MatchResult result
-        (IsFileAnd (IsOpenedWith (options_of is_strict) bytes.items 0))
-        (IsLibraryAnd (IsNotOpened is_strict bytes.items)) }
+/// Opens a file of these bytes, which are lent: no copy of them is made, unless the file is changed.
+/// They must stay as they are until `cfb_close`. Strictly where `is_strict` says so, as
+/// `cfb_open_bytes`.
+///
+/// What the handle held before is let go.
+///
+/// # Errors
+///
+/// As `cfb_open_bytes`.
+#[unsafe(no_mangle)]
+pub extern "C" fn cfb_open_lent(
+    alloc: Global,
+    file: &mut Handle,
+    bytes: &'static [u8],
+    is_strict: bool,
+) -> u8
+    ensures { Makes (IsFileAnd (IsOpenedWith (options_of is_strict) bytes.now 0))
+        (IsLibraryAnd (IsNotOpened is_strict bytes.now)) result file.new.value }
 {
-    let medium = MemoryMedium::from_bytes(bytes);
-    match options(is_strict).open_with(alloc, medium) {
-        Ok(file) => Ok(Kept::File(file)),
+    // For what follows they are lent for good: the library cannot see when C ends the loan.
+    file.hold(
+        alloc,
+        opened_over(alloc, LentMedium::lent(alloc, bytes), is_strict),
+    )
+}
+
+/// Opens a file of these bytes, which it keeps.
+pub fn opened_over(alloc: Global, bytes: LentMedium, is_strict: bool) -> Result<Kept, Refusal>
+    ensures { MatchResult result
+        (IsFileAnd (IsOpenedWith (options_of is_strict) bytes.bytes 0))
+        (IsLibraryAnd (IsNotOpened is_strict bytes.bytes)) }
+{
+    match options(is_strict).open_with(alloc, bytes.anew()) {
+        Ok(file) => Ok(Kept::File(OpenFile::new(file))),
         Err(e) => Err(Refusal::Library(e)),
     }
 }
@@ -98,9 +128,9 @@ fn created_as(alloc: Global, version: Version) -> Result<Kept, Refusal>
     ensures { MatchResult result (IsFileAnd (IsCreatedWith version permissive_options 0))
         (IsLibraryAnd (IsNotMade (version_number version))) }
 {
-    let medium = MemoryMedium::new(alloc);
+    let medium = LentMedium::from_bytes(Vec::new(alloc));
     match CompoundFile::create_with_version(alloc, version, medium) {
-        Ok(file) => Ok(Kept::File(file)),
+        Ok(file) => Ok(Kept::File(OpenFile::new(file))),
         Err(e) => Err(Refusal::Library(e)),
     }
 }

@@ -3,7 +3,7 @@ ghost use Rattle.std.specs.Prelude.{◌≡◌, MatchResult};
 ghost use Rattle.cfb_c.specs.declared.refusal.Refusal.TheVariants.{Library};
 ghost use Rattle.cfb_c.specs.Numbers.{IsPath, IsWrong, number_of_refusal, number_told, reason_in};
 
-use cfb::{Detail, Error};
+use cfb_format::error::{Detail, Error};
 use std::str;
 
 /// What a call answers where it is done.

@@ -20,3 +20,4 @@ pub mod Kinds
 pub mod Faults
 pub mod Failing
 pub mod Heeding
+pub mod Replies

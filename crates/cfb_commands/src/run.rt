@@ -1,5 +1,6 @@
 //! Commands are done one after the other.
 ghost use Rattle.std.specs.Prelude.{◌≡◌, ◌≤◌, ◌+◌, ◌||◌, true, All, IsTrue, drop, length, map, take, vec_capacity};
+ghost use Rattle.cfb_commands.specs.Replies.{RepliesToEach};
 ghost use Rattle.cfb_commands.specs.cfb_agreement.Files.{is_failed};
 ghost use Rattle.cfb_commands.specs.Commands.{command_of, command_reply_of};
 ghost use Rattle.cfb_commands.specs.Failing.{IsAsked, OnceFailed};
@@ -82,12 +83,7 @@ pub fn run<F: Medium, A: Heap + Clone>(
     replies: &mut Vec<Reply<A>, A>,
 )
     requires room { length replies.old.items + length commands.now ≤ vec_capacity replies.old }
-    ensures kept { take (length replies.old.items) replies.new.items ≡ replies.old.items }
-    ensures one_each { length replies.new.items
-        ≡ length replies.old.items + length commands.now }
-    ensures of_kinds { AreOfKinds (map kind_of_command commands.now)
-        (drop (length replies.old.items) replies.new.items) }
-    ensures asked { All IsAsked (drop (length replies.old.items) replies.new.items) }
+    ensures replies { RepliesToEach commands.now replies.old.items replies.new.items }
     ensures given { IsTrue F.tells → All (IsGiven (λ f. F.read_faults f || F.write_faults f))
         (drop (length replies.old.items) replies.new.items) }
     ensures runs { IsTrue F.tells → RunsLegally (λ f. F.read_faults f || F.write_faults f) file.old

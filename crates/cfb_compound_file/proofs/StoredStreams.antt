@@ -120,13 +120,14 @@ change_keeps i old new k = record { content = one-change-keeps-rest i old new k.
 -- what is kept, and where sectors were appended none is free: one change
 pub one_change : (i : ℕ) (old new : FileState) → KeepsAllButStream i old new → IsTight old new → ChangesStream i old new
 one_change i old new k tight = record {
-  content = record { setting = k.content.setting; entries = k.content.entries; others = k.content.others; header = k.content.header; sized = k.content.sized; parts = k.content.parts; grows = tight };
+  content = record { setting = k.content.setting; entries = k.content.entries; others = k.content.others; header = k.content.header; sized = k.content.sized; parts = k.content.parts; grows = tight.grows };
   unsound = k.unsound;
   failed = k.failed;
+  agrees = tight.agrees;
 }
 
 pub nothing_changes : (i : ℕ) (file : FileState) → ChangesStream i file file
-nothing_changes i file = record { content = same-content-is-none i file; unsound = λ _ _. refl; failed = λ failed. failed }
+nothing_changes i file = record { content = same-content-is-none i file; unsound = λ _ _. refl; failed = λ failed. failed; agrees = λ held. held }
 
 pub nothing_goes : (i : ℕ) (file : FileState) → KeepsAllButStream i file file
 nothing_goes i file = change_keeps i file file (nothing_changes i file)
@@ -161,9 +162,16 @@ flushes_tight first old new failures begun unfailed is k =
     subst (λ (z : FileState). IsTight first z) (sym is) (flags_are_tight first old failures begun (λ _. unfailed) k)
 
 -- nor where the tables stay
-pub tables_tight : (first old new : FileState) → is_failed old ≡ false → tables_in new.base ≡ tables_in old.base → IsTight first old → IsTight first new
-tables_tight first old new unfailed same k = λ calm.
-    subst (λ (t : TableState). length (tables_in first.base).fat < length t.fat → NoneFree t.fat × (length t.fat ≤ (tables_in first.base).max_sectors)) (sym same) (k unfailed)
+pub tables_tight : (first old new : FileState) → is_failed old ≡ false → tables_in new.base ≡ tables_in old.base → Agrees new → IsTight first old → IsTight first new
+tables_tight first old new unfailed same held k = record {
+  grows = λ calm.
+      subst (λ (t : TableState). length (tables_in first.base).fat < length t.fat → NoneFree t.fat × (length t.fat ≤ (tables_in first.base).max_sectors)) (sym same) (k.grows unfailed);
+  agrees = λ _. held;
+}
+
+-- one change of a content that the file holds
+pub changes_tight : (i : ℕ) (old new : FileState) → ChangesOneContent i old new → Agrees new → IsTight old new
+changes_tight i old new k held = record { grows = k.grows; agrees = λ _. held }
 
 -- a change of a sound file that has not failed, one after what was changed before
 pub changes_in_turn : (i : ℕ) (first old new : FileState) → old.is_sound ≡ true → is_failed old ≡ false → ChangesOneContent i old new

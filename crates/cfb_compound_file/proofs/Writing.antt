@@ -93,7 +93,7 @@ module _ (tells : Bool) (can_give : MediumFault → Bool) where
       once = λ told. absurd (never told);
       untouched = λ _. refl;
       unsound = λ _ _. refl;
-      clean = λ _ _. tt;
+      clean = λ _ _ _. refl;
       room = tt;
     };
     answer = record {

@@ -7,7 +7,7 @@ use Rattle.cfb_compound_file.specs.cfb_content.Contents.{KeepsFixedHeader, Keeps
 use Rattle.cfb_agreement.specs.Changes.{KeepsAllButContent}
 use Rattle.cfb_agreement.specs.Files.{FileState, SameSetting, failures_of, is_failed}
 use Rattle.cfb_agreement.specs.Laws.{with_flags}
-use Rattle.cfb_agreement.proofs.Flags.{parts-flagged}
+use Rattle.cfb_agreement.proofs.Flags.{flags-not-read, parts-flagged}
 use Rattle.cfb_agreement.proofs.Parts.{parts-then}
 use Rattle.cfb_agreement.proofs.Settled.{settled-flagged, settled-then}
 use Rattle.cfb_compound_file.specs.Stored.{IsTight, KeepsAllButStream, kept_of}
@@ -60,7 +60,10 @@ reads_keep i first old new same k =
 -- ---- tightness
 
 pub flags_are_tight : (first old : FileState) (failures : ℕ) (begun : Bool) → (begun ≡ false → is_failed old ≡ false) → IsTight first old → IsTight first (with_flags old failures begun)
-flags_are_tight first old failures begun unfailed k = λ calm. k (unfailed calm)
+flags_are_tight first old failures begun unfailed k = record {
+  grows = λ calm. k.grows (unfailed calm);
+  agrees = λ held calm. flags-not-read old failures begun (k.agrees held (unfailed calm));
+}
 
 pub reads_are_tight : (first old new : FileState) → kept_of new ≡ kept_of old → IsTight first old → IsTight first new
 reads_are_tight first old new same k =
@@ -68,4 +71,4 @@ reads_are_tight first old new same k =
     (subst (λ (z : FileState). IsTight first z) (sym same) (flags_are_tight first old 0 (is_failed old) (λ calm. calm) k))
 
 pub still_is_tight : (file : FileState) → IsTight file file
-still_is_tight file = λ calm longer. absurd (omega (arith, longer))
+still_is_tight file = record { grows = λ calm longer. absurd (omega (arith, longer)); agrees = λ held. held }

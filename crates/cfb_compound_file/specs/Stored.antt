@@ -8,7 +8,7 @@ use Rattle.cfb_compound_file.specs.cfb_mini_sectors.Held.{with_table}
 use Rattle.cfb_compound_file.specs.cfb_mini_sectors.State.{bytes_of, cases_of, content_of, entries_of, table_of, tables_in, version_of}
 use Rattle.cfb_compound_file.specs.cfb_content.Contents.{IsStreamOf, KeepsFixedHeader, KeepsOthers, MovesContent, len_of}
 use Rattle.cfb_agreement.specs.Changes.{ChangesOneContent, KeepsAllButContent}
-use Rattle.cfb_agreement.specs.Files.{FileState, GrowsTightly, SameSetting, is_failed}
+use Rattle.cfb_agreement.specs.Files.{Agrees, FileState, GrowsTightly, SameSetting, is_failed}
 use Rattle.cfb_agreement.specs.Laws.{with_flags}
 use Rattle.cfb_stream_buffer.specs.Contents.{Stored}
 
@@ -70,15 +70,18 @@ pub record KeepsAllButStream (entry : ℕ) (first now : FileState) : Type 0 wher
   pub unsound : first.is_sound ≡ false → is_failed now ≡ false → bytes_of now.base ≡ bytes_of first.base
   pub failed : is_failed first ≡ true → is_failed now ≡ true
 
--- one change of a content, or none: where it appended a sector none is free, and the limit is kept, unless the file has failed
-abbrev pub IsTight : FileState → FileState → Type 0
-IsTight old new = is_failed new ≡ false → GrowsTightly old.base new.base
+-- one change of a content, or none: where it appended a sector none is free, and the limit is kept, unless the file has failed; and what memory
+-- keeps is what the bytes say, if it was
+pub record IsTight (old new : FileState) : Type 0 where
+  pub grows : is_failed new ≡ false → GrowsTightly old.base new.base
+  pub agrees : Agrees old → Agrees new
 
 -- by one call, which leaves a file as made as it was made, and where it appended a sector none free
 pub record ChangesStream (entry : ℕ) (old new : FileState) : Type 0 where
   pub content : ChangesOneContent entry old new
   pub unsound : old.is_sound ≡ false → is_failed new ≡ false → bytes_of new.base ≡ bytes_of old.base
   pub failed : is_failed old ≡ true → is_failed new ≡ true
+  pub agrees : Agrees old → Agrees new
 
 -- by two of them, one after the other
 pub record ChangesInTurn (entry : ℕ) (old new : FileState) : Type 0 where

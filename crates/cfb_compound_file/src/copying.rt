@@ -2,8 +2,8 @@
 ghost use Rattle.std.specs.Prelude.{◌≡◌, ◌||◌, [], false, true, IsTrue, IfErr, IfOk, IsErrAnd, OnOk};
 ghost use Rattle.cfb_format.specs.declared.error.Error.TheVariants.{Failed};
 ghost use Rattle.cfb_agreement.specs.Files.{failures_of, is_failed};
-ghost use Rattle.cfb_copies.specs.Copies.{CanBeCopied, CopyRefused, IsMadeCopy, MeansTheSame, RefusesUnless, TakesAfter};
-ghost use Rattle.cfb_copies.specs.Steps.{CountsEither, IsReadOnly};
+ghost use Rattle.cfb_copies.specs.Copies.{CanBeCopied, CopyRefused, IsMadeCopy, MeansTheSame, RefusesUnless, TakesAfter, IsCopyOf};
+ghost use Rattle.cfb_copies.specs.Steps.{CountsEither, IsReadOnly, ReadsSource};
 ghost use Rattle.cfb_compound_file.specs.Opening.{permissive_options};
 
 use crate::compound_file::CompoundFile;
@@ -31,18 +31,16 @@ impl<F: ReadMedium, A: Heap + Clone> CompoundFile<F, A> {
     /// The file itself does not change.
     pub fn copy_to<W: Medium>(&mut self, dest: W) -> Result<CompoundFile<W, A>, Error>
         requires empty_medium { IsTrue W.tells → W.bytes dest ≡ [] }
-        ensures reads { IsReadOnly F.tells self.old self.new }
-        ensures after { IfOk result (TakesAfter permissive_options.buffer_limit self.old) }
-        ensures made { IsTrue W.tells → IfOk result (IsMadeCopy (W.failures dest)) }
+        ensures reads { ReadsSource F.tells F.read_faults W.tells (λ f. W.read_faults f ||
+            W.write_faults f) self.old self.new result }
+        ensures copy { IsCopyOf W.tells permissive_options.buffer_limit (W.failures dest) self.old
+            result }
         ensures tree { IsTrue F.tells → IsTrue W.tells → IfOk result (MeansTheSame self.old) }
         ensures failed { is_failed self.old ≡ true → IsErrAnd result (λ e. e ≡ Failed) }
         ensures allowed { IsTrue F.tells → OnOk result (CanBeCopied self.old) }
         ensures unless { IsTrue F.tells → is_failed self.old ≡ false
             → RefusesUnless self.old result }
         ensures err { IsTrue F.tells → IsTrue W.tells → IfErr result (CopyRefused self.old) }
-        ensures counts { IsTrue F.tells → CountsEither F.read_faults W.tells
-            (λ f. W.read_faults f || W.write_faults f) result
-            (failures_of self.old) (failures_of self.new) }
     {
         let volume = copy_volume(&mut self.volume, dest, DEFAULT_BUFFER_SIZE)?;
         Ok(CompoundFile { volume })

@@ -4,7 +4,7 @@ ghost use Rattle.cfb_format.specs.declared.error.Error.TheVariants.{Failed};
 ghost use Rattle.cfb_agreement.specs.Files.{failures_of, is_failed};
 ghost use Rattle.cfb_copies.specs.Copies.{IsMadeCopy, TakesAfter};
 ghost use Rattle.cfb_copies.specs.Salvaged.{IsSalvaged, RefusesCut, SalvageRefused};
-ghost use Rattle.cfb_copies.specs.Steps.{CountsEither, IsReadOnly};
+ghost use Rattle.cfb_copies.specs.Steps.{CountsEither, IsReadOnly, ReadsSource};
 ghost use Rattle.cfb_compound_file.specs.Opening.{permissive_options};
 
 use crate::compound_file::CompoundFile;
@@ -55,7 +55,8 @@ impl<F: ReadMedium, A: Heap + Clone> CompoundFile<F, A> {
     /// The file itself does not change.
     pub fn salvage_to<W: Medium>(&mut self, dest: W) -> Result<Salvaged<W, A>, Error>
         requires empty_medium { IsTrue W.tells → W.bytes dest ≡ [] }
-        ensures reads { IsReadOnly F.tells self.old self.new }
+        ensures reads { ReadsSource F.tells F.read_faults W.tells (λ f. W.read_faults f ||
+            W.write_faults f) self.old self.new result }
         ensures after { IfOk result (λ new.
             TakesAfter permissive_options.buffer_limit self.old new.file) }
         ensures made { IsTrue W.tells → IfOk result (λ new. IsMadeCopy (W.failures dest) new.file) }
@@ -64,9 +65,6 @@ impl<F: ReadMedium, A: Heap + Clone> CompoundFile<F, A> {
         ensures failed { is_failed self.old ≡ true → IsErrAnd result (λ e. e ≡ Failed) }
         ensures full { IsTrue F.tells → is_failed self.old ≡ false → RefusesCut self.old result }
         ensures err { IsTrue F.tells → IsTrue W.tells → IfErr result (SalvageRefused self.old) }
-        ensures counts { IsTrue F.tells → CountsEither F.read_faults W.tells
-            (λ f. W.read_faults f || W.write_faults f) result
-            (failures_of self.old) (failures_of self.new) }
     {
         let salvaged = salvage_volume(&mut self.volume, dest, DEFAULT_BUFFER_SIZE)?;
         let cfb_copies::salvaging::Salvaged { volume, extents } = salvaged;

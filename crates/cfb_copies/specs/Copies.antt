@@ -1,12 +1,12 @@
 -- A copy of a file: when there is one, and what it is.
-use Rattle.std.specs.Prelude.{ℕ, ◌≡◌, ◌<◌, ◌⊎◌, true, false, List, All, Result, IsErrAnd, length, slice_index, slice_index_or, ⊤}
+use Rattle.std.specs.Prelude.{ℕ, ◌≡◌, ◌<◌, ◌⊎◌, true, false, List, All, Result, IsErrAnd, length, slice_index, slice_index_or, ⊤, IfErr, IsTrue, IfOk, Bool}
 use Rattle.cfb_format.specs.declared.error.Error.{Error}
 use Rattle.cfb_format.specs.Bytes.{max_regular_sector}
 use Rattle.cfb_format.specs.Created.{created_bytes}
 use Rattle.cfb_format.specs.Full.{IsTooLarge}
 use Rattle.cfb_format.specs.Meaning.{Means}
 use Rattle.cfb_format.specs.Reading.{IsOutline, Outline}
-use Rattle.cfb_format.specs.Refused.{HasReason, no_error, number_of}
+use Rattle.cfb_format.specs.Refused.{HasReason, no_error, number_of, IsBreak}
 use Rattle.cfb_format.specs.Tree.{AreWhole, Tree, nothing}
 use Rattle.cfb_copy_sizes.specs.Cut.{cut_tree}
 use Rattle.cfb_built.specs.Copied.{CanAllBeCopied, Part, names_of, parts_copied}
@@ -20,7 +20,7 @@ use Rattle.cfb_copies.specs.cfb_mini_sectors.State.{bytes_of, cases_of, content_
 use Rattle.cfb_copies.specs.cfb_agreement.Files.{FileState, Holds, IsAsMade, failures_of, is_failed}
 use Rattle.cfb_copies.specs.declared.keeping.Keep.{Keep}
 use Rattle.cfb_volume.specs.Slots.{used_count}
-use Rattle.cfb_copies.specs.Steps.{IsCopyable, IsKeptAt, IsTight, LeadToEntry}
+use Rattle.cfb_copies.specs.Steps.{IsCopyable, IsKeptAt, IsTight, LeadToEntry, HasRoomOnTheWay, IsNotFull}
 
 -- ---- what is copied
 
@@ -149,3 +149,23 @@ abbrev pub RefusesUnless : {T : Type 0} → FileState → Result T Error → Typ
 RefusesUnless file result = (tree : Tree) → Means (cases_of file.base) (bytes_of file.base) tree
     → ((AreWhole tree.objects → ⊥) → IsErrAnd result (IsKindOrMemory 4))
     × (AreWhole tree.objects → IsTooLarge (version_of file.base) max_regular_sector tree → IsErrAnd result (IsKindOrMemory 7))
+
+-- the list has all objects of the source, each of which the target can be given, and the target has the source's version and letters
+pub record CanCopyAll (source target : FileState) (list : List Place) : Type 0 where
+  pub listed : ListsObjects source list
+  pub copyable : AreCopyable source list
+  pub in_version : version_of target.base ≡ version_of source.base
+  pub letters : cases_of target.base ≡ cases_of source.base
+
+-- where the source can be read and its parts have a place in the target's tree, memory or a medium refused it, and numbers lack only where there is
+-- no room on the way
+pub record CopyingRefused {T : Type 0} (tells target_tells : Bool) (keep : Keep) (source target : FileState) (list : List Place) (result : Result T Error) : Type 0 where
+  pub err : IsTrue tells → IsTrue target_tells → (tree : Tree) → AreReady keep source target list tree → IfErr result (IsBreak (Unit {0}))
+  pub enough : IsTrue tells → IsTrue target_tells → (tree : Tree) (o : Outline) → IsOutline (cases_of source.base) (entries_of source.base) o
+      → AreReady keep source target list tree → HasRoomOnTheWay target tree (parts_copied (cases_of target.base) (parts_in_file source o) tree)
+      → IfErr result IsNotFull
+
+-- the new file takes after the source, and where its medium tells its bytes it is a made copy
+pub record IsCopyOf (tells : Bool) (room failures : ℕ) (source : FileState) (result : Result FileState Error) : Type 0 where
+  pub after : IfOk result (TakesAfter room source)
+  pub made : IsTrue tells → IfOk result (IsMadeCopy failures)

@@ -1,5 +1,5 @@
 -- The steps of a copy: what each leaves alone in the source, and what it makes of the target.
-use Rattle.std.specs.Prelude.{ℕ, ◌≡◌, ◌≢◌, ◌+◌, ◌<◌, ◌≤◌, ◌⊎◌, Bool, true, false, IsTrue, List, ◌∷◌, length, Result, MatchResult, Some, ⊤}
+use Rattle.std.specs.Prelude.{ℕ, ◌≡◌, ◌≢◌, ◌+◌, ◌<◌, ◌≤◌, ◌⊎◌, Bool, true, false, IsTrue, List, ◌∷◌, length, Result, MatchResult, Some, ⊤, IfOk, OnOk, IfErr}
 use Rattle.cfb_format.specs.declared.error.Error.{Error}
 use Rattle.cfb_format.specs.declared.error.Error.TheVariants.{Full}
 use Rattle.cfb_format.specs.declared.medium.MediumFault.{MediumFault}
@@ -12,7 +12,7 @@ use Rattle.cfb_format.specs.Meaning.{Means, storage_info, stream_info}
 use Rattle.cfb_format.specs.Medium.{FailsBy}
 use Rattle.cfb_format.specs.Names.{Cases, is_valid_name}
 use Rattle.cfb_format.specs.Reading.{IsOutline, Outline}
-use Rattle.cfb_format.specs.Refused.{HasReason, at_every_error}
+use Rattle.cfb_format.specs.Refused.{HasReason, at_every_error, IsBreak}
 use Rattle.cfb_format.specs.Siblings.{entry_at}
 use Rattle.cfb_format.specs.Tree.{Tree}
 use Rattle.cfb_copies.specs.cfb_rules.CallChanges.{fields_changed_at, same_storage, same_stream, storage_added_at, stream_added_at}
@@ -23,7 +23,7 @@ use Rattle.cfb_siblings.specs.Paths.{HasOutline, number_from}
 use Rattle.cfb_copies.specs.cfb_tables.Changes.{NoneFree}
 use Rattle.cfb_copies.specs.cfb_trees.Reached.{IsObject, IsReached}
 use Rattle.cfb_copies.specs.cfb_entries.declared.fields.Fields.{Fields}
-use Rattle.cfb_copies.specs.cfb_mini_sectors.State.{MiniState, bytes_of, cases_of, entries_of, tables_in, version_of}
+use Rattle.cfb_copies.specs.cfb_mini_sectors.State.{MiniState, bytes_of, cases_of, entries_of, tables_in, version_of, content_of}
 use Rattle.cfb_copies.specs.cfb_content.Contents.{IsStreamOf, IsTooLongFor, KeepsFixedHeader, KeepsOthers, MovesContent, len_of}
 use Rattle.cfb_copies.specs.cfb_resizing.Turning.{LeavesNoMinis}
 use Rattle.cfb_volume.specs.Slots.{used_count}
@@ -32,6 +32,8 @@ use Rattle.cfb_places.specs.Laws.{IsWholeAt}
 use Rattle.cfb_copies.specs.declared.keeping.Keep.{Keep}
 use Rattle.cfb_copies.specs.declared.keeping.Keep.TheVariants.{Readable, Whole}
 use Rattle.cfb_copies.specs.cfb_agreement.Files.{FileState, Holds, IsAsBefore, IsAsMade, SameSetting, failures_of, is_failed}
+use Rattle.cfb_copies.specs.cfb_directory.State.{IsFullForEntry}
+use Rattle.cfb_volume.specs.Answers.{content_at}
 
 -- ---- the source
 
@@ -192,3 +194,54 @@ pub record IsNewIn (old new : FileState) (parent n : ℕ) (name : List ℕ) : Ty
   pub reached : IsReachedIn new n
   pub found : (first : List ℕ) (names : List (List ℕ)) → LeadToEntry old (parent_names (first ∷ names)) parent → last_name (first ∷ names) ≡ name
       → LeadToEntry new (first ∷ names) n
+
+-- the source was read at most, and of the failures of the two media its own are counted
+pub record ReadsSource {T : Type 0} (tells : Bool) (can_give : MediumFault → Bool) (target_tells : Bool) (target_gives : MediumFault → Bool) (old new : FileState) (result : Result T Error) : Type 0 where
+  pub reads : IsReadOnly tells old new
+  pub counts : IsTrue tells → CountsEither can_give target_tells target_gives result (failures_of old) (failures_of new)
+
+-- the object can be given to a file of the source's version, which the target is
+pub record CanCopyObject (source target : FileState) (entry : ℕ) : Type 0 where
+  pub copyable : IsCopyable source entry
+  pub in_version : version_of target.base ≡ version_of source.base
+
+-- one object of that name was added in the storage `parent`, and took one slot
+pub record AddsCopiedObject (tells : Bool) (parent : ℕ) (name : List ℕ) (old new : FileState) (result : Result ℕ Error) : Type 0 where
+  pub grows : OnOk result (GrowsTree tells old new)
+  pub is_new : IfOk result (λ n. IsNewIn old new parent n name)
+  pub used : OnOk result (used_count (entries_of new.base) ≡ used_count (entries_of old.base) + 1)
+
+-- where the storage takes the name, memory or the medium refused it, by a fault that it can give, and numbers lack only where no entry could be had
+pub record LikeRefused {T : Type 0} (tells : Bool) (can_give : MediumFault → Bool) (parent : ℕ) (name : List ℕ) (target : FileState) (result : Result T Error) : Type 0 where
+  pub err : IsTrue tells → Holds target → TakesName target parent name → IfErr result (IsBreak (Unit {0}))
+  pub enough : IsTrue tells → Holds target → (IsFullForEntry target.base.directory → ⊥) → IfErr result IsNotFull
+  pub fault : IsTrue tells → IfErr result (GivesFault can_give)
+
+-- where what is kept of the object can be read, memory or a medium refused it if the storage takes its name, and numbers do not lack where there is
+-- room for it
+pub record ObjectRefused {T : Type 0} (tells target_tells : Bool) (keep : Keep) (entry parent : ℕ) (source target : FileState) (result : Result T Error) : Type 0 where
+  pub err : IsTrue tells → IsTrue target_tells → Holds source → Holds target → IsKeptAt keep (entries_of source.base) (content_of source.base) entry
+      → TakesName target parent (entry_at (entries_of source.base) entry).name → IfErr result (IsBreak (Unit {0}))
+  pub enough : IsTrue tells → IsTrue target_tells → Holds source → Holds target
+      → IsKeptAt keep (entries_of source.base) (content_of source.base) entry → (part : Part)
+      → IsPart (content_of source.base) (entry_at (entries_of source.base) entry) part → LeadToEntry target (parent_names (names_of part)) parent
+      → HasRoomFor target part → IfErr result IsNotFull
+
+-- the source has the entry, whose stream is at least so long
+pub record HasBytesToCopy (file : FileState) (entry len : ℕ) : Type 0 where
+  pub from : entry < length (entries_of file.base)
+  pub within : len ≤ len_of file.base entry
+
+-- the entry is that of an empty stream, and the version allows this length
+pub record CanTakeBytes (file : FileState) (entry len : ℕ) : Type 0 where
+  pub fits : len ≤ max_stream_len (version_of file.base)
+  pub stream : IsStreamOf file.base entry
+  pub empty : len_of file.base entry ≡ 0
+
+-- where so many bytes of the source's stream can be read, memory or a medium refused it, and numbers do not lack where the target's stream can be
+-- filled
+pub record BytesRefused {T : Type 0} (tells target_tells : Bool) (from len to : ℕ) (source target : FileState) (result : Result T Error) : Type 0 where
+  pub err : IsTrue tells → IsTrue target_tells → Holds source → Holds target → len ≡ length (content_at source from)
+      → IfErr result (IsBreak (Unit {0}))
+  pub enough : IsTrue tells → IsTrue target_tells → Holds source → Holds target → len ≡ length (content_at source from)
+      → CanBeFilled target_tells target to len → IfErr result IsNotFull

@@ -1,5 +1,6 @@
 //! A whole file copied into an empty medium.
 ghost use Rattle.std.specs.Prelude.{◌≡◌, ◌<◌, ◌≤◌, ◌||◌, [], false, true, length, IsTrue, IfOk, IfErr, IfSome, IsErrAnd, MatchOption, OnOk, slice_index_or};
+ghost use Rattle.cfb_volume.specs.Changing.{CanChange};
 ghost use Rattle.cfb_format.specs.Content.{mini_stream_cutoff};
 ghost use Rattle.cfb_format.specs.declared.error.Error.TheVariants.{Failed};
 ghost use Rattle.cfb_format.specs.Meaning.{Means};
@@ -9,9 +10,9 @@ ghost use Rattle.cfb_format.specs.Tree.{Tree};
 ghost use Rattle.cfb_built.specs.Copied.{parts_copied};
 ghost use Rattle.cfb_copies.specs.cfb_mini_sectors.State.{bytes_of, cases_of, entries_of, version_of};
 ghost use Rattle.cfb_copies.specs.cfb_agreement.Files.{Agrees, Holds, failures_of, is_failed};
-ghost use Rattle.cfb_copies.specs.Copies.{AreCopyable, AreKept, AreReadable, AreReady, CanBeCopied, CopyRefused, HasNoObjects, IsFresh, IsMadeCopy, IsNotPrepared, ListsObjects, MeansCut, MeansTheSame, RefusesUnless, TakesAfter, parts_in_file};
+ghost use Rattle.cfb_copies.specs.Copies.{AreCopyable, AreKept, AreReadable, AreReady, CanBeCopied, CopyRefused, HasNoObjects, IsFresh, IsMadeCopy, IsNotPrepared, ListsObjects, MeansCut, MeansTheSame, RefusesUnless, TakesAfter, parts_in_file, CanCopyAll, CopyingRefused, IsCopyOf};
 ghost use Rattle.cfb_copies.specs.Salvaged.{FitsCut};
-ghost use Rattle.cfb_copies.specs.Steps.{CountsEither, GivesFault, GrowsTree, HasRoomOnTheWay, IsNoFault, IsNotFull, IsReadOnly};
+ghost use Rattle.cfb_copies.specs.Steps.{CountsEither, GivesFault, GrowsTree, HasRoomOnTheWay, IsNoFault, IsNotFull, IsReadOnly, ReadsSource};
 
 use crate::checking::{check_objects, listed_entry};
 use crate::keeping::Keep;
@@ -55,30 +56,17 @@ fn copy_listed<F: ReadMedium, W: Medium, A: Heap + Clone>(
 ) -> Result<(), Error>
     requires room { mini_stream_cutoff ≤ length piece.old }
     requires none { numbers.old.items ≡ [] }
-    requires listed { ListsObjects source.old list.now }
-    requires copyable { AreCopyable source.old list.now }
-    requires in_version { version_of target.old.base ≡ version_of source.old.base }
-    requires letters { cases_of target.old.base ≡ cases_of source.old.base }
-    requires sound { target.old.is_sound ≡ true }
-    requires unfailed { is_failed target.old ≡ false }
-    ensures reads { IsReadOnly F.tells source.old source.new }
+    requires can_copy { CanCopyAll source.old target.old list.now }
+    requires can_change { CanChange target.old }
+    ensures reads { ReadsSource F.tells F.read_faults W.tells (λ f. W.read_faults f ||
+        W.write_faults f) source.old source.new result }
     ensures grows { OnOk result (GrowsTree W.tells target.old target.new) }
     ensures tree { IsTrue F.tells → IsTrue W.tells → (tree : Tree) (o : Outline)
         → IsOutline (cases_of source.old.base) (entries_of source.old.base) o
         → AreReady keep source.old target.old list.now tree
         → OnOk result (Means (cases_of target.new.base) (bytes_of target.new.base)
         (parts_copied (cases_of target.old.base) (parts_in_file source.old o) tree)) }
-    ensures err { IsTrue F.tells → IsTrue W.tells → (tree : Tree)
-        → AreReady keep source.old target.old list.now tree → IfErr result (IsBreak Unit) }
-    ensures enough { IsTrue F.tells → IsTrue W.tells → (tree : Tree) (o : Outline)
-        → IsOutline (cases_of source.old.base) (entries_of source.old.base) o
-        → AreReady keep source.old target.old list.now tree
-        → HasRoomOnTheWay target.old tree
-        (parts_copied (cases_of target.old.base) (parts_in_file source.old o) tree)
-        → IfErr result IsNotFull }
-    ensures counts { IsTrue F.tells → CountsEither F.read_faults W.tells
-        (λ f. W.read_faults f || W.write_faults f) result
-        (failures_of source.old) (failures_of source.new) }
+    ensures error { CopyingRefused F.tells W.tells keep source.old target.old list.now result }
 {
     parts_stand_at_places();
     let _entries = source.entries();
@@ -99,13 +87,10 @@ pub(crate) fn fill<F: ReadMedium, W: Medium, A: Heap + Clone>(
     target: &mut Volume<W, A>,
     keep: Keep,
 ) -> Result<(), Error>
-    requires listed { ListsObjects source.old list.now }
-    requires copyable { AreCopyable source.old list.now }
-    requires in_version { version_of target.old.base ≡ version_of source.old.base }
-    requires letters { cases_of target.old.base ≡ cases_of source.old.base }
-    requires sound { target.old.is_sound ≡ true }
-    requires unfailed { is_failed target.old ≡ false }
-    ensures reads { IsReadOnly F.tells source.old source.new }
+    requires can_copy { CanCopyAll source.old target.old list.now }
+    requires can_change { CanChange target.old }
+    ensures reads { ReadsSource F.tells F.read_faults W.tells (λ f. W.read_faults f ||
+        W.write_faults f) source.old source.new result }
     ensures grows { OnOk result (GrowsTree W.tells target.old target.new) }
     ensures tree { IsTrue F.tells → IsTrue W.tells → Holds source.old → Holds target.old
         → AreKept keep source.old list.now → HasNoObjects target.old
@@ -116,9 +101,6 @@ pub(crate) fn fill<F: ReadMedium, W: Medium, A: Heap + Clone>(
     ensures enough { IsTrue F.tells → IsTrue W.tells → Holds source.old → Holds target.old
         → AreKept keep source.old list.now → HasNoObjects target.old
         → IsFresh target.old → FitsCut source.old → IfErr result IsNotFull }
-    ensures counts { IsTrue F.tells → CountsEither F.read_faults W.tells
-        (λ f. W.read_faults f || W.write_faults f) result
-        (failures_of source.old) (failures_of source.new) }
 {
     copied_objects_are_the_tree();
     parts_stand_at_places();
@@ -164,8 +146,7 @@ pub(crate) fn make_empty<F: ReadMedium, W: Medium, A: Heap + Clone>(
     buffer_limit: usize,
 ) -> Result<Volume<W, A>, Error>
     requires empty_medium { IsTrue W.tells → W.bytes dest ≡ [] }
-    ensures after { IfOk result (TakesAfter buffer_limit source.now) }
-    ensures made { IsTrue W.tells → IfOk result (IsMadeCopy (W.failures dest)) }
+    ensures copy { IsCopyOf W.tells buffer_limit (W.failures dest) source.now result }
     ensures empty { IsTrue W.tells → IfOk result HasNoObjects }
     ensures fresh { IsTrue W.tells → IfOk result IsFresh }
     ensures err { IfErr result (IsBreak ⊥) }
@@ -202,9 +183,9 @@ pub fn copy_volume<F: ReadMedium, W: Medium, A: Heap + Clone>(
     buffer_limit: usize,
 ) -> Result<Volume<W, A>, Error>
     requires empty_medium { IsTrue W.tells → W.bytes dest ≡ [] }
-    ensures reads { IsReadOnly F.tells source.old source.new }
-    ensures after { IfOk result (TakesAfter buffer_limit source.old) }
-    ensures made { IsTrue W.tells → IfOk result (IsMadeCopy (W.failures dest)) }
+    ensures reads { ReadsSource F.tells F.read_faults W.tells (λ f. W.read_faults f ||
+        W.write_faults f) source.old source.new result }
+    ensures copy { IsCopyOf W.tells buffer_limit (W.failures dest) source.old result }
     ensures tree { IsTrue F.tells → IsTrue W.tells → Agrees source.old
         → IfOk result (MeansTheSame source.old) }
     ensures failed { is_failed source.old ≡ true → IsErrAnd result (λ e. e ≡ Failed) }
@@ -213,9 +194,6 @@ pub fn copy_volume<F: ReadMedium, W: Medium, A: Heap + Clone>(
         → RefusesUnless source.old result }
     ensures err { IsTrue F.tells → IsTrue W.tells → Agrees source.old
         → IfErr result (CopyRefused source.old) }
-    ensures counts { IsTrue F.tells → CountsEither F.read_faults W.tells
-        (λ f. W.read_faults f || W.write_faults f) result
-        (failures_of source.old) (failures_of source.new) }
 {
     if source.is_failed() {
         return Err(Error::Failed);

@@ -1,5 +1,6 @@
 //! One object copied, with its fields and its bytes, but without what is in it.
 ghost use Rattle.std.specs.Prelude.{◌≡◌, ◌+◌, ◌↔◌, ◌≤◌, ◌||◌, ◌∷◌, ℕ, List, false, true, length, chars, IsTrue, IfOk, IfErr, OnOk};
+ghost use Rattle.cfb_volume.specs.Changing.{CanChange};
 ghost use Rattle.cfb_format.specs.Content.{mini_stream_cutoff};
 ghost use Rattle.cfb_format.specs.DirectoryEntry.{Entry};
 ghost use Rattle.cfb_format.specs.Refused.{IsBreak};
@@ -12,7 +13,7 @@ ghost use Rattle.cfb_copies.specs.cfb_directory.State.{IsFullForEntry};
 ghost use Rattle.cfb_copies.specs.cfb_mini_sectors.State.{bytes_of, cases_of, content_of, entries_of, version_of};
 ghost use Rattle.cfb_copies.specs.cfb_agreement.Files.{Holds, SameSetting, failures_of, is_failed};
 ghost use Rattle.cfb_volume.specs.Slots.{used_count};
-ghost use Rattle.cfb_copies.specs.Steps.{CanBeLike, CountsEither, GivesFault, GrowsTree, HasRoomFor, IsCopyable, IsKeptAt, IsLikeIn, IsNewIn, IsNotFull, IsPart, IsReachedIn, IsReadOnly, LeadToEntry, TakesName, fields_like, like_added};
+ghost use Rattle.cfb_copies.specs.Steps.{CanBeLike, CountsEither, GivesFault, GrowsTree, HasRoomFor, IsCopyable, IsKeptAt, IsLikeIn, IsNewIn, IsNotFull, IsPart, IsReachedIn, IsReadOnly, LeadToEntry, TakesName, fields_like, like_added, ReadsSource, CanCopyObject, AddsCopiedObject, LikeRefused, ObjectRefused};
 
 use crate::checking::{kind_of, listed_entry, name_of};
 use crate::keeping::{Keep, kept_len};
@@ -70,16 +71,12 @@ fn insert_like<W: Medium, A: Heap + Clone>(
     target: &mut Volume<W, A>,
 ) -> Result<u32, Error>
     requires like { CanBeLike (entries_in entries.now) entry }
-    requires sound { target.old.is_sound ≡ true }
-    requires unfailed { is_failed target.old ≡ false }
+    requires can_change { CanChange target.old }
     requires parent { IsReachedIn target.old parent }
-    ensures grows { OnOk result (GrowsTree W.tells target.old target.new) }
-    ensures is_new { IfOk result (λ n. IsNewIn target.old target.new parent n
-        (entry_at (entries_in entries.now) entry).name) }
+    ensures added { AddsCopiedObject W.tells parent (entry_at (entries_in entries.now)
+        entry).name target.old target.new result }
     ensures is_like { IfOk result
         (IsLikeIn (entry_at (entries_in entries.now) entry) target.new) }
-    ensures used { OnOk result (used_count (entries_of target.new.base)
-        ≡ used_count (entries_of target.old.base) + 1) }
     ensures tree { IsTrue W.tells → Holds target.old → OnOk result
         ((first : List ℕ) (names : List (List ℕ))
         → LeadToEntry target.old (parent_names (first ∷ names)) parent
@@ -87,12 +84,8 @@ fn insert_like<W: Medium, A: Heap + Clone>(
         → BecomesTree (cases_of target.old.base) (bytes_of target.old.base)
         (bytes_of target.new.base) (like_added (cases_of target.old.base)
         (entry_at (entries_in entries.now) entry) (first ∷ names))) }
-    ensures err { IsTrue W.tells → Holds target.old
-        → TakesName target.old parent (entry_at (entries_in entries.now) entry).name
-        → IfErr result (IsBreak Unit) }
-    ensures enough { IsTrue W.tells → Holds target.old
-        → (IsFullForEntry target.old.base.directory → ⊥) → IfErr result IsNotFull }
-    ensures fault { IsTrue W.tells → IfErr result (GivesFault W.write_faults) }
+    ensures error { LikeRefused W.tells W.write_faults parent (entry_at (entries_in entries.now)
+        entry).name target.old result }
 {
     let like = listed_entry(entries, entry);
     let name = name_of(entries, entry);
@@ -125,17 +118,13 @@ pub(crate) fn copy_object<F: ReadMedium, W: Medium, A: Heap + Clone>(
     keep: Keep,
 ) -> Result<u32, Error>
     requires room { mini_stream_cutoff ≤ length piece.old }
-    requires copyable { IsCopyable source.old entry }
-    requires in_version { version_of target.old.base ≡ version_of source.old.base }
-    requires sound { target.old.is_sound ≡ true }
-    requires unfailed { is_failed target.old ≡ false }
+    requires can_copy { CanCopyObject source.old target.old entry }
+    requires can_change { CanChange target.old }
     requires parent { IsReachedIn target.old parent }
-    ensures reads { IsReadOnly F.tells source.old source.new }
-    ensures grows { OnOk result (GrowsTree W.tells target.old target.new) }
-    ensures is_new { IfOk result (λ n. IsNewIn target.old target.new parent n
-        (entry_at (entries_of source.old.base) entry).name) }
-    ensures used { OnOk result (used_count (entries_of target.new.base)
-        ≡ used_count (entries_of target.old.base) + 1) }
+    ensures reads { ReadsSource F.tells F.read_faults W.tells (λ f. W.read_faults f ||
+        W.write_faults f) source.old source.new result }
+    ensures added { AddsCopiedObject W.tells parent (entry_at (entries_of source.old.base)
+        entry).name target.old target.new result }
     ensures tree { IsTrue F.tells → IsTrue W.tells → Holds source.old → Holds target.old
         → IsKeptAt keep (entries_of source.old.base) (content_of source.old.base) entry
         → OnOk result ((part : Part)
@@ -143,19 +132,7 @@ pub(crate) fn copy_object<F: ReadMedium, W: Medium, A: Heap + Clone>(
         → LeadToEntry target.old (parent_names (names_of part)) parent
         → BecomesTree (cases_of target.old.base) (bytes_of target.old.base)
         (bytes_of target.new.base) (part_copied (cases_of target.old.base) part)) }
-    ensures err { IsTrue F.tells → IsTrue W.tells → Holds source.old → Holds target.old
-        → IsKeptAt keep (entries_of source.old.base) (content_of source.old.base) entry
-        → TakesName target.old parent (entry_at (entries_of source.old.base) entry).name
-        → IfErr result (IsBreak Unit) }
-    ensures enough { IsTrue F.tells → IsTrue W.tells → Holds source.old → Holds target.old
-        → IsKeptAt keep (entries_of source.old.base) (content_of source.old.base) entry
-        → (part : Part)
-        → IsPart (content_of source.old.base) (entry_at (entries_of source.old.base) entry) part
-        → LeadToEntry target.old (parent_names (names_of part)) parent
-        → HasRoomFor target.old part → IfErr result IsNotFull }
-    ensures counts { IsTrue F.tells → CountsEither F.read_faults W.tells
-        (λ f. W.read_faults f || W.write_faults f) result
-        (failures_of source.old) (failures_of source.new) }
+    ensures error { ObjectRefused F.tells W.tells keep entry parent source.old target.old result }
 {
     let entries = source.entries();
     let kind = kind_of(entries, entry);

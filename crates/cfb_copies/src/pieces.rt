@@ -1,5 +1,6 @@
 //! The bytes of a stream, copied piece by piece.
 ghost use Rattle.std.specs.Prelude.{◌≡◌, ◌+◌, ◌^◌, ◌<◌, ◌≤◌, ◌||◌, false, true, length, IsTrue, IfErr, OnOk};
+ghost use Rattle.cfb_volume.specs.Changing.{CanChange};
 ghost use Rattle.cfb_format.specs.Bytes.{max_stream_len};
 ghost use Rattle.cfb_format.specs.Content.{mini_stream_cutoff};
 ghost use Rattle.cfb_format.specs.Medium.{part};
@@ -8,7 +9,7 @@ ghost use Rattle.cfb_copies.specs.cfb_mini_sectors.State.{entries_of, version_of
 ghost use Rattle.cfb_copies.specs.cfb_content.Contents.{IsStreamOf, len_of};
 ghost use Rattle.cfb_copies.specs.cfb_agreement.Files.{Holds, failures_of, is_failed};
 ghost use Rattle.cfb_volume.specs.Answers.{content_at};
-ghost use Rattle.cfb_copies.specs.Steps.{CanBeFilled, CountsEither, FillsStream, IsNotFull, IsReadOnly};
+ghost use Rattle.cfb_copies.specs.Steps.{CanBeFilled, CountsEither, FillsStream, IsNotFull, IsReadOnly, ReadsSource, HasBytesToCopy, CanTakeBytes, BytesRefused};
 
 use cfb_format::error::Error;
 use cfb_format::medium::{Medium, ReadMedium};
@@ -59,27 +60,16 @@ pub(crate) fn copy_bytes<F: ReadMedium, W: Medium, A: Heap + Clone>(
     piece: &mut [u8],
 ) -> Result<(), Error>
     requires room { mini_stream_cutoff ≤ length piece.old }
-    requires from { from < length (entries_of source.old.base) }
-    requires within { len ≤ len_of source.old.base from }
-    requires fits { len ≤ max_stream_len (version_of target.old.base) }
-    requires sound { target.old.is_sound ≡ true }
-    requires unfailed { is_failed target.old ≡ false }
-    requires stream { IsStreamOf target.old.base to }
-    requires empty { len_of target.old.base to ≡ 0 }
-    ensures reads { IsReadOnly F.tells source.old source.new }
+    requires source { HasBytesToCopy source.old from len }
+    requires empty_stream { CanTakeBytes target.old to len }
+    requires can_change { CanChange target.old }
+    ensures reads { ReadsSource F.tells F.read_faults W.tells (λ f. W.read_faults f ||
+        W.write_faults f) source.old source.new result }
     ensures fills { OnOk result (FillsStream W.tells to target.old target.new) }
     ensures content { IsTrue F.tells → IsTrue W.tells → Holds source.old → Holds target.old
         → len ≡ length (content_at source.old from)
         → OnOk result (content_at target.new to ≡ content_at source.old from) }
-    ensures err { IsTrue F.tells → IsTrue W.tells → Holds source.old → Holds target.old
-        → len ≡ length (content_at source.old from)
-        → IfErr result (IsBreak Unit) }
-    ensures enough { IsTrue F.tells → IsTrue W.tells → Holds source.old → Holds target.old
-        → len ≡ length (content_at source.old from) → CanBeFilled W.tells target.old to len
-        → IfErr result IsNotFull }
-    ensures counts { IsTrue F.tells → CountsEither F.read_faults W.tells
-        (λ f. W.read_faults f || W.write_faults f) result
-        (failures_of source.old) (failures_of source.new) }
+    ensures error { BytesRefused F.tells W.tells from len to source.old target.old result }
 {
     let mut at: u64 = 0;
     while at < len {

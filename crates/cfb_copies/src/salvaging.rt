@@ -7,7 +7,7 @@ ghost use Rattle.cfb_copies.specs.cfb_mini_sectors.State.{content_of, entries_of
 ghost use Rattle.cfb_copies.specs.cfb_agreement.Files.{Agrees, Holds, failures_of, is_failed};
 ghost use Rattle.cfb_copies.specs.Copies.{AreCopyable, IsMadeCopy, ListsObjects, TakesAfter};
 ghost use Rattle.cfb_copies.specs.Salvaged.{FitsCut, IsFullOrMemory, IsSalvaged, RefusesCut, SalvageRefused, TellsExtents, extents_at};
-ghost use Rattle.cfb_copies.specs.Steps.{CountsEither, IsNoFault, IsReadOnly};
+ghost use Rattle.cfb_copies.specs.Steps.{CountsEither, IsNoFault, IsReadOnly, ReadsSource};
 
 use crate::checking::{is_allowed, kind_of, not_copied};
 use crate::copying::{fill, make_empty};
@@ -129,7 +129,8 @@ pub fn salvage_volume<F: ReadMedium, W: Medium, A: Heap + Clone>(
     buffer_limit: usize,
 ) -> Result<Salvaged<W, A>, Error>
     requires empty_medium { IsTrue W.tells → W.bytes dest ≡ [] }
-    ensures reads { IsReadOnly F.tells source.old source.new }
+    ensures reads { ReadsSource F.tells F.read_faults W.tells (λ f. W.read_faults f ||
+        W.write_faults f) source.old source.new result }
     ensures after { IfOk result (λ new. TakesAfter buffer_limit source.old new.volume) }
     ensures made { IsTrue W.tells → IfOk result (λ new. IsMadeCopy (W.failures dest) new.volume) }
     ensures salvaged { IsTrue F.tells → Agrees source.old
@@ -139,9 +140,6 @@ pub fn salvage_volume<F: ReadMedium, W: Medium, A: Heap + Clone>(
         → RefusesCut source.old result }
     ensures err { IsTrue F.tells → IsTrue W.tells → Agrees source.old
         → IfErr result (SalvageRefused source.old) }
-    ensures counts { IsTrue F.tells → CountsEither F.read_faults W.tells
-        (λ f. W.read_faults f || W.write_faults f) result
-        (failures_of source.old) (failures_of source.new) }
 {
     if source.is_failed() {
         return Err(Error::Failed);

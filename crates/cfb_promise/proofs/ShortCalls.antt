@@ -1,6 +1,7 @@
 -- Calls by path and on streams by the rules of the code's commands are those by the rules of calls, both ways.
-use Rattle.std.proofs.Common.{◌≡◌, ◌∙◌, ◌^◌, ◌-◌, ◌⊎◌, ℕ, List, Bool, true, false, refl, sym, ap, subst, inl, inr}
-use Rattle.std.specs.Prelude.{⊤, MatchBool, MatchOption, IsTrue, Option, Some, None, is_some, if◌then◌else◌}
+use Rattle.std.proofs.Common.{◌≡◌, ◌∙◌, ◌^◌, ◌-◌, ◌<◌, ◌⊎◌, ℕ, List, Bool, true, false, refl, sym, ap, arith, length, nat_le, subst, inl, inr}
+use Rattle.std.proofs.lemmas.Bool.Decides.{nat_tests}
+use Rattle.std.specs.Prelude.{⊤, ◌&&◌, ◌||◌, MatchBool, MatchOption, IsTrue, Option, Some, None, is_some, if◌then◌else◌}
 use Rattle.std.specs.Option.{option_map_or}
 use Rattle.std.specs.declared.io.traits.SeekFrom.{SeekFrom}
 use Rattle.std.specs.declared.io.traits.SeekFrom.TheVariants.{Start, End, Current}
@@ -15,9 +16,10 @@ use Rattle.cfb_rules.specs.CallChanges.{content_changed_at, tree_after}
 use Rattle.cfb_rules.specs.CallRefusals.{refusal_of, unless}
 use Rattle.cfb_rules.specs.CallReplies.{reply_of}
 use Rattle.cfb_rules.specs.Calls.{Call, Reply, create_storage_all, create_stream, refused}
+use Rattle.cfb_rules.proofs.CallBreaks.{creation_is_full}
 use Rattle.cfb_rules.specs.Lists.{CallStep, ClosingStep, Deed, FileView, IsSeenAsBefore, LacksFor, LeavesAll, LeavesFile, StreamCallStep, by_call, by_closing, by_stream_call, causes_between, names_at}
-use Rattle.cfb_rules.specs.Refusal.{Refusal, failed_earlier, file_full, invalid_input, medium_failed, not_sound}
-use Rattle.cfb_rules.specs.Runs.{BlamesOneOf, CallBreaksOff, Causes, CallRuns, Closes, FollowsRules, HasCause, IsBroken, IsStreamBroken, Setting, StreamBreaksOff, StreamCallRuns, StreamOnFailed, StreamRun, TreeState, Work, may_leave_failed}
+use Rattle.cfb_rules.specs.Refusal.{Refusal, failed_earlier, file_full, invalid_input, medium_failed, not_sound, out_of_memory}
+use Rattle.cfb_rules.specs.Runs.{BlamesOneOf, CallBreaksOff, Causes, CallRuns, Closes, FollowsRules, HasCause, IsBroken, IsStreamBroken, Setting, StreamBreaksOff, StreamCallRuns, StreamOnFailed, StreamRun, TreeState, Work, WorkMayBreak, may_leave_failed}
 use Rattle.cfb_rules.specs.Runs as rules
 use Rattle.cfb_rules.specs.Steps.{CallKind, asking, asking_freely, changing, creating, emptying, flushing, is_changing, is_there, kind_of, kind_on, outcome}
 use Rattle.cfb_rules.specs.StreamCalls.{Moves, Refuses, StreamReply, StreamState, StreamStep, not_done, offset}
@@ -28,11 +30,12 @@ use Rattle.cfb_commands.specs.cfb_stream_window.Windows.{whence_of}
 use Rattle.cfb_commands.specs.declared.command.StreamOp.{StreamOp}
 use Rattle.cfb_commands.specs.declared.command.StreamOp.TheVariants as op
 use Rattle.cfb_promise.specs.CallRules.{Rule}
-use Rattle.cfb_promise.specs.Files.{DiffersInContent, File, FullBy, FullCause, HasNoEntry, HasNoRoomFor, HasNoRoomForKept, HasSoundBytes, Keeps, MeansIt, StandsAt, Unfailed}
+use Rattle.cfb_promise.specs.Files.{DiffersInContent, File, FullBy, FullByCall, FullCause, HasNoEntry, HasNoRoomFor, HasNoRoomForKept, HasSoundBytes, Keeps, KeepsBack, LeavesAlone, LeavesSound, MeansIt, MemoryByCall, MemoryCause, StandsAt, Unfailed}
 use Rattle.cfb_promise.specs.Files as files
-use Rattle.cfb_promise.specs.Steps.{Breaks, Closing, Follows, IsLeft, IsSame, LeavesSound, LeavesUnsound, OnFailed, OpRuns, lacking, refusal_in, root_len}
+use Rattle.cfb_promise.specs.Steps.{Breaks, Closing, Follows, IsLeft, LeavesUnsound, OnFailed, OpRuns, refusal_in, root_len}
 use Rattle.cfb_promise.specs.Steps as short
-use Rattle.cfb_promise.specs.StreamRules.{IsAllowed, IsLeftBy, OpBreaks, OpLeavesFile, OpOnFailed, OpStep, sought, work_of}
+use Rattle.cfb_promise.specs.StreamRules.{CanBreak, IsAllowed, IsLeftBy, OpBreaks, OpLeavesFile, OpOnFailed, OpStep, may_write, sought, work_of}
+use Rattle.cfb_promise.proofs.Blaming.{blames, can_break, can_work, may_break, may_work, stream_is_full}
 use Rattle.cfb_promise.proofs.Views.{at_top, same_reading}
 
 -- ---- what the rules see
@@ -86,6 +89,23 @@ module _ (cases : Cases) (tree : Tree) where
 
 -- ---- causes
 
+-- any call that can fail may blame the medium, which is memory; and the numbers where so much lacks
+abbrev lacking : Bool → File → (lacks : Type 0) → Causes
+lacking sound f lacks = record { medium = ⊤; full = MatchBool sound (Unfailed f lacks) ⊤ }
+
+-- the tree stays, and the file has not failed
+abbrev IsSame : (old new : File) → Type 0
+IsSame old new = (new.tree ≡ old.tree) × (new.failed ≡ false)
+
+-- what lacks is there where it is known of a sound file, and only there
+cause_from : (b : Bool) (P : Type 0) → (IsTrue b → P) → MatchBool b P ⊤
+cause_from true P f = f refl
+cause_from false P f = tt
+
+cause_to : (b : Bool) (P : Type 0) → IsTrue b → MatchBool b P ⊤ → P
+cause_to true P is x = x
+cause_to false P is x = absurd (let w : false ≡ true = is in cc)
+
 module _ (sound : Bool) (old new : File) where
   -- nothing is asked of the medium
   no_rise : ⊤ → Rises (2 ^ 64 - 1) (2 ^ 64 - 1)
@@ -104,6 +124,50 @@ has_cause full x (refused medium_failed) = tt
 has_cause full x (refused file_full) = x
 has_cause full x (refused refusal) = tt
 has_cause full x reply = tt
+
+-- ---- tests
+
+both_so : (a b : Bool) → IsTrue a → IsTrue b → IsTrue (a && b)
+both_so true b x y = y
+both_so false b x y = x
+
+first_so : (a b : Bool) → IsTrue (a && b) → IsTrue a
+first_so true b x = refl
+first_so false b x = x
+
+and_none : (a b : Bool) → a ≡ false → (a && b) ≡ false
+and_none true b e = absurd (let w : true ≡ false = e in cc)
+and_none false b e = refl
+
+and_last : (a b : Bool) → b ≡ false → (a && b) ≡ false
+and_last true b e = e
+and_last false b e = refl
+
+and_rest : (a b : Bool) → a ≡ true → (a && b) ≡ false → b ≡ false
+and_rest true b e x = x
+and_rest false b e x = absurd (let w : false ≡ true = e in cc)
+
+or_left : (a b : Bool) → a ≡ true → IsTrue (a || b)
+or_left true b e = refl
+or_left false b e = absurd (let w : false ≡ true = e in cc)
+
+or_right : (a b : Bool) → b ≡ true → IsTrue (a || b)
+or_right true b e = refl
+or_right false b e = e
+
+or_none : (a b : Bool) → (a || b) ≡ false → (a ≡ false) × (b ≡ false)
+or_none true b e = absurd (let w : true ≡ false = e in cc)
+or_none false b e = (refl, e)
+
+or_so : (a b : Bool) → a ≡ false → b ≡ false → (a || b) ≡ false
+or_so true b e f = absurd (let w : true ≡ false = e in cc)
+or_so false b e f = f
+
+short_write : (n : ℕ) → nat_le 65536 n ≡ false → n < 65536
+short_write n short = grind (arith, nat_tests)
+
+not_long : (n : ℕ) → n < 65536 → nat_le 65536 n ≡ false
+not_long n short = grind (arith, nat_tests)
 
 -- what a sound file keeps
 full_of : (b : Bool) (old new : File) (K P : Type 0) → (K → P) → MatchBool b K (LeavesUnsound old new) → IsTrue b → P
@@ -159,7 +223,7 @@ module _ (cases : Cases) (version : Version) (sound : Bool) (old new : File) (ca
   its_rule = rule_from cases (root_len old) old.tree call
 
   abbrev no_entry : Causes
-  no_entry = lacking cases version sound new (HasNoEntry new.reading)
+  no_entry = lacking sound new (HasNoEntry new.reading)
 
   abbrev Nothing : Type 0
   Nothing = ((refusal : Refusal) × (reply ≡ refused refusal)) ⊎ (is_changing its_rule.kind ≡ false)
@@ -207,7 +271,7 @@ module _ (cases : Cases) (version : Version) (sound : Bool) (old new : File) (ca
       })
       go false e (inr x) = inr (record {
         refusal = x.0.0;
-        lacks = x.0.1;
+        can = can_break no_entry its_rule.kind x.0.0 x.0.1;
         told = x.0.2;
         allowed = elim x.0.3 [
           | inl m ↦ inl (m.0, (ap (λ (s : TreeState). s.tree) m.1, ap (λ (s : TreeState). s.failed) m.1 ∙ e))
@@ -217,9 +281,10 @@ module _ (cases : Cases) (version : Version) (sound : Bool) (old new : File) (ca
       })
 
   runs_back : (IsSame old new → Nothing → old.failed ≡ false → state new ≡ state old) → (old.failed ≡ true → new.failed ≡ true)
+      → (old.failed ≡ false → reply ≡ refused file_full → no_entry.full)
       → MatchBool old.failed (OnFailed its_rule.kind reply) (Follows cases version sound old its_rule reply new ⊎ Breaks cases version sound old its_rule reply new)
       → CallRuns no_entry (setting_by cases version sound) (state old) call reply (state new)
-  runs_back up sticks h = go old.failed refl h
+  runs_back up sticks lacks h = go old.failed refl h
     where
       go : (b : Bool) → old.failed ≡ b
           → MatchBool b (OnFailed its_rule.kind reply) (Follows cases version sound old its_rule reply new ⊎ Breaks cases version sound old its_rule reply new)
@@ -234,7 +299,7 @@ module _ (cases : Cases) (version : Version) (sound : Bool) (old new : File) (ca
       go false e (inr x) = inr (
         (
           x.refusal,
-          x.lacks,
+          may_break no_entry its_rule.kind x.refusal tt (λ is. lacks e (x.told ∙ ap (λ (q : Refusal). refused q) is)) x.can,
           x.told,
           elim x.allowed [
             | inl m ↦ inl (m.0, up m.1 (inl (x.refusal, x.told)) e)
@@ -266,20 +331,27 @@ module _ (cases : Cases) (version : Version) (sound : Bool) (old new : File) (ca
   }
   leaves_here false k = k
 
-  leaves_back : (b : Bool) → (IsTrue b → FullCause cases old (by_call call reply) new) → MatchBool b (LeavesSound cases version old new May Nothing (MeansIt new)) (LeavesUnsound old new)
+  -- what is said where it blames the numbers, or memory
+  abbrev pub Caused : Type 0
+  Caused = old.failed ≡ false → (reply ≡ refused file_full → FullByCall cases version old call new × Unfailed new (HasNoEntry new.reading))
+      × (reply ≡ refused out_of_memory → MemoryByCall cases old call new)
+
+  leaves_back : (b : Bool) → (IsTrue b → Caused) → MatchBool b (LeavesSound cases version old new May Nothing (MeansIt new)) (LeavesUnsound old new)
       → MatchBool b (Keeps cases version old (by_call call reply) new) (LeavesUnsound old new)
-  leaves_back true full l = record {
+  leaves_back true caused l = record {
     failed = l.failed;
     others = l.others;
     header = l.header;
     content = λ calm. tt;
-    full = full refl;
+    full = λ e calm. ((caused refl calm).0 e).0;
+    memory = λ e calm. (caused refl calm).1 e;
+    kept_back = λ no. absurd no;
     sound = l.sound;
     tidy = l.tidy;
     means = λ is. l.besides;
     stays = λ none. l.stays (nothing_here none);
   }
-  leaves_back false full l = l
+  leaves_back false caused l = l
 
   abbrev pub LongCall : Type 0
   LongCall = CallStep (seen_by cases version sound) (kept_by cases version sound) (setting_by cases version sound) old call reply new
@@ -294,21 +366,32 @@ module _ (cases : Cases) (version : Version) (sound : Bool) (old new : File) (ca
     leaves = leaves_here sound h.kept;
   }
 
-  -- what is said where it blames the numbers
-  pub call_full : LongCall → IsTrue sound → FullCause cases old (by_call call reply) new
-  call_full h = full_of sound old new (Keeps cases version old (by_call call reply) new) (FullCause cases old (by_call call reply) new) (λ k. k.full) h.kept
+  pub call_caused : LongCall → IsTrue sound → Caused
+  call_caused h is calm =
+      let k = full_of sound old new (Keeps cases version old (by_call call reply) new)
+      (FullCause cases version old (by_call call reply) new × MemoryCause cases old (by_call call reply) new) (λ k. (k.full, k.memory)) h.kept is in
+      let long : Causes = causes_between (seen_by cases version sound old) (seen_by cases version sound new) no_entry.full in (
+        λ e. (
+          k.0 e calm,
+          cause_to sound (Unfailed new (HasNoEntry new.reading)) is
+              (creation_is_full long (setting_by cases version sound) (state old) (state new) call
+              (subst (λ (x : Reply). CallRuns long (setting_by cases version sound) (state old) call x (state new)) e h.runs) calm).1,
+        ),
+        λ e. k.1 e calm,
+      )
 
-  pub call_back : IsSet cases version sound old → (IsTrue sound → FullCause cases old (by_call call reply) new) → ShortCall → LongCall
-  call_back set full h =
+  pub call_back : IsSet cases version sound old → (IsTrue sound → Caused) → ShortCall → LongCall
+  call_back set caused h =
       let sticks = sticks_by cases version old new sound May Nothing (MeansIt new) h.leaves in
       let same = reading_stays cases version old new sound May Nothing (MeansIt new) set h.leaves in
       record {
         runs = call_weaker no_entry (causes_between (seen_by cases version sound old) (seen_by cases version sound new) no_entry.full) (no_rise sound old new) (λ x. x)
             (setting_by cases version sound) (state old) (state new) call reply
-            (runs_back (λ s none was j. record { tree = s.0 j; root_len = (root_entry (same none was s.1 j)).stream_len; failed = (s.1 ∙ sym was) j }) sticks h.runs);
+            (runs_back (λ s none was j. record { tree = s.0 j; root_len = (root_entry (same none was s.1 j)).stream_len; failed = (s.1 ∙ sym was) j }) sticks
+            (λ was e. cause_from sound (Unfailed new (HasNoEntry new.reading)) (λ is. ((caused is was).0 e).1)) h.runs);
         stays = λ none calm. seen_as_before cases version old new sound (same (nothing_here none) (was_calm cases version old new sticks calm) calm) calm;
         counted = λ none. refl;
-        kept = leaves_back sound full h.leaves;
+        kept = leaves_back sound caused h.leaves;
       }
 
 -- ---- operations on a stream
@@ -324,14 +407,6 @@ module _ (cases : Cases) (version : Version) (sound : Bool) (names : List (List 
 
   abbrev run_now : StreamRun
   run_now = record { stream = t; failed = new.failed }
-
-  left_op : (w : Work) (r : Refusal) → StreamBreaksOff s w r run_now → IsLeftBy s w r t new.failed
-  left_op w r (inl x) = inl (x.0, ap (λ (z : StreamRun). z.stream) x.1, ap (λ (z : StreamRun). z.failed) x.1)
-  left_op w r (inr x) = inr x
-
-  left_op_back : (w : Work) (r : Refusal) → IsLeftBy s w r t new.failed → StreamBreaksOff s w r run_now
-  left_op_back w r (inl x) = inl (x.0, λ j. record { stream = x.1 j; failed = x.2 j })
-  left_op_back w r (inr x) = inr x
 
   module _ {A : Type 0} where
     step_here : (o : StreamOp A) → StreamStep limits s (stream_call_of o) reply t → OpStep limits s o reply t
@@ -362,55 +437,95 @@ module _ (cases : Cases) (version : Version) (sound : Bool) (names : List (List 
     failed_op_back op.Position f h = (f, h)
     failed_op_back o f h = (f, h)
 
-    broken_op : (c : Causes) (o : StreamOp A) → IsStreamBroken c limits s (stream_call_of o) reply run_now → OpBreaks c limits s o reply t new.failed
-    broken_op c (op.Seek to) x = (x.0, x.1, x.2, left_op (rules.work_of s (stream_call_of {A = A} (op.Seek to))) x.0 x.3, allowed_here (op.Seek to) x.4)
-    broken_op c o x = (x.0, x.1, x.2, left_op (rules.work_of s (stream_call_of o)) x.0 x.3, x.4)
-
-    broken_op_back : (c : Causes) (o : StreamOp A) → OpBreaks c limits s o reply t new.failed → IsStreamBroken c limits s (stream_call_of o) reply run_now
-    broken_op_back c (op.Seek to) x = (x.0, x.1, x.2, left_op_back (work_of {A = A} s (op.Seek to)) x.0 x.3, allowed_back (op.Seek to) x.4)
-    broken_op_back c o x = (x.0, x.1, x.2, left_op_back (work_of s o) x.0 x.3, x.4)
-
+    -- what lacks where the numbers are blamed
     abbrev lacks_of : StreamOp A → Causes
-    lacks_of o = lacking cases version sound new (short.LacksFor cases version sound new names o)
+    lacks_of o = record { medium = ⊤; full = LacksFor (seen_by cases version sound new) names (stream_call_of o) }
 
-    cause_here : (o : StreamOp A) → LacksFor (seen_by cases version sound new) names (stream_call_of o) → (lacks_of o).full
-    cause_here (op.SetLen len) x = x
-    cause_here o x = x
+    -- a short write with nothing pending keeps its bytes back
+    abbrev IsKept : StreamOp A → Type 0
+    IsKept o = KeepsBack (by_stream_call names s (stream_call_of o) reply t) → LeavesAlone old new
 
-    cause_back : (o : StreamOp A) → (lacks_of o).full → LacksFor (seen_by cases version sound new) names (stream_call_of o)
-    cause_back (op.SetLen len) x = x
-    cause_back o x = x
-
-    runs_op : (o : StreamOp A) → StreamCallRuns (lacks_of o) limits (record { stream = s; failed = old.failed }) (stream_call_of o) reply run_now
-        → MatchBool old.failed (OpOnFailed o reply) ((OpStep limits s o reply t × (new.failed ≡ false)) ⊎ OpBreaks (lacks_of o) limits s o reply t new.failed)
-    runs_op o h = go old.failed h
+    -- what may be written to the file is what the rules say, but for such a write
+    writes_here : (o : StreamOp A) → IsKept o → old.failed ≡ false → new.failed ≡ true → IsTrue (may_leave_failed s.pending (work_of s o)) → IsTrue (may_write s o)
+    writes_here (op.Write bytes) kept was failed may = go s.pending refl (nat_le 65536 (length bytes.items)) refl
       where
-        go : (b : Bool) → MatchBool b (StreamOnFailed (stream_call_of o) reply run_now)
-            ((StreamStep limits s (stream_call_of o) reply t × (new.failed ≡ false)) ⊎ IsStreamBroken (lacks_of o) limits s (stream_call_of o) reply run_now)
-            → MatchBool b (OpOnFailed o reply) ((OpStep limits s o reply t × (new.failed ≡ false)) ⊎ OpBreaks (lacks_of o) limits s o reply t new.failed)
-        go true x = failed_op o x
-        go false (inl x) = inl (step_here o x.0, x.1)
-        go false (inr x) = inr (broken_op (lacks_of o) o x)
+        go : (p : Bool) → s.pending ≡ p → (b : Bool) → nat_le 65536 (length bytes.items) ≡ b → IsTrue (may_leave_failed s.pending (work_of s (op.Write bytes)) && (s.pending || nat_le 65536 (length bytes.items)))
+        go true e b f = both_so _ _ may (or_left s.pending (nat_le 65536 (length bytes.items)) e)
+        go false e true f = both_so _ _ may (or_right s.pending (nat_le 65536 (length bytes.items)) f)
+        go false e false f = absurd (let w : true ≡ false = sym failed ∙ (kept (e, short_write (length bytes.items) f)).calm was in cc)
+    writes_here o kept was failed may = may
 
-    runs_op_back : (o : StreamOp A) → (old.failed ≡ true → new.failed ≡ true)
-        → MatchBool old.failed (OpOnFailed o reply) ((OpStep limits s o reply t × (new.failed ≡ false)) ⊎ OpBreaks (lacks_of o) limits s o reply t new.failed)
+    writes_back : (o : StreamOp A) → IsTrue (may_write s o) → IsTrue (may_leave_failed s.pending (work_of s o))
+    writes_back (op.Write bytes) may = first_so _ _ may
+    writes_back o may = may
+
+    op_left_here : (o : StreamOp A) (r : Refusal) → IsKept o → old.failed ≡ false → StreamBreaksOff s (work_of s o) r run_now → IsLeftBy s o r t new.failed
+    op_left_here o r kept was (inl x) = inl (x.0, ap (λ (z : StreamRun). z.stream) x.1, ap (λ (z : StreamRun). z.failed) x.1)
+    op_left_here o r kept was (inr x) = inr (writes_here o kept was x.1 x.0, x.1)
+
+    op_left_back : (o : StreamOp A) (r : Refusal) → IsLeftBy s o r t new.failed → StreamBreaksOff s (work_of s o) r run_now
+    op_left_back o r (inl x) = inl (x.0, λ j. record { stream = x.1 j; failed = x.2 j })
+    op_left_back o r (inr x) = inr (writes_back o x.0, x.1)
+
+    broken_op : (o : StreamOp A) → IsKept o → old.failed ≡ false → IsStreamBroken (lacks_of o) limits s (stream_call_of o) reply run_now → OpBreaks limits s o reply t new.failed
+    broken_op o kept was x = (
+      x.0,
+      subst (λ (w : Work). CanBreak s.pending w x.0) (work_same o) (can_work (lacks_of o) s.pending (rules.work_of s (stream_call_of o)) x.0 x.1),
+      x.2,
+      op_left_here o x.0 kept was (subst (λ (w : Work). StreamBreaksOff s w x.0 run_now) (work_same o) x.3),
+      allowed_here o x.4,
+    )
+
+    broken_op_back : (o : StreamOp A) → (reply ≡ not_done file_full → (lacks_of o).full) → OpBreaks limits s o reply t new.failed → IsStreamBroken (lacks_of o) limits s (stream_call_of o) reply run_now
+    broken_op_back o full x = (
+      x.0,
+      subst (λ (w : Work). WorkMayBreak (lacks_of o) s.pending w x.0) (sym (work_same o))
+          (may_work (lacks_of o) s.pending (work_of s o) x.0 tt (λ is. full (x.2 ∙ ap (λ (q : Refusal). not_done q) is)) x.1),
+      x.2,
+      subst (λ (w : Work). StreamBreaksOff s w x.0 run_now) (sym (work_same o)) (op_left_back o x.0 x.3),
+      allowed_back o x.4,
+    )
+
+    runs_op : (o : StreamOp A) → (old.failed ≡ false → IsStreamBroken (lacks_of o) limits s (stream_call_of o) reply run_now → IsKept o)
         → StreamCallRuns (lacks_of o) limits (record { stream = s; failed = old.failed }) (stream_call_of o) reply run_now
-    runs_op_back o sticks h = go old.failed refl h
+        → MatchBool old.failed (OpOnFailed o reply) ((OpStep limits s o reply t × (new.failed ≡ false)) ⊎ OpBreaks limits s o reply t new.failed)
+    runs_op o kept h = go old.failed refl h
       where
-        go : (b : Bool) → old.failed ≡ b → MatchBool b (OpOnFailed o reply) ((OpStep limits s o reply t × (new.failed ≡ false)) ⊎ OpBreaks (lacks_of o) limits s o reply t new.failed)
+        go : (b : Bool) → old.failed ≡ b → MatchBool b (StreamOnFailed (stream_call_of o) reply run_now)
+            ((StreamStep limits s (stream_call_of o) reply t × (new.failed ≡ false)) ⊎ IsStreamBroken (lacks_of o) limits s (stream_call_of o) reply run_now)
+            → MatchBool b (OpOnFailed o reply) ((OpStep limits s o reply t × (new.failed ≡ false)) ⊎ OpBreaks limits s o reply t new.failed)
+        go true e x = failed_op o x
+        go false e (inl x) = inl (step_here o x.0, x.1)
+        go false e (inr x) = inr (broken_op o (kept e x) e x)
+
+    runs_op_back : (o : StreamOp A) → (old.failed ≡ true → new.failed ≡ true) → (old.failed ≡ false → reply ≡ not_done file_full → (lacks_of o).full)
+        → MatchBool old.failed (OpOnFailed o reply) ((OpStep limits s o reply t × (new.failed ≡ false)) ⊎ OpBreaks limits s o reply t new.failed)
+        → StreamCallRuns (lacks_of o) limits (record { stream = s; failed = old.failed }) (stream_call_of o) reply run_now
+    runs_op_back o sticks full h = go old.failed refl h
+      where
+        go : (b : Bool) → old.failed ≡ b → MatchBool b (OpOnFailed o reply) ((OpStep limits s o reply t × (new.failed ≡ false)) ⊎ OpBreaks limits s o reply t new.failed)
             → MatchBool b (StreamOnFailed (stream_call_of o) reply run_now)
             ((StreamStep limits s (stream_call_of o) reply t × (new.failed ≡ false)) ⊎ IsStreamBroken (lacks_of o) limits s (stream_call_of o) reply run_now)
         go true e x = failed_op_back o (sticks e) x
         go false e (inl x) = inl (step_back o x.0, x.1)
-        go false e (inr x) = inr (broken_op_back (lacks_of o) o x)
+        go false e (inr x) = inr (broken_op_back o (full e) x)
+
+    -- where an operation had nothing to write, or was a short write with nothing pending
+    idle_here : (o : StreamOp A) → IsKept o → Unfailed new (LeavesFile s (stream_call_of o) reply → new.bytes ≡ old.bytes) → OpLeavesFile s o reply → Unfailed new (new.bytes ≡ old.bytes)
+    idle_here o kept stays (inl r) calm = stays calm (inl r)
+    idle_here (op.Write bytes) kept stays (inr e) calm = go (may_leave_failed s.pending (work_of s (op.Write bytes))) refl
+      where
+        go : (b : Bool) → may_leave_failed s.pending (work_of s (op.Write bytes)) ≡ b → new.bytes ≡ old.bytes
+        go false f = stays calm (inr f)
+        go true f =
+            let none = or_none s.pending (nat_le 65536 (length bytes.items)) (and_rest _ _ f e) in
+            (kept (none.0, short_write (length bytes.items) none.1)).same calm
+    idle_here o kept stays (inr e) calm = stays calm (inr (ap (may_leave_failed s.pending) (work_same o) ∙ e))
 
     file_here : (o : StreamOp A) → LeavesFile s (stream_call_of o) reply → OpLeavesFile s o reply
     file_here o (inl r) = inl r
+    file_here (op.Write bytes) (inr e) = inr (and_none _ _ e)
     file_here o (inr e) = inr (ap (may_leave_failed s.pending) (sym (work_same o)) ∙ e)
-
-    file_back : (o : StreamOp A) → OpLeavesFile s o reply → LeavesFile s (stream_call_of o) reply
-    file_back o (inl r) = inl r
-    file_back o (inr e) = inr (ap (may_leave_failed s.pending) (work_same o) ∙ e)
 
     module _ (o : StreamOp A) where
       abbrev At : ℕ → Type 0
@@ -422,7 +537,10 @@ module _ (cases : Cases) (version : Version) (sound : Bool) (names : List (List 
       abbrev Differs : Type 0
       Differs = DiffersInContent cases names old new
 
-      op_leaves_here : (b : Bool) → MatchBool b (Keeps cases version old (by_stream_call names s (stream_call_of o) reply t) new) (LeavesUnsound old new)
+      abbrev its_deed : Deed
+      its_deed = by_stream_call names s (stream_call_of o) reply t
+
+      op_leaves_here : (b : Bool) → MatchBool b (Keeps cases version old its_deed new) (LeavesUnsound old new)
           → MatchBool b (LeavesSound cases version old new At Idle Differs) (LeavesUnsound old new)
       op_leaves_here true k = record {
         failed = k.failed;
@@ -430,44 +548,93 @@ module _ (cases : Cases) (version : Version) (sound : Bool) (names : List (List 
         header = k.header;
         sound = k.sound;
         tidy = k.tidy;
-        stays = λ none. k.stays (file_back o none);
+        stays = λ none. idle_here o k.kept_back (λ calm leaves. k.stays leaves calm) none;
         besides = k.content;
       }
       op_leaves_here false k = k
 
-      op_full : (x : StreamOp A) → FullBy cases old names s (stream_call_of x) new → short.FullFor cases version sound names s old x new
-      op_full (op.SetLen len) y = y
-      op_full x y = y
+      -- a file that is not sound refuses a write by the rules
+      kept_so : (b : Bool) → sound ≡ b → MatchBool b (Keeps cases version old its_deed new) (LeavesUnsound old new)
+          → IsStreamBroken (lacks_of o) limits s (stream_call_of o) reply run_now → IsKept o
+      kept_so true e k x = k.kept_back
+      kept_so false e k x = λ is. absurd (unsound_writes o is (sym e) x)
+        where
+          unsound_writes : (q : StreamOp A) → KeepsBack (by_stream_call names s (stream_call_of q) reply t) → false ≡ sound
+              → IsStreamBroken (lacks_of q) limits s (stream_call_of q) reply run_now → ⊥
+          unsound_writes (op.Write bytes) is f y = let w : false ≡ true = f ∙ y.4.1 in cc
+          unsound_writes q is f y = is
 
-      op_full_back : (x : StreamOp A) → short.FullFor cases version sound names s old x new → FullBy cases old names s (stream_call_of x) new
-      op_full_back (op.SetLen len) y = y
+      op_full : (x : StreamOp A) → FullBy cases version old names s (stream_call_of x) new → LacksFor (seen_by cases version true new) names (stream_call_of x)
+          → short.FullFor cases version sound names s old x new
+      op_full (op.SetLen len) y lacks = (y, lacks y)
+      op_full (op.Write bytes) y lacks = (y, lacks)
+      op_full x y lacks = (y, lacks)
+
+      op_full_back : (x : StreamOp A) → short.FullFor cases version sound names s old x new
+          → FullBy cases version old names s (stream_call_of x) new × LacksFor (seen_by cases version true new) names (stream_call_of x)
+      op_full_back (op.SetLen len) y = (y.0, λ calm. y.1)
+      op_full_back (op.Write bytes) y = y
       op_full_back x y = y
 
-      op_leaves_back : (b : Bool) → (IsTrue b → reply ≡ not_done file_full → short.FullFor cases version sound names s old o new) → MatchBool b (LeavesSound cases version old new At Idle Differs) (LeavesUnsound old new)
-          → MatchBool b (Keeps cases version old (by_stream_call names s (stream_call_of o) reply t) new) (LeavesUnsound old new)
-      op_leaves_back true full l = record {
+      -- what is seen of a sound file lacks
+      lacks_to : (b : Bool) → IsTrue b → (x : StreamOp A) → LacksFor (seen_by cases version b new) names (stream_call_of x) → LacksFor (seen_by cases version true new) names (stream_call_of x)
+      lacks_to true is x y = y
+      lacks_to false is x y = absurd (let w : false ≡ true = is in cc)
+
+      lacks_from : (b : Bool) (x : StreamOp A) → (IsTrue b → LacksFor (seen_by cases version true new) names (stream_call_of x)) → LacksFor (seen_by cases version b new) names (stream_call_of x)
+      lacks_from true x y = y refl
+      lacks_from false (op.SetLen len) y = tt
+      lacks_from false x y = tt
+
+      -- a short write with nothing pending fails no file
+      keeps_back : (x : StreamOp A) → KeepsBack (by_stream_call names s (stream_call_of x) reply t) → may_write s x ≡ false
+      keeps_back (op.Write bytes) is = and_last _ _ (or_so s.pending (nat_le 65536 (length bytes.items)) is.0 (not_long (length bytes.items) is.1))
+      keeps_back x is = absurd is
+
+      left_alone : MatchBool old.failed (OpOnFailed o reply) ((OpStep limits s o reply t × (new.failed ≡ false)) ⊎ OpBreaks limits s o reply t new.failed)
+          → (Idle → Unfailed new (new.bytes ≡ old.bytes)) → IsKept o
+      left_alone runs stays is = record { calm = λ was. go old.failed was runs; same = stays (inr (keeps_back o is)) }
+        where
+          go : (b : Bool) → b ≡ false → MatchBool b (OpOnFailed o reply) ((OpStep limits s o reply t × (new.failed ≡ false)) ⊎ OpBreaks limits s o reply t new.failed)
+              → new.failed ≡ false
+          go true e x = absurd (let w : true ≡ false = e in cc)
+          go false e (inl x) = x.1
+          go false e (inr x) = elim x.3 [
+            | inl y ↦ y.2
+            | inr y ↦ absurd (let w : false ≡ true = sym (keeps_back o is) ∙ y.0 in cc)
+          ]
+
+      op_leaves_back : (b : Bool) → (IsTrue b → reply ≡ not_done file_full → Unfailed old (short.FullFor cases version sound names s old o new))
+          → MatchBool old.failed (OpOnFailed o reply) ((OpStep limits s o reply t × (new.failed ≡ false)) ⊎ OpBreaks limits s o reply t new.failed)
+          → MatchBool b (LeavesSound cases version old new At Idle Differs) (LeavesUnsound old new)
+          → MatchBool b (Keeps cases version old its_deed new) (LeavesUnsound old new)
+      op_leaves_back true full runs l = record {
         failed = l.failed;
         others = l.others;
         header = l.header;
         content = l.besides;
-        full = λ e. op_full_back o (full refl e);
+        full = λ e calm. (op_full_back o (full refl e calm)).0;
+        memory = tt;
+        kept_back = left_alone runs l.stays;
         sound = l.sound;
         tidy = l.tidy;
         means = λ no. absurd no;
         stays = λ none. l.stays (file_here o none);
       }
-      op_leaves_back false full l = l
+      op_leaves_back false full runs l = l
 
       pub op_here : StreamCallStep (seen_by cases version sound) (kept_by cases version sound) (setting_by cases version sound) names s old (stream_call_of o) reply t new
           → OpRuns cases version sound names s old o reply t new
-      op_here h = record {
-        runs = runs_op o (stream_call_weaker
-            (causes_between (seen_by cases version sound old) (seen_by cases version sound new) (LacksFor (seen_by cases version sound new) names (stream_call_of o))) (lacks_of o)
-            (λ x. tt) (cause_here o) limits (record { stream = s; failed = old.failed }) run_now (stream_call_of o) reply h.runs);
-        leaves = op_leaves_here sound h.kept;
-        full = λ is e. op_full o (full_of sound old new (Keeps cases version old (by_stream_call names s (stream_call_of o) reply t) new)
-            (reply ≡ not_done file_full → FullBy cases old names s (stream_call_of o) new) (λ k. k.full) h.kept is e);
-      }
+      op_here h =
+          let runs = stream_call_weaker
+          (causes_between (seen_by cases version sound old) (seen_by cases version sound new) (LacksFor (seen_by cases version sound new) names (stream_call_of o))) (lacks_of o)
+          (λ x. tt) (λ x. x) limits (record { stream = s; failed = old.failed }) run_now (stream_call_of o) reply h.runs in
+          record {
+            runs = runs_op o (λ was x. kept_so sound refl h.kept x) runs;
+            leaves = op_leaves_here sound h.kept;
+            full = λ is e was. op_full o (full_of sound old new (Keeps cases version old its_deed new) (FullCause cases version old its_deed new) (λ k. k.full) h.kept is e was)
+                (lacks_to sound is o (stream_is_full (lacks_of o) limits (record { stream = s; failed = old.failed }) run_now (stream_call_of o) reply e was runs));
+          }
 
       pub op_back : IsSet cases version sound old → OpRuns cases version sound names s old o reply t new
           → StreamCallStep (seen_by cases version sound) (kept_by cases version sound) (setting_by cases version sound) names s old (stream_call_of o) reply t new
@@ -476,11 +643,12 @@ module _ (cases : Cases) (version : Version) (sound : Bool) (names : List (List 
           record {
             runs = stream_call_weaker (lacks_of o)
                 (causes_between (seen_by cases version sound old) (seen_by cases version sound new) (LacksFor (seen_by cases version sound new) names (stream_call_of o)))
-                (no_rise sound old new) (cause_back o) limits (record { stream = s; failed = old.failed }) run_now (stream_call_of o) reply (runs_op_back o sticks h.runs);
+                (no_rise sound old new) (λ x. x) limits (record { stream = s; failed = old.failed }) run_now (stream_call_of o) reply
+                (runs_op_back o sticks (λ was e. lacks_from sound o (λ is. (op_full_back o (h.full is e was)).1)) h.runs);
             stays = λ none calm. seen_as_before cases version old new sound
                 (reading_stays cases version old new sound At Idle Differs set h.leaves (file_here o none) (was_calm cases version old new sticks calm) calm) calm;
             counted = λ none. refl;
-            kept = op_leaves_back sound h.full h.leaves;
+            kept = op_leaves_back sound h.full h.runs h.leaves;
           }
 
 -- ---- closing
@@ -493,7 +661,7 @@ module _ (cases : Cases) (version : Version) (sound : Bool) (path : List ℕ) (t
   Done = DiffersInContent cases (names_at path) old new × MeansIt new
 
   abbrev full : Causes
-  full = lacking cases version sound new (IsFull max_regular_sector new.reading)
+  full = lacking sound new (IsFull max_regular_sector new.reading)
 
   abbrev IsClosed : Type 0
   IsClosed = new.tree ≡ (if sound then content_changed_at cases s.content (names_at path) tree else tree)
@@ -502,24 +670,31 @@ module _ (cases : Cases) (version : Version) (sound : Bool) (path : List ℕ) (t
   stream_then = record { stream = s; failed = old.failed }
 
   closes_here : Closes full stream_then closing new.failed → MatchBool old.failed (closing ≡ Some failed_earlier)
-      (MatchOption closing (new.failed ≡ false) (λ refusal. IsTrue s.pending × BlamesOneOf ⊤ ⊤ full.full refusal × (new.failed ≡ true)))
-  closes_here h = go old.failed h
+      (MatchOption closing (new.failed ≡ false) (λ refusal. IsTrue s.pending × BlamesOneOf ⊤ ⊤ ⊤ refusal × (new.failed ≡ true)))
+  closes_here h = go old.failed closing h
     where
-      go : (b : Bool) → MatchBool b ((closing ≡ Some failed_earlier) × (new.failed ≡ true))
-          (MatchOption closing (new.failed ≡ false) (λ refusal. IsTrue s.pending × BlamesOneOf full.medium ⊤ full.full refusal × (new.failed ≡ true)))
-          → MatchBool b (closing ≡ Some failed_earlier) (MatchOption closing (new.failed ≡ false) (λ refusal. IsTrue s.pending × BlamesOneOf ⊤ ⊤ full.full refusal × (new.failed ≡ true)))
-      go true x = x.0
-      go false x = x
+      go : (b : Bool) (o : Option Refusal) → MatchBool b ((o ≡ Some failed_earlier) × (new.failed ≡ true))
+          (MatchOption o (new.failed ≡ false) (λ refusal. IsTrue s.pending × BlamesOneOf full.medium ⊤ full.full refusal × (new.failed ≡ true)))
+          → MatchBool b (o ≡ Some failed_earlier) (MatchOption o (new.failed ≡ false) (λ refusal. IsTrue s.pending × BlamesOneOf ⊤ ⊤ ⊤ refusal × (new.failed ≡ true)))
+      go true o x = x.0
+      go false None x = x
+      go false (Some refusal) x = (x.0, blames full.medium ⊤ full.full ⊤ ⊤ ⊤ refusal (λ y. tt) (λ y. y) (λ e y. tt) x.1, x.2)
 
   closes_back : (old.failed ≡ true → new.failed ≡ true) → MatchBool old.failed (closing ≡ Some failed_earlier)
-      (MatchOption closing (new.failed ≡ false) (λ refusal. IsTrue s.pending × BlamesOneOf ⊤ ⊤ full.full refusal × (new.failed ≡ true))) → Closes full stream_then closing new.failed
-  closes_back sticks h = go old.failed refl h
+      (MatchOption closing (new.failed ≡ false) (λ refusal. IsTrue s.pending × BlamesOneOf ⊤ ⊤ ⊤ refusal × (new.failed ≡ true))) → Closes full stream_then closing new.failed
+  closes_back sticks h = go old.failed refl closing h
     where
-      go : (b : Bool) → old.failed ≡ b → MatchBool b (closing ≡ Some failed_earlier) (MatchOption closing (new.failed ≡ false) (λ refusal. IsTrue s.pending × BlamesOneOf ⊤ ⊤ full.full refusal × (new.failed ≡ true)))
-          → MatchBool b ((closing ≡ Some failed_earlier) × (new.failed ≡ true))
-          (MatchOption closing (new.failed ≡ false) (λ refusal. IsTrue s.pending × BlamesOneOf full.medium ⊤ full.full refusal × (new.failed ≡ true)))
-      go true e x = (x, sticks e)
-      go false e x = x
+      go : (b : Bool) → old.failed ≡ b → (o : Option Refusal)
+          → MatchBool b (o ≡ Some failed_earlier) (MatchOption o (new.failed ≡ false) (λ refusal. IsTrue s.pending × BlamesOneOf ⊤ ⊤ ⊤ refusal × (new.failed ≡ true)))
+          → MatchBool b ((o ≡ Some failed_earlier) × (new.failed ≡ true))
+          (MatchOption o (new.failed ≡ false) (λ refusal. IsTrue s.pending × BlamesOneOf full.medium ⊤ full.full refusal × (new.failed ≡ true)))
+      go true e o x = (x, sticks e)
+      go false e None x = x
+      go false e (Some refusal) x = (
+        x.0,
+        blames ⊤ ⊤ ⊤ full.medium ⊤ full.full refusal (λ y. tt) (λ y. y) (λ e y. lacks_there sound old new (IsFull max_regular_sector new.reading) x.2) x.1,
+        x.2,
+      )
 
   unless_failed : (X : Type 0) → MatchBool new.failed ⊤ X → Unfailed new X
   unless_failed X h = go new.failed refl h
@@ -548,7 +723,7 @@ module _ (cases : Cases) (version : Version) (sound : Bool) (path : List ℕ) (t
   }
   closing_leaves false k = k
 
-  closing_leaves_back : (b : Bool) → (IsTrue b → closing ≡ Some file_full → HasNoRoomForKept cases old (names_at path) s) → MatchBool b (LeavesSound cases version old new At' (s.pending ≡ false) Done) (LeavesUnsound old new)
+  closing_leaves_back : (b : Bool) → (IsTrue b → closing ≡ Some file_full → Unfailed old (HasNoRoomForKept cases old (names_at path) s)) → MatchBool b (LeavesSound cases version old new At' (s.pending ≡ false) Done) (LeavesUnsound old new)
       → MatchBool b (Keeps cases version old (by_closing (names_at path) s closing) new) (LeavesUnsound old new)
   closing_leaves_back true why l = record {
     failed = l.failed;
@@ -556,6 +731,8 @@ module _ (cases : Cases) (version : Version) (sound : Bool) (path : List ℕ) (t
     header = l.header;
     content = λ calm. (l.besides calm).0;
     full = why refl;
+    memory = tt;
+    kept_back = λ no. absurd no;
     sound = l.sound;
     tidy = l.tidy;
     means = λ is calm. (l.besides calm).1;
@@ -569,7 +746,7 @@ module _ (cases : Cases) (version : Version) (sound : Bool) (path : List ℕ) (t
     closes = closes_here (closing_weaker (causes_between (seen_by cases version sound old) (seen_by cases version sound new) full.full) full (λ x. tt) (λ x. x) stream_then closing new.failed h.closes);
     closed = unless_failed IsClosed h.closed;
     leaves = closing_leaves sound h.kept;
-    full = full_of sound old new (Keeps cases version old (by_closing (names_at path) s closing) new) (closing ≡ Some file_full → HasNoRoomForKept cases old (names_at path) s) (λ k. k.full) h.kept;
+    full = full_of sound old new (Keeps cases version old (by_closing (names_at path) s closing) new) (closing ≡ Some file_full → Unfailed old (HasNoRoomForKept cases old (names_at path) s)) (λ k. k.full) h.kept;
   }
 
   pub closing_back : IsSet cases version sound old → Closing cases version sound (names_at path) tree s old closing new

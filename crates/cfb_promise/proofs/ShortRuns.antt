@@ -1,13 +1,16 @@
 -- Runs of the code's commands by their own rules are runs of the rules' commands, both ways.
 use Rattle.std.proofs.Common.{◌≡◌, ℕ, List, [], ◌∷◌, Bool, true, false, refl, sym, subst}
-use Rattle.std.specs.Prelude.{Some, None, Result, Ok, Err, chars, map, string_bytes}
+use Rattle.std.specs.Prelude.{IsTrue, Some, None, Result, Ok, Err, chars, map, string_bytes}
 use Rattle.cfb_format.specs.declared.error.Error.{Error}
 use Rattle.cfb_format.specs.declared.version.Version.{Version}
 use Rattle.cfb_format.specs.Names.{Cases}
-use Rattle.cfb_rules.specs.Calls.{Call, Reply, create_storage, create_storage_all, done, entry, exists, is_storage, is_stream, read_storage, remove_storage, remove_storage_all, remove_stream, set_created_time, set_modified_time, set_state_bits, set_storage_clsid, touch, walk_storage}
+use Rattle.cfb_format.specs.Reading.{Reading, Reads}
+use Rattle.cfb_format.proofs.Unique.{Reads-unique}
+use Rattle.cfb_rules.specs.Calls.{Call, Reply, create_storage, create_storage_all, done, entry, exists, is_storage, is_stream, read_storage, refused, remove_storage, remove_storage_all, remove_stream, set_created_time, set_modified_time, set_state_bits, set_storage_clsid, touch, walk_storage}
 use Rattle.cfb_rules.specs.Calls as calls
 use Rattle.cfb_rules.proofs.LegalRuns.{trees_legal}
 use Rattle.cfb_rules.specs.Lists.{CallStep, CommandReply, CommandRuns, IsLegal, IsLegalRun, StreamCallsRun, names_at, opening_call, replied, streamed}
+use Rattle.cfb_rules.specs.Refusal.{file_full, out_of_memory}
 use Rattle.cfb_rules.specs.Runs.{opened_by_path}
 use Rattle.cfb_rules.specs.StreamCalls.{StreamReply, StreamState}
 use Rattle.cfb_commands.specs.Commands.{command_of, command_reply_of, opening_of, refusal_of_error, refusal_of_result, stream_call_of, stream_reply_of}
@@ -20,12 +23,12 @@ use Rattle.cfb_commands.specs.declared.command.StreamOp.{StreamOp}
 use Rattle.cfb_commands.specs.declared.command.StreamReply.{StreamReply as TheAnswer}
 use Rattle.cfb_commands.specs.declared.command.StreamReply.TheVariants as answer
 use Rattle.cfb_promise.specs.Errors.{answer_of, reply_of, told}
-use Rattle.cfb_promise.specs.Files.{File, Stands}
+use Rattle.cfb_promise.specs.Files.{File, FullByCall, HasNoEntry, HasNoEntryOnTheWay, HasSoundBytes, MemoryByCall, Stands, Unfailed}
 use Rattle.cfb_promise.specs.Given.{LeadsTo, LeadsToFailed}
 use Rattle.cfb_promise.specs.Promise.{BreaksOff, IsGivenBack, IsTold}
 use Rattle.cfb_promise.specs.Steps.{Does, OpsRun, Runs}
 use Rattle.cfb_promise.specs.Steps as short
-use Rattle.cfb_promise.proofs.ShortCalls.{IsSet, call_back, call_full, call_here, closing_back, closing_here, kept_by, op_back, op_here, seen_by, set_next, setting_by}
+use Rattle.cfb_promise.proofs.ShortCalls.{Caused, IsSet, call_back, call_caused, call_here, closing_back, closing_here, kept_by, op_back, op_here, seen_by, set_next, setting_by}
 
 -- ---- replies
 
@@ -88,31 +91,91 @@ module _ (cases : Cases) (version : Version) (sound : Bool) where
   abbrev Long : File → Call → Reply → File → Type 0
   Long old call reply new = CallStep (seen_by cases version sound) (kept_by cases version sound) (setting_by cases version sound) old call reply new
 
+  -- the bytes are those of a file in which no entry is left
+  none_left : (old new : File) (path : List ℕ) (moment : ℕ) → Unfailed new (HasSoundBytes cases version new) → HasNoEntryOnTheWay cases version old path moment new → Unfailed new (HasNoEntry new.reading)
+  none_left old new path moment sound_now x calm =
+      let between = x.2 in
+      let there : HasSoundBytes cases version between = x.9.sound x.6 in
+      subst (λ (r : Reading). HasNoEntry r) (Reads-unique cases new.bytes between.reading new.reading
+      (subst (λ (b : List ℕ). Reads cases b between.reading) (sym x.5) there.reads) (sound_now calm).reads) x.7
+
+  sound_of : (b : Bool) (new : File) → IsTrue b → IsSet cases version b new → Unfailed new (HasSoundBytes cases version new)
+  sound_of true new is set = set
+  sound_of false new is set = absurd (let w : false ≡ true = is in cc)
+
   module _ {A : Type 0} where
     abbrev Here : File → Command A → Reply → File → Type 0
     Here old command reply new = short.CallRuns cases version sound old command reply new
 
+    -- why it blames the numbers
+    full_to : (c : Command A) (old new : File) → FullByCall cases version old (call_of c) new → Unfailed new (HasNoEntry new.reading) → short.FullCall cases version sound old c new
+    full_to (command.CreateStorageAll path moment) old new x lacks = x
+    full_to (command.Stream how.Open path ops) old new x lacks = (x, lacks x)
+    full_to (command.Stream how.Create path ops) old new x lacks = (x, lacks x)
+    full_to (command.Stream how.CreateNew path ops) old new x lacks = (x, lacks x)
+    full_to c old new x lacks = (x, lacks x)
+
+    full_from : (c : Command A) (old new : File) → Unfailed new (HasSoundBytes cases version new) → short.FullCall cases version sound old c new
+        → FullByCall cases version old (call_of c) new × Unfailed new (HasNoEntry new.reading)
+    full_from (command.CreateStorageAll path moment) old new is x = (x, none_left old new (chars (string_bytes path)) moment is x)
+    full_from (command.Stream how.Open path ops) old new is x = (x.0, λ calm. x.1)
+    full_from (command.Stream how.Create path ops) old new is x = (x.0, λ calm. x.1)
+    full_from (command.Stream how.CreateNew path ops) old new is x = (x.0, λ calm. x.1)
+    full_from c old new is x = (x.0, λ calm. x.1)
+
+    -- and what it leaves where memory was refused
+    memory_to : (c : Command A) (old new : File) → MemoryByCall cases old (call_of c) new → short.MemoryCall cases version sound old c new
+    memory_to (command.Stream how.Open path ops) old new x = x
+    memory_to (command.Stream how.Create path ops) old new x = x
+    memory_to (command.Stream how.CreateNew path ops) old new x = x
+    memory_to c old new x = x
+
+    memory_from : (c : Command A) (old new : File) → short.MemoryCall cases version sound old c new → MemoryByCall cases old (call_of c) new
+    memory_from (command.Stream how.Open path ops) old new x = x
+    memory_from (command.Stream how.Create path ops) old new x = x
+    memory_from (command.Stream how.CreateNew path ops) old new x = x
+    memory_from c old new x = x
+
+    abbrev IsCaused : File → Command A → Reply → File → Type 0
+    IsCaused old c reply new = IsTrue sound → Unfailed old ((reply ≡ refused file_full → short.FullCall cases version sound old c new)
+        × (reply ≡ refused out_of_memory → short.MemoryCall cases version sound old c new))
+
+    caused_to : (c : Command A) (old new : File) (reply : Reply) → Long old (call_of c) reply new → IsCaused old c reply new
+    caused_to c old new reply h is calm =
+        let k = call_caused cases version sound old new (call_of c) reply h is calm in
+        (λ e. let x = k.0 e in full_to c old new x.0 x.1, λ e. memory_to c old new (k.1 e))
+
+    caused_from : (c : Command A) (old new : File) (reply : Reply) → IsSet cases version sound new → IsCaused old c reply new
+        → IsTrue sound → Caused cases version sound old new (call_of c) reply
+    caused_from c old new reply set h is calm =
+        let k = h is calm in
+        (λ e. full_from c old new (sound_of sound new is set) (k.0 e), λ e. memory_from c old new (k.1 e))
+
     -- one call by path, or the opening of a stream
     call_to : (c : Command A) (old new : File) (reply : Reply) → Long old (call_of c) reply new → Here old c reply new
     call_to (command.Stream how.Open path ops) old new reply h =
-        let call = call_of (command.Stream how.Open path ops) in
-        (call_here cases version sound old new call reply h, call_full cases version sound old new call reply h)
+        let c = command.Stream how.Open path ops in
+        (call_here cases version sound old new (call_of c) reply h, caused_to c old new reply h)
     call_to (command.Stream how.Create path ops) old new reply h =
-        let call = call_of (command.Stream how.Create path ops) in
-        (call_here cases version sound old new call reply h, call_full cases version sound old new call reply h)
+        let c = command.Stream how.Create path ops in
+        (call_here cases version sound old new (call_of c) reply h, caused_to c old new reply h)
     call_to (command.Stream how.CreateNew path ops) old new reply h =
-        let call = call_of (command.Stream how.CreateNew path ops) in
-        (call_here cases version sound old new call reply h, call_full cases version sound old new call reply h)
-    call_to (command.CreateStorageAll path moment) old new reply h = (call_here cases version sound old new (call_of (command.CreateStorageAll path moment)) reply h, tt)
-    call_to c old new reply h = (call_here cases version sound old new (call_of c) reply h, call_full cases version sound old new (call_of c) reply h)
+        let c = command.Stream how.CreateNew path ops in
+        (call_here cases version sound old new (call_of c) reply h, caused_to c old new reply h)
+    call_to c old new reply h = (call_here cases version sound old new (call_of c) reply h, caused_to c old new reply h)
 
     call_from : (c : Command A) (old new : File) (reply : Reply) → IsSet cases version sound old → Here old c reply new → Long old (call_of c) reply new
-    call_from (command.Stream how.Open path ops) old new reply set h = call_back cases version sound old new (call_of (command.Stream how.Open path ops)) reply set h.1 h.0
-    call_from (command.Stream how.Create path ops) old new reply set h = call_back cases version sound old new (call_of (command.Stream how.Create path ops)) reply set h.1 h.0
-    call_from (command.Stream how.CreateNew path ops) old new reply set h = call_back cases version sound old new (call_of (command.Stream how.CreateNew path ops)) reply set h.1 h.0
-    call_from (command.CreateStorageAll path moment) old new reply set h =
-        call_back cases version sound old new (call_of (command.CreateStorageAll path moment)) reply set (λ is. tt) h.0
-    call_from c old new reply set h = call_back cases version sound old new (call_of c) reply set h.1 h.0
+    call_from (command.Stream how.Open path ops) old new reply set h =
+        let c = command.Stream how.Open path ops in
+        call_back cases version sound old new (call_of c) reply set (caused_from c old new reply (set_next cases version old new sound _ _ _ h.0.leaves) h.1) h.0
+    call_from (command.Stream how.Create path ops) old new reply set h =
+        let c = command.Stream how.Create path ops in
+        call_back cases version sound old new (call_of c) reply set (caused_from c old new reply (set_next cases version old new sound _ _ _ h.0.leaves) h.1) h.0
+    call_from (command.Stream how.CreateNew path ops) old new reply set h =
+        let c = command.Stream how.CreateNew path ops in
+        call_back cases version sound old new (call_of c) reply set (caused_from c old new reply (set_next cases version old new sound _ _ _ h.0.leaves) h.1) h.0
+    call_from c old new reply set h =
+        call_back cases version sound old new (call_of c) reply set (caused_from c old new reply (set_next cases version old new sound _ _ _ h.0.leaves) h.1) h.0
 
     -- operations one after the other
     ops_to : (names : List (List ℕ)) (ops : List (StreamOp A)) (replies : List StreamReply) (s t : StreamState) (old new : File)

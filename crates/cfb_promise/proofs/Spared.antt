@@ -1,19 +1,20 @@
 -- What a step leaves alone: the bytes of the streams that it is not about, those of the header that speak of no table, and all but an open stream's content.
-use Rattle.std.proofs.Common.{◌≡◌, ◌<◌, ◌+◌, ◌/◌, ◌%◌, ◌∙◌, ℕ, suc, List, [], Bool, true, false, refl, sym, ap, subst, arith, mod-lt}
+use Rattle.std.proofs.Common.{◌≡◌, ◌<◌, ◌+◌, ◌/◌, ◌%◌, ◌∙◌, ℕ, suc, List, [], Bool, true, false, refl, sym, ap, subst, arith, inl, mod-lt}
 use Rattle.std.specs.Prelude.{Contains, Option, Some, None, if◌then◌else◌, option_and_then, unwrap_or}
 use Rattle.std.proofs.lemmas.Option.{get_or_from_slice_get, none-some, slice_get_within}
 use Rattle.cfb_format.specs.declared.error.Error.{Error}
-use Rattle.cfb_format.specs.declared.error.Error.TheVariants.{Medium, Memory}
+use Rattle.cfb_format.specs.declared.error.Error.TheVariants.{AlreadyExists, Failed, Full, InvalidData, InvalidInput, Medium, Memory, NotFound, Unsound}
 use Rattle.cfb_format.specs.Refused.{HasReason, at_every_error}
-use Rattle.cfb_rules.specs.Refusal.{IsRefusal, Refusal, file_full}
+use Rattle.cfb_rules.specs.Refusal.{IsRefusal, Refusal, file_full, out_of_memory}
 use Rattle.cfb_agreement.specs.Changes.{StaysOrFails}
-use Rattle.cfb_path_changes.specs.Answers.{ForMemory, IsRefusedBy}
+use Rattle.cfb_path_changes.specs.Answers.{ForMemory, IsRefusedBy, LacksRoomOnTheWay, StopsInTurn}
 use Rattle.cfb_format.specs.declared.medium.MediumFault.{MediumFault}
 use Rattle.cfb_format.specs.Bytes.{byte_at, sector_len, sector_start}
 use Rattle.cfb_format.specs.Content.{is_large, mini_chain, mini_sector_len, place_in_chain, place_in_mini_chain, place_in_stream, sector_chain}
 use Rattle.cfb_format.specs.DirectoryEntry.{Entry}
 use Rattle.cfb_format.proofs.Along.{next_start}
-use Rattle.cfb_rules.specs.Calls.{Call, Reply, done, entries, flag, one_entry, refused}
+use Rattle.cfb_rules.specs.Calls.{Call, Reply, create_storage_all, done, entries, flag, one_entry, refused, remove_storage_all, remove_stream}
+use Rattle.cfb_rules.specs.StreamCalls.{not_done}
 use Rattle.cfb_rules.specs.Steps.{CallKind, asking, asking_freely, changing, creating, emptying, flushing, kind_of, opening, opening_to_read}
 use Rattle.cfb_sectors.specs.Sectors.{SectorStays}
 use Rattle.cfb_sectors.specs.Words.{RangeStays}
@@ -27,7 +28,9 @@ use Rattle.cfb_mini_sectors.specs.State.{HoldsMiniStream, MiniState, bytes_of, m
 use Rattle.cfb_agreement.specs.Files.{FileState}
 use Rattle.cfb_path_changes.specs.Sparing.{SparesStreams}
 use Rattle.cfb_commands.specs.Promised.{CallKeeps, Changes, IsKeptBy, RefusesChange}
+use Rattle.cfb_commands.proofs.Before.{same_before}
 use Rattle.cfb_commands.proofs.CallSteps.{in_turn}
+use Rattle.cfb_commands.proofs.Errors.{known, reply_full}
 
 -- ---- a stream that was kept
 
@@ -155,3 +158,58 @@ module _ (can_give : MediumFault → Bool) (old new : FileState) (call : Call) (
 
   pub full_stays : (reply : Reply) → CallKeeps can_give old call reply new → reply ≡ refused file_full → new ≡ old
   full_stays reply k told = full_by (kind_of call) reply k told
+
+-- where storages were made in turn one of them had no entry
+pub way_lacks : (can_give : MediumFault → Bool) (old new : FileState) (path : List ℕ) (moment : ℕ) (reply : Reply) → Changes can_give old (create_storage_all path moment) reply new
+    → reply ≡ refused file_full → LacksRoomOnTheWay old path moment new
+way_lacks can_give old new path moment (refused refusal) (e, kind, why) told =
+    why.1 (reply_full e (ap not_done (sym (known file_full e (subst (λ (q : Refusal). IsRefusal q e) (ap told_refusal told) kind)))))
+way_lacks can_give old new path moment done k told = absurd (cc)
+way_lacks can_give old new path moment (flag b) k told = absurd k
+way_lacks can_give old new path moment (one_entry e) k told = absurd k
+way_lacks can_give old new path moment (entries es) k told = absurd k
+
+-- ---- where memory was refused
+
+-- the error of this number leaves it so
+memory_so : (old new : FileState) (call : Call) (full : Type 0) (e : Error) → IsRefusal out_of_memory e
+    → HasReason (record (at_every_error (new ≡ old)) { medium = λ f. StaysOrFails old new; memory = ForMemory call old new; full = full }) e → ForMemory call old new
+memory_so old new call full (NotFound d) is why = absurd (let one : ℕ = 1 in let w : one ≡ 6 = is in omega (arith, w))
+memory_so old new call full (AlreadyExists d) is why = absurd (let two : ℕ = 2 in let w : two ≡ 6 = is in omega (arith, w))
+memory_so old new call full (InvalidInput d) is why = absurd (let three : ℕ = 3 in let w : three ≡ 6 = is in omega (arith, w))
+memory_so old new call full (InvalidData d) is why = absurd (let four : ℕ = 4 in let w : four ≡ 6 = is in omega (arith, w))
+memory_so old new call full (Medium f) is why = absurd (let five : ℕ = 5 in let w : five ≡ 6 = is in omega (arith, w))
+memory_so old new call full Memory is why = why
+memory_so old new call full Full is why = absurd (let seven : ℕ = 7 in let w : seven ≡ 6 = is in omega (arith, w))
+memory_so old new call full Unsound is why = absurd (let eight : ℕ = 8 in let w : eight ≡ 6 = is in omega (arith, w))
+memory_so old new call full Failed is why = absurd (let nine : ℕ = 9 in let w : nine ≡ 6 = is in omega (arith, w))
+
+-- a file that is as it was is left so
+same_for_memory : (old new : FileState) (call : Call) → new ≡ old → ForMemory call old new
+same_for_memory old new (create_storage_all path moment) same = inl (same_before old new same)
+same_for_memory old new (remove_storage_all path) same = inl (same_before old new same)
+same_for_memory old new (remove_stream path) same = inl same
+same_for_memory old new call same = same
+
+module _ (can_give : MediumFault → Bool) (old new : FileState) (call : Call) where
+  change_memory : (reply : Reply) → Changes can_give old call reply new → reply ≡ refused out_of_memory → ForMemory call old new
+  change_memory (refused refusal) (e, is, why) told =
+      memory_so old new call (StopsInTurn old new) e (subst (λ (r : Refusal). IsRefusal r e) (ap told_refusal told) is) (in_turn can_give old call new e why).stays
+  change_memory done k told = absurd (cc)
+  change_memory (flag b) k told = absurd k
+  change_memory (one_entry e) k told = absurd k
+  change_memory (entries es) k told = absurd k
+
+  memory_by : (kind : CallKind) (reply : Reply) → IsKeptBy can_give kind old call reply new → reply ≡ refused out_of_memory → ForMemory call old new
+  memory_by creating reply k told = change_memory reply k told
+  memory_by emptying reply k told = change_memory reply k told
+  memory_by changing reply k told = change_memory reply k told
+  memory_by flushing reply k told = change_memory reply k.changes told
+  memory_by opening reply k told = same_for_memory old new call k.same
+  memory_by opening_to_read reply k told = same_for_memory old new call k.same
+  memory_by asking reply k told = same_for_memory old new call k.same
+  memory_by asking_freely reply k told = same_for_memory old new call k.same
+
+  -- so a call leaves the file that was refused for memory
+  pub memory_left : (reply : Reply) → CallKeeps can_give old call reply new → reply ≡ refused out_of_memory → ForMemory call old new
+  memory_left reply k told = memory_by (kind_of call) reply k told

@@ -1,44 +1,32 @@
 -- Commands on a file that is known by its bytes: each by the rules, from a file to the one that it leaves.
-use Rattle.std.specs.Prelude.{ℕ, ◌≡◌, ◌<◌, ◌⊎◌, List, [], ◌∷◌, Bool, true, false, length, Contains, IsTrue, MatchBool, MatchOption, Option, Some, None, if◌then◌else◌, chars, string_bytes, ⊤}
+use Rattle.std.specs.Prelude.{ℕ, ◌≡◌, ◌<◌, ◌≤◌, ◌⊎◌, List, [], ◌∷◌, Bool, true, false, length, IsTrue, MatchBool, MatchOption, Option, Some, None, if◌then◌else◌, chars, string_bytes, ⊤}
 use Rattle.std.specs.Option.{option_map_or}
 use Rattle.cfb_format.specs.declared.version.Version.{Version}
-use Rattle.cfb_format.specs.Bytes.{byte_at, max_regular_sector, max_stream_len}
+use Rattle.cfb_format.specs.Bytes.{max_regular_sector, max_stream_len}
 use Rattle.cfb_format.specs.Full.{IsFull}
 use Rattle.cfb_format.specs.Names.{Cases}
 use Rattle.cfb_format.specs.Reading.{root_entry}
-use Rattle.cfb_format.specs.Soundness.{streams}
+use Rattle.cfb_format.specs.Siblings.{entry_at}
 use Rattle.cfb_format.specs.Tree.{Tree}
 use Rattle.cfb_rules.specs.CallChanges.{content_changed_at}
 use Rattle.cfb_rules.specs.CallRefusals.{unless}
 use Rattle.cfb_rules.specs.Calls.{Reply, done, refused}
 use Rattle.cfb_rules.specs.Lists.{CommandReply, names_at, replied, streamed}
 use Rattle.cfb_rules.specs.Refusal.{Refusal, failed_earlier, file_full, not_sound, out_of_memory}
-use Rattle.cfb_rules.specs.Runs.{BlamesOneOf, Causes, MayBreak, opened_by_path}
+use Rattle.cfb_rules.specs.Runs.{BlamesOneOf, opened_by_path}
 use Rattle.cfb_rules.specs.Steps.{CallKind, asking, asking_freely, emptying, flushing, is_changing}
 use Rattle.cfb_rules.specs.StreamCalls.{StreamReply, StreamSetting, StreamState, not_done}
 use Rattle.cfb_commands.specs.declared.command.Command.{Command}
-use Rattle.cfb_commands.specs.declared.command.Command.TheVariants.{CreateStorageAll, Stream}
+use Rattle.cfb_commands.specs.declared.command.Command.TheVariants.{CreateStorageAll, RemoveStorageAll, RemoveStream, Stream}
 use Rattle.cfb_commands.specs.declared.command.Reply.{Reply as TheReply}
 use Rattle.cfb_commands.specs.declared.command.StreamOp.{StreamOp}
 use Rattle.cfb_commands.specs.declared.command.StreamOp.TheVariants.{SetLen, Write}
-use Rattle.cfb_promise.specs.CallRules.{MayLose, Rule, rule_of}
+use Rattle.cfb_promise.specs.CallRules.{CallCanBreak, MayLose, Rule, rule_of}
 use Rattle.cfb_promise.specs.Errors.{reply_of}
-use Rattle.cfb_promise.specs.Files.{DiffersInContent, File, HasNoEntry, HasNoRoomFor, HasNoRoomForKept, HasSoundBytes, IsOfNoTable, MeansIt, StandsAt, StaysInPlace, Unfailed}
+use Rattle.cfb_promise.specs.Files.{DiffersInContent, File, HasNoEntry, HasNoEntryOnTheWay, HasNoRoomBehind, HasNoRoomFor, HasNoRoomForKept, IsAtPath, LeavesSound, MeansIt, StandsAt, Unfailed}
 use Rattle.cfb_promise.specs.StreamRules.{OpBreaks, OpLeavesFile, OpOnFailed, OpStep}
-use Rattle.cfb_promise.specs.Tidy.{IsTidy}
 
 -- ---- what each step leaves of the file, done or refused
-
--- A sound file that did not fail is sound, tidy if it was, and as it was where nothing was to be written; and so much besides. Of the streams that
--- the step is not about no byte changes, whether it failed or not
-pub record LeavesSound (cases : Cases) (version : Version) (old new : File) (may_touch : ℕ → Type 0) (writes_nothing more : Type 0) : Type 0 where
-  pub failed : old.failed ≡ true → new.failed ≡ true
-  pub others : Unfailed old ((k : ℕ) → Contains (streams old.reading) k → (may_touch k → ⊥) → StaysInPlace old new.bytes k)
-  pub header : (i : ℕ) → i < length old.bytes → IsOfNoTable version i → byte_at new.bytes i ≡ byte_at old.bytes i
-  pub sound : Unfailed new (HasSoundBytes cases version new)
-  pub tidy : Unfailed new (IsTidy old.bytes old.reading → IsTidy new.bytes new.reading)
-  pub stays : writes_nothing → Unfailed new (new.bytes ≡ old.bytes)
-  pub besides : Unfailed new more
 
 -- a file that is not sound stays as it is
 abbrev pub LeavesUnsound : (old new : File) → Type 0
@@ -50,14 +38,10 @@ root_len f = (root_entry f.reading).stream_len
 
 -- ---- calls by path
 
--- the tree stays, and the file has not failed
-abbrev pub IsSame : (old new : File) → Type 0
-IsSame old new = (new.tree ≡ old.tree) × (new.failed ≡ false)
-
 -- A change that broke off is as before, or the file is failed; a flush always leaves it failed
 abbrev pub IsLeft : CallKind → (old new : File) → Type 0
 IsLeft flushing old new = new.failed ≡ true
-IsLeft kind old new = IsSame old new ⊎ (IsTrue (is_changing kind) × (new.failed ≡ true))
+IsLeft kind old new = ((new.tree ≡ old.tree) × (new.failed ≡ false)) ⊎ (IsTrue (is_changing kind) × (new.failed ≡ true))
 
 -- a failed file answers only what looks
 abbrev pub OnFailed : CallKind → Reply → Type 0
@@ -68,10 +52,6 @@ OnFailed kind reply = reply ≡ refused failed_earlier
 module _ (cases : Cases) (version : Version) (sound : Bool) where
   abbrev pub Leaves : (old new : File) → (may_touch : ℕ → Type 0) → (writes_nothing more : Type 0) → Type 0
   Leaves old new may_touch writes_nothing more = MatchBool sound (LeavesSound cases version old new may_touch writes_nothing more) (LeavesUnsound old new)
-
-  -- any call that can fail may blame the medium, which is memory; and the numbers where so much lacks
-  abbrev pub lacking : File → (lacks : Type 0) → Causes
-  lacking f lacks = record { medium = ⊤; full = MatchBool sound (Unfailed f lacks) ⊤ }
 
   -- why a call is refused, if it is: by the rules first, and then for a file that isn't sound
   abbrev pub refusal_in : Rule → Option Refusal
@@ -86,9 +66,9 @@ module _ (cases : Cases) (version : Version) (sound : Bool) where
   -- It broke off where the rules have no refusal of their own; or memory lacked before they were asked, and all is as before
   pub record Breaks (old : File) (r : Rule) (reply : Reply) (new : File) : Type 0 where
     pub refusal : Refusal
-    pub lacks : MayBreak (lacking new (HasNoEntry new.reading)) r.kind refusal
+    pub can : CallCanBreak r.kind refusal
     pub told : reply ≡ refused refusal
-    pub allowed : ((refusal ≡ out_of_memory) × IsSame old new) ⊎ (refusal_in r ≡ None)
+    pub allowed : ((refusal ≡ out_of_memory) × ((new.tree ≡ old.tree) × (new.failed ≡ false))) ⊎ (refusal_in r ≡ None)
     pub left : IsLeft r.kind old new
 
   -- one call by path
@@ -103,24 +83,19 @@ module _ (cases : Cases) (version : Version) (sound : Bool) where
   setting = record { limit = max_stream_len version; sound = sound }
 
   module _ {A : Type 0} where
-    -- what lacks where an operation on the stream at these names blames the numbers: what a length needs, or anything
-    abbrev pub LacksFor : File → List (List ℕ) → StreamOp A → Type 0
-    LacksFor f names (SetLen len) = HasNoRoomFor cases f.reading names len
-    LacksFor f names other = IsFull max_regular_sector f.reading
-
-    -- Why an operation blames the numbers, whether the file failed by it or not: a length that is too long leaves the file unfailed; else it has no
-    -- room for what is kept back of the stream. Of a long write nothing is said
+    -- Why an operation blames the numbers: a length that is too long leaves the file unfailed; else the stream has no room for what is kept back of it,
+    -- or, for a long write, not for one byte behind that; and the file is full, unless it failed
     abbrev pub FullFor : List (List ℕ) → StreamState → (old : File) → StreamOp A → (new : File) → Type 0
-    FullFor names s old (SetLen len) new = Unfailed old (new.failed ≡ false)
-    FullFor names s old (Write bytes) new = length bytes.items < 65536 → HasNoRoomForKept cases old names s
-    FullFor names s old other new = HasNoRoomForKept cases old names s
+    FullFor names s old (SetLen len) new = (new.failed ≡ false) × HasNoRoomFor cases new.reading names len
+    FullFor names s old (Write bytes) new =
+        (HasNoRoomForKept cases old names s ⊎ ((65536 ≤ length bytes.items) × HasNoRoomBehind cases version old names s)) × Unfailed new (IsFull max_regular_sector new.reading)
+    FullFor names s old other new = HasNoRoomForKept cases old names s × Unfailed new (IsFull max_regular_sector new.reading)
 
     -- one operation on the stream at these names
     pub record OpRuns (names : List (List ℕ)) (s : StreamState) (old : File) (op : StreamOp A) (reply : StreamReply) (t : StreamState) (new : File) : Type 0 where
-      pub runs : MatchBool old.failed (OpOnFailed op reply)
-          ((OpStep setting s op reply t × (new.failed ≡ false)) ⊎ OpBreaks (lacking new (LacksFor new names op)) setting s op reply t new.failed)
+      pub runs : MatchBool old.failed (OpOnFailed op reply) ((OpStep setting s op reply t × (new.failed ≡ false)) ⊎ OpBreaks setting s op reply t new.failed)
       pub leaves : Leaves old new (StandsAt cases old.reading names) (OpLeavesFile s op reply) (DiffersInContent cases names old new)
-      pub full : IsTrue sound → reply ≡ not_done file_full → FullFor names s old op new
+      pub full : IsTrue sound → reply ≡ not_done file_full → Unfailed old (FullFor names s old op new)
 
     -- one after the other
     abbrev pub OpsRun : List (List ℕ) → StreamState → File → List (StreamOp A) → List StreamReply → StreamState → File → Type 0
@@ -131,24 +106,33 @@ module _ (cases : Cases) (version : Version) (sound : Bool) where
 
   -- Closing writes out what is pending; only that can be refused, and the file is failed then. Else a sound file has the stream's list
   pub record Closing (names : List (List ℕ)) (tree : Tree) (s : StreamState) (old : File) (closing : Option Refusal) (new : File) : Type 0 where
-    pub closes : MatchBool old.failed (closing ≡ Some failed_earlier) (MatchOption closing (new.failed ≡ false)
-        (λ refusal. IsTrue s.pending × BlamesOneOf ⊤ ⊤ (lacking new (IsFull max_regular_sector new.reading)).full refusal × (new.failed ≡ true)))
+    pub closes : MatchBool old.failed (closing ≡ Some failed_earlier)
+        (MatchOption closing (new.failed ≡ false) (λ refusal. IsTrue s.pending × BlamesOneOf ⊤ ⊤ ⊤ refusal × (new.failed ≡ true)))
     pub closed : Unfailed new (new.tree ≡ (if sound then content_changed_at cases s.content names tree else tree))
     pub leaves : Leaves old new (StandsAt cases old.reading names) (s.pending ≡ false) (DiffersInContent cases names old new × MeansIt new)
-    pub full : IsTrue sound → closing ≡ Some file_full → HasNoRoomForKept cases old names s
+    pub full : IsTrue sound → closing ≡ Some file_full → Unfailed old (HasNoRoomForKept cases old names s)
 
   -- ---- commands
 
   module _ {A : Type 0} where
-    -- a call that blames the numbers leaves the file unfailed, but where it makes storages in turn
-    abbrev pub FullCall : File → Command A → Reply → File → Type 0
-    FullCall old (CreateStorageAll path moment) reply new = ⊤
-    FullCall old other reply new = IsTrue sound → reply ≡ refused file_full → Unfailed old (new.failed ≡ false)
+    -- a call that blames the numbers leaves the file unfailed, and it has no entry left; one that makes storages in turn may have made some
+    abbrev pub FullCall : File → Command A → File → Type 0
+    FullCall old (CreateStorageAll path moment) new = HasNoEntryOnTheWay cases version old (chars (string_bytes path)) moment new
+    FullCall old other new = (new.failed ≡ false) × HasNoEntry new.reading
+
+    -- One that was refused for memory leaves it unfailed, but for those of several steps: one that makes storages in turn, or takes all that is in one
+    -- away, or takes away a stream that has bytes
+    abbrev pub MemoryCall : File → Command A → File → Type 0
+    MemoryCall old (CreateStorageAll path moment) new = ⊤
+    MemoryCall old (RemoveStorageAll path) new = ⊤
+    MemoryCall old (RemoveStream path) new =
+        (new.failed ≡ false) ⊎ ((k : ℕ) × IsAtPath cases old.reading (chars (string_bytes path)) k × (0 < (entry_at old.reading.entries k).stream_len))
+    MemoryCall old other new = new.failed ≡ false
 
     -- the call of a command, or of the opening of its stream
     abbrev pub CallRuns : File → Command A → Reply → File → Type 0
-    CallRuns old command reply new =
-        CallStep old (rule_of cases (root_len old) old.tree command) (MayLose cases old.reading command) reply new × FullCall old command reply new
+    CallRuns old command reply new = CallStep old (rule_of cases (root_len old) old.tree command) (MayLose cases old.reading command) reply new
+        × (IsTrue sound → Unfailed old ((reply ≡ refused file_full → FullCall old command new) × (reply ≡ refused out_of_memory → MemoryCall old command new)))
 
     -- an opening that succeeds, the operations in their order, refused or not, and the closing
     pub record StreamRuns (old : File) (opening : Command A) (path : List ℕ) (ops : List (StreamOp A)) (replies : List StreamReply) (closing : Option Refusal) (new : File) : Type 0 where

@@ -1,9 +1,9 @@
 -- Operations on an open stream: what each answers, and what it can lack.
-use Rattle.std.specs.Prelude.{ℕ, ◌+◌, ◌≡◌, ◌<◌, ◌≤◌, ◌⊎◌, [], Bool, true, false, ◌||◌, length, take, drop, nat_lt, MatchBool, MatchOption, IsTrue, Option, is_some, option_and_then, if◌then◌else◌, ◌==◌, ⊤}
+use Rattle.std.specs.Prelude.{ℕ, ◌+◌, ◌≡◌, ◌<◌, ◌≤◌, ◌⊎◌, [], Bool, true, false, ◌||◌, ◌&&◌, length, take, drop, nat_le, nat_lt, MatchBool, MatchOption, IsTrue, Option, is_some, option_and_then, if◌then◌else◌, ◌==◌, ⊤}
 use Rattle.std.specs.declared.io.traits.SeekFrom.{SeekFrom}
 use Rattle.std.specs.declared.io.traits.SeekFrom.TheVariants.{Start, End, Current}
 use Rattle.cfb_rules.specs.Refusal.{Refusal, failed_earlier, invalid_data, invalid_input}
-use Rattle.cfb_rules.specs.Runs.{Causes, StaysUnfailed, Work, WorkMayBreak, appending, is_served, may_leave_failed, moving, no_work, overwriting, reading, resizing, writing_out}
+use Rattle.cfb_rules.specs.Runs.{BlamesOneOf, StaysUnfailed, Work, appending, is_served, may_leave_failed, moving, no_work, overwriting, reading, resizing, writing_out}
 use Rattle.cfb_rules.specs.StreamCalls.{Asks, Flush, Moves, ReadToEnd, Refuses, SetLen, StreamReply, StreamSetting, StreamState, Write, got, not_done, offset, place_from, place_within}
 use Rattle.cfb_commands.specs.declared.command.StreamOp.{StreamOp}
 use Rattle.cfb_commands.specs.declared.command.StreamOp.TheVariants as op
@@ -29,10 +29,16 @@ Seek to old reply new = MatchOption (sought old to)
     (Refuses invalid_input old reply new)
     (λ at. (reply ≡ offset at) × Moves old new at 0)
 
--- all but what was lent stays, and the file isn't failed; or it is
-abbrev pub IsLeftBy : StreamState → Work → Refusal → StreamState → (failed : Bool) → Type 0
-IsLeftBy old work refusal new failed = (StaysUnfailed old.pending work refusal × (new ≡ record old { ahead = 0 }) × (failed ≡ false))
-    ⊎ (IsTrue (may_leave_failed old.pending work) × (failed ≡ true))
+-- which refusals beside the rules an operation can answer. With nothing pending only bytes at the end and a change of the length need numbers, and
+-- neither moving nor flushing needs memory; pending bytes may have to be written out first
+abbrev pub CanBreak : (pending : Bool) → Work → Refusal → Type 0
+CanBreak pending no_work refusal = ⊥
+CanBreak true work refusal = BlamesOneOf ⊤ ⊤ ⊤ refusal
+CanBreak false moving refusal = BlamesOneOf ⊤ ⊥ ⊥ refusal
+CanBreak false writing_out refusal = BlamesOneOf ⊤ ⊥ ⊥ refusal
+CanBreak false appending refusal = BlamesOneOf ⊤ ⊤ ⊤ refusal
+CanBreak false resizing refusal = BlamesOneOf ⊤ ⊤ ⊤ refusal
+CanBreak false work refusal = BlamesOneOf ⊤ ⊤ ⊥ refusal
 
 module _ {A : Type 0} where
   -- one operation, medium, memory and fullness aside
@@ -69,11 +75,21 @@ module _ {A : Type 0} where
   OpOnFailed op.Len reply = is_served reply ≡ true
   OpOnFailed call reply = reply ≡ not_done failed_earlier
 
+  -- whether it may write to the file: with nothing pending, a write of fewer bytes only keeps them back
+  abbrev pub may_write : StreamState → StreamOp A → Bool
+  may_write old (op.Write bytes) = may_leave_failed old.pending (work_of old (op.Write bytes)) && (old.pending || nat_le 65536 (length bytes.items))
+  may_write old call = may_leave_failed old.pending (work_of old call)
+
+  -- all but what was lent stays, and the file isn't failed; or it is, where it may have been written to
+  abbrev pub IsLeftBy : StreamState → StreamOp A → Refusal → StreamState → (failed : Bool) → Type 0
+  IsLeftBy old call refusal new failed = (StaysUnfailed old.pending (work_of old call) refusal × (new ≡ record old { ahead = 0 }) × (failed ≡ false))
+      ⊎ (IsTrue (may_write old call) × (failed ≡ true))
+
   -- it broke off, and the rules have no refusal of their own
-  abbrev pub OpBreaks : Causes → StreamSetting → StreamState → StreamOp A → StreamReply → StreamState → (failed : Bool) → Type 0
-  OpBreaks causes setting old call reply new failed = (refusal : Refusal) × WorkMayBreak causes old.pending (work_of old call) refusal
-      × (reply ≡ not_done refusal) × IsLeftBy old (work_of old call) refusal new failed × IsAllowed setting old call
+  abbrev pub OpBreaks : StreamSetting → StreamState → StreamOp A → StreamReply → StreamState → (failed : Bool) → Type 0
+  OpBreaks setting old call reply new failed = (refusal : Refusal) × CanBreak old.pending (work_of old call) refusal
+      × (reply ≡ not_done refusal) × IsLeftBy old call refusal new failed × IsAllowed setting old call
 
   -- it was refused, or had nothing to write
   abbrev pub OpLeavesFile : StreamState → StreamOp A → StreamReply → Type 0
-  OpLeavesFile old call reply = ((refusal : Refusal) × (reply ≡ not_done refusal)) ⊎ (may_leave_failed old.pending (work_of old call) ≡ false)
+  OpLeavesFile old call reply = ((refusal : Refusal) × (reply ≡ not_done refusal)) ⊎ (may_write old call ≡ false)

@@ -1,5 +1,5 @@
 -- A storage from which all that is in it is taken.
-use Rattle.std.specs.Prelude.{ℕ, ◌≡◌, ◌≢◌, ◌↔◌, List, ◌∷◌, ◌++◌, Bool, IsTrue, Some, Contains, false, length}
+use Rattle.std.specs.Prelude.{ℕ, ◌≡◌, ◌≢◌, ◌↔◌, List, ◌∷◌, ◌++◌, Bool, IsTrue, Some, Contains, false, length, IfErr, OnErr, OnOk, true, Result}
 use Rattle.cfb_format.specs.declared.error.Error.{Error}
 use Rattle.cfb_format.specs.declared.medium.MediumFault.{MediumFault}
 use Rattle.cfb_format.specs.declared.objtype.ObjType.TheVariants.{Stream}
@@ -7,10 +7,10 @@ use Rattle.cfb_format.specs.Bytes.{no_stream}
 use Rattle.cfb_format.specs.DirectoryEntry.{ButContent}
 use Rattle.cfb_format.specs.Meaning.{Means}
 use Rattle.cfb_format.specs.Reading.{IsOutline, Outline, numbers, stream_numbers}
-use Rattle.cfb_format.specs.Refused.{CountsError, IsBreak}
+use Rattle.cfb_format.specs.Refused.{CountsError, IsBreak, AfterMedium, CountsFailure}
 use Rattle.cfb_format.specs.Siblings.{entry_at}
 use Rattle.cfb_format.specs.Tree.{Tree, nothing}
-use Rattle.cfb_outline.specs.Outlines.{HasInside}
+use Rattle.cfb_outline.specs.Outlines.{HasInside, IsReachedStorage}
 use Rattle.cfb_volume.specs.cfb_rules.CallChanges.{removed_at, tree_changed_at}
 use Rattle.cfb_volume.specs.cfb_rules.Finding.{last_name, parent_names}
 use Rattle.cfb_volume.specs.cfb_siblings.Paths.{number_from}
@@ -19,8 +19,9 @@ use Rattle.cfb_volume.specs.cfb_mini_sectors.State.{MiniState, bytes_of, cases_o
 use Rattle.cfb_volume.specs.cfb_content.Contents.{KeepsContent, KeepsFixedHeader, len_of}
 use Rattle.cfb_entry_changes.specs.Kept.{AllStayBalanced, AllStayBalancedBut}
 use Rattle.cfb_agreement.specs.Changes.{KeepsParts, StaysOrFails}
-use Rattle.cfb_agreement.specs.Files.{Agrees, FileState, Holds, SameSetting, failures_of, is_failed, IsAsMade}
+use Rattle.cfb_agreement.specs.Files.{Agrees, FileState, Holds, SameSetting, failures_of, is_failed, GrowsTightly}
 use Rattle.cfb_volume.specs.Answers.{StaysInMemoryOrFails}
+use Rattle.cfb_volume.specs.Slots.{TakesNoSlot}
 
 -- ---- what stays
 
@@ -141,3 +142,37 @@ pub record ClearingBreaksOff (tells : Bool) (can_give : MediumFault → Bool) (s
   pub in_memory : StaysInMemoryOrFails start now
   pub err : IsTrue tells → Holds start → IsBreak ⊥ e
   pub counts : IsTrue tells → CountsError can_give (failures_of start) (failures_of now) e
+
+-- ---- what the calls need and keep
+
+-- the list has all that is in the storage `top`, and each stream in it is empty
+pub record CanClear (file : FileState) (top : ℕ) (list : List ℕ) : Type 0 where
+  pub storage : IsReachedStorage (cases_of file.base) (entries_of file.base) top
+  pub all : (o : Outline) → HasInside (cases_of file.base) (entries_of file.base) top o → list ≡ numbers o
+  pub empty : (o : Outline) → HasInside (cases_of file.base) (entries_of file.base) top o → (k : ℕ) → Contains (stream_numbers o) k
+      → len_of file.base k ≡ 0
+
+-- how the storage's clearing ends: memory agrees with the bytes that the medium tells, the medium alone fails the file, and after any other error
+-- nothing has changed
+pub record ClearEnds {T : Type 0} (tells : Bool) (can_give : MediumFault → Bool) (old new : FileState) (result : Result T Error) : Type 0 where
+  pub setting : SameSetting old new
+  pub ended : OnOk result (is_failed new ≡ false)
+  pub agrees : IsTrue tells → Holds old → Agrees new
+  pub refused : OnErr result (StaysOrFails old new)
+  pub stops : IfErr result (AfterMedium (is_failed new ≡ true) (new ≡ old))
+  pub err : Holds old → IfErr result (IsBreak ⊥)
+  pub counts : IsTrue tells → CountsFailure can_give result (failures_of old) (failures_of new)
+
+-- over a medium that tells its bytes, streams that stand neither at `top` nor below it keep their content, and the header the bytes that no change
+-- writes; done, children are in balance still if they were, and the parts of the file stay as in a made one
+pub record StreamsBesideStay {T : Type 0} (tells : Bool) (top : ℕ) (old new : FileState) (result : Result T Error) : Type 0 where
+  pub others : IsTrue tells → Holds old → KeepsStreamsBeside top old.base new.base
+  pub header : IsTrue tells → Holds old → KeepsFixedHeader old.base new.base
+  pub balanced : IsTrue tells → OnOk result (AllStayBalancedBut old.base new.base top)
+  pub parts : IsTrue tells → Holds old → OnOk result (KeepsParts old.base new.base)
+
+-- done, no sector and no slot was taken
+pub record RemovalTakesNone {T : Type 0} (old new : FileState) (result : Result T Error) : Type 0 where
+  pub takes_none : OnOk result (length (tables_in new.base).fat ≡ length (tables_in old.base).fat)
+  pub slots : OnOk result (TakesNoSlot old.base new.base)
+  pub grows : OnOk result (GrowsTightly old.base new.base)

@@ -19,3 +19,7 @@ pub mod Slots
 pub mod Clearing
 pub mod Answers
 pub mod Removing
+pub mod Changing
+pub mod Inserting
+pub mod Marking
+pub mod Streams

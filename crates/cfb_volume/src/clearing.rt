@@ -1,5 +1,7 @@
 //! All that is in a storage, and the storage itself, taken from a file whose memory is what its bytes say.
-ghost use Rattle.std.specs.Prelude.{◌≡◌, ◌≢◌, ◌||◌, ◌&&◌, ◌∷◌, ℕ, List, [], false, true, Contains, length, IsTrue, IfOk, IfErr, IfNone, IfSome, OnOk, OnErr, Some, chars, is_err, if◌then◌else◌};
+ghost use Rattle.std.specs.Prelude.{◌≡◌, ◌≢◌, ◌||◌, ◌&&◌, ◌∷◌, ℕ, List, [], false, true, Contains, length, IsTrue, IfOk, IfErr, IfNone, IfSome, MatchOption, OnOk, OnErr, Some, chars, is_err, if◌then◌else◌};
+ghost use Rattle.cfb_volume.specs.Removing.{HasChildNamed};
+ghost use Rattle.cfb_volume.specs.Changing.{CanChange, ChangeEnds, StreamsStay};
 ghost use Rattle.cfb_format.specs.declared.objtype.ObjType.TheVariants.{Stream};
 ghost use Rattle.cfb_format.specs.Reading.{IsOutline, Outline, numbers, stream_numbers};
 ghost use Rattle.cfb_format.specs.Siblings.{entry_at};
@@ -19,7 +21,7 @@ ghost use Rattle.cfb_agreement.specs.Laws.{with_flags};
 ghost use Rattle.cfb_entry_changes.specs.Clearing.{ClearsStorage};
 ghost use Rattle.cfb_entry_changes.specs.Kept.{AllStayBalancedBut};
 ghost use Rattle.cfb_volume.specs.Answers.{StaysInMemoryOrFails};
-ghost use Rattle.cfb_volume.specs.Clearing.{ClearingBreaksOff, EmptiesStorage, EmptiesStreams, KeepsStreamsBut, KeepsStreamsBeside, RemovesWithAll, StandsAs, emptied_at};
+ghost use Rattle.cfb_volume.specs.Clearing.{ClearingBreaksOff, EmptiesStorage, EmptiesStreams, KeepsStreamsBut, KeepsStreamsBeside, RemovesWithAll, StandsAs, emptied_at, CanClear, ClearEnds, StreamsBesideStay, RemovalTakesNone};
 ghost use Rattle.cfb_volume.specs.Slots.{TakesNoSlot};
 
 use crate::volume::Volume;
@@ -68,16 +70,9 @@ impl<F: Medium, A: Heap + Clone> Volume<F, A> {
     ///
     /// `Memory`: nothing has changed then. After `Medium`, where the medium fails, the file has failed.
     fn clear(&mut self, top: u32, inside: &[u32]) -> Result<(), Error>
-        requires sound { self.old.is_sound ≡ true }
-        requires unfailed { is_failed self.old ≡ false }
-        requires top { IsReachedStorage (cases_of self.old.base) (entries_of self.old.base) top }
-        requires all { (o : Outline)
-            → HasInside (cases_of self.old.base) (entries_of self.old.base) top o
-            → inside.now ≡ numbers o }
-        requires empty { (o : Outline)
-            → HasInside (cases_of self.old.base) (entries_of self.old.base) top o
-            → (k : ℕ) → Contains (stream_numbers o) k → len_of self.old.base k ≡ 0 }
-        ensures setting { SameSetting self.old self.new }
+        requires can_change { CanChange self.old }
+        requires can_clear { CanClear self.old top inside.now }
+        ensures ends { ClearEnds F.tells F.write_faults self.old self.new result }
         ensures cleared { OnOk result (ClearsStorage self.old.base self.new.base top) }
         ensures tree { IsTrue F.tells → Holds self.old
             → OnOk result ((names : List (List ℕ)) (o : Outline)
@@ -85,20 +80,8 @@ impl<F: Medium, A: Heap + Clone> Volume<F, A> {
             → number_from (cases_of self.old.base) (entries_of self.old.base) 0 o names ≡ Some top
             → BecomesTree (cases_of self.old.base)
             (bytes_of self.old.base) (bytes_of self.new.base) (emptied_at self.old names)) }
-        ensures others { IsTrue F.tells → Holds self.old
-            → KeepsStreams self.old.base self.new.base }
-        ensures header { IsTrue F.tells → KeepsFixedHeader self.old.base self.new.base }
-        ensures parts { IsTrue F.tells → Holds self.old
-            → OnOk result (KeepsParts self.old.base self.new.base) }
+        ensures keeps { StreamsStay F.tells self.old self.new result }
         ensures same_tables { tables_in self.new.base ≡ tables_in self.old.base }
-        ensures agrees { IsTrue F.tells → Holds self.old → Agrees self.new }
-        ensures ended { OnOk result (is_failed self.new ≡ false) }
-        ensures refused { OnErr result (StaysOrFails self.old self.new) }
-        ensures stops { IfErr result (AfterMedium (is_failed self.new
-            ≡ true) (self.new ≡ self.old)) }
-        ensures err { Holds self.old → IfErr result (IsBreak ⊥) }
-        ensures counts { IsTrue F.tells
-            → CountsFailure F.write_faults result (failures_of self.old) (failures_of self.new) }
     {
         self.mini.clear(top, inside)?;
         self.mini.end_change();
@@ -109,8 +92,7 @@ impl<F: Medium, A: Heap + Clone> Volume<F, A> {
     ///
     /// `Memory`, and `Medium` where the medium fails: all is as before, or the file has failed.
     fn empty_stream(&mut self, entry: u32) -> Result<bool, Error>
-        requires sound { self.old.is_sound ≡ true }
-        requires unfailed { is_failed self.old ≡ false }
+        requires can_change { CanChange self.old }
         requires below { (o : Outline)
             → IsOutline (cases_of self.old.base) (entries_of self.old.base) o
             → Contains (numbers o) entry }
@@ -133,8 +115,7 @@ impl<F: Medium, A: Heap + Clone> Volume<F, A> {
     ///
     /// `Memory`, and `Medium` where the medium fails: all is as before, or the file has failed.
     fn empty_streams(&mut self, list: &[u32]) -> Result<bool, Error>
-        requires sound { self.old.is_sound ≡ true }
-        requires unfailed { is_failed self.old ≡ false }
+        requires can_change { CanChange self.old }
         requires below { (k : ℕ) → Contains list.now k → (o : Outline)
             → IsOutline (cases_of self.old.base) (entries_of self.old.base) o
             → Contains (numbers o) k }
@@ -160,8 +141,7 @@ impl<F: Medium, A: Heap + Clone> Volume<F, A> {
     ///
     /// `Memory`, and `Medium` where the medium fails: all is as before, or the file has failed.
     pub(crate) fn empty_storage(&mut self, top: u32) -> Result<(), Error>
-        requires sound { self.old.is_sound ≡ true }
-        requires unfailed { is_failed self.old ≡ false }
+        requires can_change { CanChange self.old }
         requires top { IsReachedStorage (cases_of self.old.base) (entries_of self.old.base) top }
         ensures emptied { OnOk result (EmptiesStorage F.tells top self.old self.new) }
         ensures others { IsTrue F.tells → Holds self.old
@@ -181,17 +161,8 @@ impl<F: Medium, A: Heap + Clone> Volume<F, A> {
     /// `Memory`, and `Medium` where the medium fails: all is as before, or the file has failed.
     fn remove_storage(&mut self, parent: u32, top: u32, name: &str) -> Result<(), Error>
         requires storage { (entry_at (entries_of self.old.base) top).obj_type ≢ Stream }
-        requires sound { self.old.is_sound ≡ true }
-        requires unfailed { is_failed self.old ≡ false }
-        requires parent { IsReachedStorage
-            (cases_of self.old.base) (entries_of self.old.base) parent }
-        requires below { (o : Outline)
-            → IsOutline (cases_of self.old.base) (entries_of self.old.base) o
-            → Contains (numbers o) top }
-        requires named { (list : List ℕ)
-            → HasChildren (cases_of self.old.base) (entries_of self.old.base) parent list
-            → IsChildNamed
-            (cases_of self.old.base) (entries_of self.old.base) (chars name.now) list top }
+        requires can_change { CanChange self.old }
+        requires child { HasChildNamed self.old parent top (chars name.now) }
         ensures removed { OnOk result
             (RemovesWithAll F.tells parent top (chars name.now) self.old self.new) }
         ensures others { IsTrue F.tells → Holds self.old
@@ -210,17 +181,8 @@ impl<F: Medium, A: Heap + Clone> Volume<F, A> {
     ///
     /// `Memory`, and `Medium` where the medium fails: all is as before, or the file has failed.
     fn remove_with_all(&mut self, parent: u32, top: u32, name: &str) -> Result<(), Error>
-        requires sound { self.old.is_sound ≡ true }
-        requires unfailed { is_failed self.old ≡ false }
-        requires parent { IsReachedStorage
-            (cases_of self.old.base) (entries_of self.old.base) parent }
-        requires below { (o : Outline)
-            → IsOutline (cases_of self.old.base) (entries_of self.old.base) o
-            → Contains (numbers o) top }
-        requires named { (list : List ℕ)
-            → HasChildren (cases_of self.old.base) (entries_of self.old.base) parent list
-            → IsChildNamed
-            (cases_of self.old.base) (entries_of self.old.base) (chars name.now) list top }
+        requires can_change { CanChange self.old }
+        requires child { HasChildNamed self.old parent top (chars name.now) }
         ensures removed { OnOk result
             (RemovesWithAll F.tells parent top (chars name.now) self.old self.new) }
         ensures others { IsTrue F.tells → Holds self.old
@@ -244,18 +206,9 @@ impl<F: Medium, A: Heap + Clone> Volume<F, A> {
     ///
     /// `Memory`, and `Medium` where the medium fails: all is as before, or the file has failed.
     pub fn remove_all(&mut self, parent: Option<(u32, &str)>, top: u32) -> Result<(), Error>
-        requires sound { self.old.is_sound ≡ true }
-        requires unfailed { is_failed self.old ≡ false }
-        requires root { IfNone parent (top ≡ 0) }
-        requires storage { IfSome parent (λ p.
-            IsReachedStorage (cases_of self.old.base) (entries_of self.old.base) p.0) }
-        requires below { IfSome parent (λ p. (o : Outline)
-            → IsOutline (cases_of self.old.base) (entries_of self.old.base) o
-            → Contains (numbers o) top) }
-        requires named { IfSome parent (λ p. (list : List ℕ)
-            → HasChildren (cases_of self.old.base) (entries_of self.old.base) p.0 list
-            → IsChildNamed
-            (cases_of self.old.base) (entries_of self.old.base) (chars p.1.now) list top) }
+        requires can_change { CanChange self.old }
+        requires place { MatchOption parent (top ≡ 0)
+            (λ p. HasChildNamed self.old p.0 top (chars p.1.now)) }
         ensures tree { IsTrue F.tells → Holds self.old → OnOk result (IfSome parent.entry (λ p.
             (names : List (List ℕ)) (o : Outline)
             → IsOutline (cases_of self.old.base) (entries_of self.old.base) o
@@ -265,27 +218,11 @@ impl<F: Medium, A: Heap + Clone> Volume<F, A> {
         ensures root_tree { IsTrue F.tells → Holds self.old → OnOk result (IfNone parent.entry
             (BecomesTree (cases_of self.old.base) (bytes_of self.old.base)
             (bytes_of self.new.base) (removed_at (cases_of self.old.base) []))) }
-        ensures balanced { IsTrue F.tells
-            → OnOk result (AllStayBalancedBut self.old.base self.new.base top) }
-        ensures parts { IsTrue F.tells → Holds self.old
-            → OnOk result (KeepsParts self.old.base self.new.base) }
-        ensures takes_none { OnOk result (length (tables_in self.new.base).fat
-            ≡ length (tables_in self.old.base).fat) }
-        ensures slots { OnOk result (TakesNoSlot self.old.base self.new.base) }
-        ensures grows { OnOk result (GrowsTightly self.old.base self.new.base) }
-        ensures ended { OnOk result (is_failed self.new ≡ false) }
-        ensures setting { SameSetting self.old self.new }
-        ensures others { IsTrue F.tells → Holds self.old
-            → KeepsStreamsBeside top self.old.base self.new.base }
-        ensures header { IsTrue F.tells
-            → Holds self.old → KeepsFixedHeader self.old.base self.new.base }
-        ensures agrees { IsTrue F.tells → Holds self.old → Agrees self.new }
-        ensures refused { IsTrue F.tells
-            → Holds self.old → OnErr result (StaysOrFails self.old self.new) }
-        ensures in_memory { OnErr result (StaysInMemoryOrFails self.old self.new) }
+        ensures keeps { StreamsBesideStay F.tells top self.old self.new result }
+        ensures takes { RemovalTakesNone self.old self.new result }
+        ensures ends { ChangeEnds F.tells (λ f. F.read_faults f || F.write_faults f) self.old
+            self.new result }
         ensures err { IsTrue F.tells → Holds self.old → IfErr result (IsBreak ⊥) }
-        ensures counts { IsTrue F.tells → CountsFailure (λ f. F.read_faults f
-            || F.write_faults f) result (failures_of self.old) (failures_of self.new) }
     {
         let _entries = self.entries();
         match parent {

@@ -1,5 +1,7 @@
 //! Other fields of an object in a file whose memory is what its bytes say.
 ghost use Rattle.std.specs.Prelude.{◌≡◌, ◌≢◌, ℕ, List, false, true, IsTrue, IfErr, OnOk, OnErr, Some, length};
+ghost use Rattle.cfb_volume.specs.Marking.{CanSetFields, SetsFields, FieldsKeep};
+ghost use Rattle.cfb_volume.specs.Changing.{CanChange, ChangeEnds, StreamsStay};
 ghost use Rattle.cfb_format.specs.DirectoryEntry.{IsValidEntry};
 ghost use Rattle.cfb_format.specs.Reading.{IsOutline, Outline};
 ghost use Rattle.cfb_format.specs.Refused.{CountsFailure, HasReason, IsMediumAnd};
@@ -34,57 +36,17 @@ impl<F: Medium, A: Heap> Volume<F, A> {
         number: u32,
         change: W,
     ) -> Result<(), Error>
-        requires sound { self.old.is_sound ≡ true }
-        requires unfailed { is_failed self.old ≡ false }
-        requires reached { (o : Outline)
-            → IsOutline (cases_of self.old.base) (entries_of self.old.base) o → IsReached o number }
+        requires can_change { CanChange self.old }
+        requires can_set { CanSetFields (λ fields. W.post change (fields_in (entry_at (entries_of
+            self.old.base) number)) fields) self.old number }
         requires callable { W.IsAlwaysCallable change }
-        requires start { (f : Fields)
-            → W.post change (fields_in (entry_at (entries_of self.old.base) number)) f
-            → f.start_sector ≡ (entry_at (entries_of self.old.base) number).start_sector }
-        requires len { (f : Fields) → W.post change
-            (fields_in (entry_at (entries_of self.old.base) number)) f
-            → f.stream_len ≡ len_of self.old.base number }
-        requires valid { (f : Fields)
-            → W.post change (fields_in (entry_at (entries_of self.old.base) number)) f
-            → IsValidEntry (version_of self.old.base) (entry_at (entries_of self.old.base) number)
-            → IsValidEntry (version_of self.old.base)
-            (entry_with_fields (entry_at (entries_of self.old.base) number) f) }
-        ensures setting { SameSetting self.old self.new }
-        ensures entries { OnOk result ((f : Fields) × W.post change
-            (fields_in (entry_at (entries_of self.old.base) number)) f
-            × (entries_of self.new.base ≡ entries_with_fields
-            (entries_of self.old.base) number f)) }
-        ensures tables { tables_in self.new.base ≡ tables_in self.old.base }
-        ensures minifat { self.new.base.minifat ≡ self.old.base.minifat }
-        ensures tree { IsTrue F.tells → Holds self.old
-            → OnOk result ((f : StorageInfo → StorageInfo) (g : StreamInfo
-            → StreamInfo) (names : List (List ℕ)) (o : Outline)
-            → IsOutline (cases_of self.old.base) (entries_of self.old.base) o
-            → number_from (cases_of self.old.base) (entries_of self.old.base) 0 o names
-            ≡ Some number
-            → ((fields : Fields) → W.post change
-            (fields_in (entry_at (entries_of self.old.base) number)) fields
-            → GivesFields (entry_at (entries_of self.old.base) number) fields f g)
-            → BecomesTree (cases_of self.old.base) (bytes_of self.old.base) (bytes_of self.new.base)
-            (fields_changed_at (cases_of self.old.base) f g names)) }
-        ensures finds { OnOk result (FindsTheSame self.old.base self.new.base) }
-        ensures others { IsTrue F.tells → Holds self.old
-            → KeepsStreams self.old.base self.new.base }
-        ensures header { IsTrue F.tells → KeepsFixedHeader self.old.base self.new.base }
-        ensures parts { IsTrue F.tells → Holds self.old
-            → OnOk result (KeepsParts self.old.base self.new.base) }
-        ensures balanced { OnOk result (AllStayBalanced self.old.base self.new.base) }
-        ensures root_len { OnOk result (len_of self.new.base 0 ≡ len_of self.old.base 0) }
-        ensures agrees { IsTrue F.tells → Holds self.old → Agrees self.new }
-        ensures ended { OnOk result (is_failed self.new ≡ false) }
-        ensures refused { IsTrue F.tells → Holds self.old
-            → OnErr result (StaysOrFails self.old self.new) }
-        ensures in_memory { OnErr result (StaysInMemoryOrFails self.old self.new) }
+        ensures ends { ChangeEnds F.tells F.write_faults self.old self.new result }
+        ensures fields { SetsFields F.tells (λ fields. W.post change (fields_in (entry_at
+            (entries_of self.old.base) number)) fields) number self.old self.new result }
+        ensures around { FieldsKeep self.old self.new result }
+        ensures keeps { StreamsStay F.tells self.old self.new result }
         ensures err { IsTrue F.tells → Holds self.old
             → IfErr result (IsMediumAnd (λ fault. is_failed self.new ≡ true)) }
-        ensures counts { IsTrue F.tells
-            → CountsFailure F.write_faults result (failures_of self.old) (failures_of self.new) }
     {
         let _entries = self.mini.entries();
         self.mini.with_dir_entry_mut(number, change)?;

@@ -1,5 +1,6 @@
 //! A storage or stream taken from a file whose memory is what its bytes say.
 ghost use Rattle.std.specs.Prelude.{◌≡◌, ◌≢◌, ◌⊎◌, ◌||◌, ◌∷◌, ℕ, List, false, true, length, Contains, IsTrue, IfErr, OnOk, OnErr, Some, chars};
+ghost use Rattle.cfb_volume.specs.Changing.{CanChange, ChangeEnds};
 ghost use Rattle.cfb_format.specs.declared.objtype.ObjType.TheVariants.{Stream};
 ghost use Rattle.cfb_format.specs.declared.validate.Validation.{Validation};
 ghost use Rattle.cfb_format.specs.Bytes.{no_stream};
@@ -19,7 +20,7 @@ ghost use Rattle.cfb_volume.specs.cfb_content.Contents.{KeepsFixedHeader, KeepsO
 ghost use Rattle.cfb_entry_changes.specs.Kept.{AllStayBalancedBut, FindsAllBut};
 ghost use Rattle.cfb_agreement.specs.Changes.{KeepsParts, StaysOrFails};
 ghost use Rattle.cfb_agreement.specs.Files.{Agrees, Holds, GrowsTightly, SameSetting, failures_of, is_failed};
-ghost use Rattle.cfb_volume.specs.Removing.{StaysOrGaveBack, WasEmptied};
+ghost use Rattle.cfb_volume.specs.Removing.{StaysOrGaveBack, WasEmptied, HasChildNamed, RemovesObject, OtherStreamsStay, TakesNoSector, RemoveRefused, ChangesOwnContent, GivesContentBack, EmptyingRefused};
 ghost use Rattle.cfb_volume.specs.Slots.{TakesNoSlot};
 ghost use Rattle.cfb_volume.specs.Answers.{StaysInMemoryOrFails};
 
@@ -37,21 +38,10 @@ fn empty_object<F: Medium, A: Heap + Clone>(
 ) -> Result<(), Error>
     requires below { (o : Outline) → IsOutline (cases_of mini.old) (entries_of mini.old) o
         → Contains (numbers o) entry }
-    ensures emptied { IsTrue F.tells → OnOk result (WasEmptied mini.old mini.new entry) }
-    ensures moves { MovesAlone mini.old mini.new entry }
-    ensures spares { IsTrue F.tells → SparesOthers mini.old mini.new entry }
-    ensures takes_none { length (tables_in mini.new).fat ≡ length (tables_in mini.old).fat }
-    ensures none { (entry_at (entries_of mini.old) entry).obj_type ≢ Stream → mini.new ≡ mini.old }
-    ensures quiet { OnOk result ((table_of mini.new).file.begun ≡ false → mini.new ≡ mini.old) }
-    ensures gave_back { OnOk result (StaysOrGaveBack entry mini.old mini.new) }
-    ensures first { IsTrue F.tells → IfErr result (AfterMedium Unit (mini.new ≡ mini.old)) }
-    ensures still { OnErr result (IsStill mini.old mini.new ⊎
-        ((table_of mini.new).file.begun ≡ true)) }
-    ensures err { IsTrue F.tells → (v : Validation) → IsChangeable v mini.old
-        → IfErr result (IsBreak ⊥) }
-    ensures counts { IsTrue F.tells → CountsFailure
-        (λ f. F.read_faults f || F.write_faults f) result (table_of mini.old).file.failures
-        (table_of mini.new).file.failures }
+    ensures gives { GivesContentBack F.tells entry mini.old mini.new result }
+    ensures changes { ChangesOwnContent F.tells (λ f. F.read_faults f || F.write_faults f) entry
+        mini.old mini.new result }
+    ensures error { EmptyingRefused F.tells mini.old mini.new result }
 {
     let _entries = mini.entries();
     let kind = mini.dir_entry(entry).obj_type;
@@ -73,60 +63,16 @@ impl<F: Medium, A: Heap + Clone> Volume<F, A> {
     /// `Memory`, and `Medium` where the medium fails: all is as before, or the file has failed. After `Memory` nothing has changed,
     /// or the stream's bytes were given back.
     pub fn remove(&mut self, parent: u32, child: u32, name: &str) -> Result<(), Error>
-        requires sound { self.old.is_sound ≡ true }
-        requires unfailed { is_failed self.old ≡ false }
-        requires parent { IsReachedStorage (cases_of self.old.base)
-            (entries_of self.old.base) parent }
-        requires below { (o : Outline)
-            → IsOutline (cases_of self.old.base) (entries_of self.old.base) o
-            → Contains (numbers o) child }
-        requires named { (list : List ℕ)
-            → HasChildren (cases_of self.old.base) (entries_of self.old.base) parent list
-            → IsChildNamed (cases_of self.old.base) (entries_of self.old.base)
-            (chars name.now) list child }
+        requires can_change { CanChange self.old }
+        requires child { HasChildNamed self.old parent child (chars name.now) }
         requires childless { (entry_at (entries_of self.old.base) child).child ≡ no_stream }
-        ensures setting { SameSetting self.old self.new }
-        ensures tree { IsTrue F.tells → Holds self.old
-            → OnOk result ((first : List ℕ) (names : List (List ℕ)) (o : Outline)
-            → IsOutline (cases_of self.old.base) (entries_of self.old.base) o
-            → number_from (cases_of self.old.base) (entries_of self.old.base) 0 o
-            (parent_names (first ∷ names)) ≡ Some parent
-            → number_from (cases_of self.old.base) (entries_of self.old.base) 0 o (first ∷ names)
-            ≡ Some child → last_name (first ∷ names) ≡ chars name.now
-            → BecomesTree (cases_of self.old.base) (bytes_of self.old.base) (bytes_of self.new.base)
-            (removed_at (cases_of self.old.base) (first ∷ names))) }
-        ensures finds { IsTrue F.tells
-            → OnOk result (FindsAllBut self.old.base self.new.base child) }
-        ensures balanced { IsTrue F.tells
-            → OnOk result (AllStayBalancedBut self.old.base self.new.base child) }
-        ensures others { IsTrue F.tells → Holds self.old
-            → KeepsOthers child self.old.base self.new.base }
-        ensures header { IsTrue F.tells → KeepsFixedHeader self.old.base self.new.base }
-        ensures parts { IsTrue F.tells → Holds self.old
-            → OnOk result (KeepsParts self.old.base self.new.base) }
-        ensures erased { IsTrue F.tells → Holds self.old
-            → (entry_at (entries_of self.old.base) child).obj_type ≡ Stream
-            → OnOk result (LeavesZeros self.old.base self.new.base child) }
-        ensures grows { OnOk result (GrowsTightly self.old.base self.new.base) }
-        ensures takes_none { length (tables_in self.new.base).fat ≡ length
-            (tables_in self.old.base).fat }
-        ensures slots { OnOk result (TakesNoSlot self.old.base self.new.base) }
-        ensures root_len { IsTrue F.tells
-            → (entry_at (entries_of self.old.base) child).obj_type ≢ Stream
-            → OnOk result (len_of self.new.base 0 ≡ len_of self.old.base 0) }
-        ensures agrees { IsTrue F.tells → Holds self.old → Agrees self.new }
-        ensures ended { OnOk result (is_failed self.new ≡ false) }
-        ensures refused { IsTrue F.tells → Holds self.old
-            → OnErr result (StaysOrFails self.old self.new) }
-        ensures in_memory { OnErr result (StaysInMemoryOrFails self.old self.new) }
-        ensures first { (entry_at (entries_of self.old.base) child).obj_type ≢ Stream
-            → IfErr result (AfterMedium Unit (self.new ≡ self.old)) }
-        ensures gave_back { IsTrue F.tells → IfErr result
-            (AfterMedium Unit (StaysOrGaveBack child self.old.base self.new.base)) }
-        ensures err { IsTrue F.tells → Holds self.old → IfErr result (IsBreak ⊥) }
-        ensures counts { IsTrue F.tells
-            → CountsFailure (λ f. F.read_faults f || F.write_faults f) result (failures_of self.old)
-            (failures_of self.new) }
+        ensures ends { ChangeEnds F.tells (λ f. F.read_faults f || F.write_faults f) self.old
+            self.new result }
+        ensures object { RemovesObject F.tells parent child (chars name.now) self.old self.new
+            result }
+        ensures keeps { OtherStreamsStay F.tells child self.old self.new result }
+        ensures takes { TakesNoSector F.tells child self.old self.new result }
+        ensures error { RemoveRefused F.tells child self.old self.new result }
     {
         empty_object(&mut self.mini, child)?;
         self.mini.remove_dir_entry(parent, name)?;

@@ -1,5 +1,7 @@
 //! A file whose memory is what its bytes say.
 ghost use Rattle.std.specs.Prelude.{◌≡◌, ◌≢◌, ◌+◌, ◌-◌, ◌<◌, ◌≤◌, ◌⊎◌, ◌↔◌, ◌||◌, ◌∷◌, ℕ, List, max, min, length, take, drop, false, true, IsTrue, IfOk, IfErr, IfSome, IsErrAnd, OnOk, OnErr, Some, Option, chars, map};
+ghost use Rattle.cfb_volume.specs.Streams.{CanWrite, CanAppend, CanResize, ChangesOneStream, WritesPrefix, AppendsBytes, ResizesStream, TakesFreeFirst, GrowthRefused, HasRoomToResize, ResizeRefused, IsOnlyRead, ReadsPrefix, ReadRefused};
+ghost use Rattle.cfb_volume.specs.Changing.{CanChange, ChangeEnds, FlushKeeps, FlushFails};
 ghost use Rattle.cfb_format.specs.Bytes.{max_regular_sector, max_stream_len};
 ghost use Rattle.cfb_format.specs.Full.{free_count};
 ghost use Rattle.cfb_format.specs.Medium.{part, written};
@@ -198,8 +200,7 @@ impl<F: ReadMedium, A: Heap + Clone> Volume<F, A> {
     /// for no memory. `Memory` for any other.
     pub fn can_resize(&self, entry: u32, len: u64) -> Result<bool, Error>
         requires sound { self.now.is_sound ≡ true }
-        requires stream { IsStreamOf self.now.base entry }
-        requires limit { len ≤ max_stream_len (version_of self.now.base) }
+        requires can_resize { CanResize self.now entry len }
         ensures same { len ≡ len_of self.now.base entry
             → OnErr result ⊥ × IfOk result (λ can. can ≡ true) }
         ensures can { Holds self.now → len ≢ len_of self.now.base entry
@@ -214,28 +215,10 @@ impl<F: ReadMedium, A: Heap + Clone> Volume<F, A> {
     /// read; `Memory`; and `Medium` where the medium fails. All is as before then.
     pub fn read(&mut self, entry: u32, at: u64, into: &mut [u8]) -> Result<usize, Error>
         requires inside { entry < length (entries_of self.old.base) }
-        ensures same { IsTrue F.tells → IsAsBefore self.old self.new }
-        ensures in_memory { IsAsBeforeInMemory self.old self.new }
-        ensures flag { is_failed self.new ≡ is_failed self.old }
-        ensures entries { entries_of self.new.base ≡ entries_of self.old.base }
-        ensures setting { SameSetting self.old self.new }
-        ensures count { IfOk result (λ n. n
-            ≤ min (length into.old) (len_of self.old.base entry - at)) }
-        ensures some { IfOk result (λ n. 0 < min (length into.old) (len_of self.old.base entry - at)
-            → 0 < n) }
-        ensures ok { IsTrue F.tells → Holds self.old
-            → IfOk result (λ n. take n into.new ≡ part (content_at self.old entry) at n) }
-        ensures within { IsTrue F.tells → Holds self.old
-            → IfOk result (λ n. 0 < n → at + n ≤ length (content_at self.old entry)) }
-        ensures rest { IfOk result (λ n. drop n into.new ≡ drop n into.old) }
-        ensures err { IsTrue F.tells → Holds self.old
-            → IfErr result (ChangeRefused ((length (content_at self.old entry) ≤ at)
-            × (0 < min (length into.old) (len_of self.old.base entry - at))) Unit ⊥ Unit) }
-        ensures past { IsTrue F.tells → Holds self.old → length (content_at self.old entry) ≤ at
-            → 0 < min (length into.old) (len_of self.old.base entry - at)
-            → IsErrAnd result (λ e. IsInvalidData e ⊎ IsMemory e) }
-        ensures counts { IsTrue F.tells
-            → CountsFailure F.read_faults result (failures_of self.old) (failures_of self.new) }
+        ensures stays { IsOnlyRead F.tells self.old self.new }
+        ensures read { ReadsPrefix F.tells self.old entry at into.old into.new result }
+        ensures error { ReadRefused F.tells F.read_faults self.old self.new entry at (length
+            into.old) result }
     {
         read_content(&mut self.mini, entry, at, into)
     }
@@ -252,13 +235,8 @@ impl<F: Medium, A: Heap> Volume<F, A> {
     /// Hands on what was written. `Medium` where the medium fails, and the file has failed then.
     pub fn flush(&mut self) -> Result<(), Error>
         requires unfailed { is_failed self.old ≡ false }
-        ensures ok { IsTrue F.tells → OnOk result (self.new ≡ self.old) }
-        ensures ended { OnOk result (is_failed self.new ≡ false) }
-        ensures failed { OnErr result (is_failed self.new ≡ true) }
-        ensures rest { IsTrue F.tells
-            → self.new ≡ with_flags self.old (failures_of self.new) (is_failed self.new) }
-        ensures entries { entries_of self.new.base ≡ entries_of self.old.base }
-        ensures setting { SameSetting self.old self.new }
+        ensures stays { FlushKeeps F.tells self.old self.new result }
+        ensures flags { FlushFails self.new result }
         ensures err { IfErr result (IsMediumAnd (λ f. Unit {0})) }
         ensures counts { IsTrue F.tells
             → CountsFailure F.write_faults result (failures_of self.old) (failures_of self.new) }
@@ -277,42 +255,18 @@ impl<F: Medium, A: Heap + Clone> Volume<F, A> {
     /// `Full` only at the end, where the stream could not have one byte more in the file before, and then no number is left; `Memory`; and
     /// `Medium` where the medium fails. All is as before then, or the file has failed.
     pub fn write(&mut self, entry: u32, at: u64, bytes: &[u8]) -> Result<usize, Error>
-        requires sound { self.old.is_sound ≡ true }
-        requires unfailed { is_failed self.old ≡ false }
-        requires stream { IsStreamOf self.old.base entry }
-        requires inside { at ≤ len_of self.old.base entry }
-        requires fits { at + length bytes.now ≤ max_stream_len (version_of self.old.base) }
-        ensures count { IfOk result (λ n. n ≤ length bytes.now) }
-        ensures some { 0 < length bytes.now → IfOk result (λ n. 0 < n) }
-        ensures none { length bytes.now ≡ 0 → OnErr result ⊥ × (self.new ≡ self.old) }
-        ensures len { IfOk result (λ n. len_of self.new.base entry
-            ≡ max (len_of self.old.base entry) (at + n)) }
-        ensures stream { IsStreamOf self.new.base entry }
-        ensures setting { SameSetting self.old self.new }
-        ensures content { IsTrue F.tells → Holds self.old → IfOk result (λ n.
-            content_at self.new entry ≡ written (content_at self.old entry) at (take n bytes.now)) }
-        ensures entries { MovesContent self.old.base self.new.base entry }
-        ensures changes { IsTrue F.tells
-            → Holds self.old → ChangesOneContent entry self.old self.new }
-        ensures no_shorter { OnOk result (length (tables_in self.old.base).fat
-            ≤ length (tables_in self.new.base).fat) }
-        ensures stays_full { IsTrue F.tells
-            → Holds self.old → LeavesNoMinis self.old.base entry (at + length bytes.now)
-            → NoneFree (tables_in self.old.base).fat
-            → OnOk result (NoneFree (tables_in self.new.base).fat) }
+        requires can_change { CanChange self.old }
+        requires can_write { CanWrite self.old entry at bytes.now }
+        ensures written { WritesPrefix F.tells entry at bytes.now self.old self.new result }
+        ensures only { ChangesOneStream F.tells entry self.old self.new }
+        ensures ends { ChangeEnds F.tells (λ f. F.read_faults f || F.write_faults f) self.old
+            self.new result }
+        ensures takes { TakesFreeFirst F.tells entry (at + length bytes.now) self.old self.new
+            result }
         ensures within { (at < len_of self.old.base entry) ⊎ (length bytes.now ≡ 0)
             → ChangesFileAlone self.old.base self.new.base }
-        ensures agrees { IsTrue F.tells → Holds self.old → Agrees self.new }
-        ensures ended { OnOk result (is_failed self.new ≡ false) }
-        ensures refused { IsTrue F.tells
-            → Holds self.old → OnErr result (StaysOrFails self.old self.new) }
-        ensures in_memory { OnErr result (StaysInMemoryOrFails self.old self.new) }
-        ensures err { IsTrue F.tells → Holds self.old
-            → IfErr result (IsBreak ((len_of self.old.base entry ≤ at) × IsFullFile self.new)) }
-        ensures foreseen { IsTrue F.tells → Holds self.old → IfErr result (λ e. e ≡ Full
-            → IsTooLongFor self.old.base entry (len_of self.old.base entry + 1)) }
-        ensures counts { IsTrue F.tells → CountsFailure (λ f. F.read_faults f
-            || F.write_faults f) result (failures_of self.old) (failures_of self.new) }
+        ensures error { GrowthRefused F.tells ((len_of self.old.base entry ≤ at) × IsFullFile
+            self.new) entry (len_of self.old.base entry + 1) self.old result }
     {
         let count = put_content(&mut self.mini, entry, at, bytes)?;
         self.mini.end_change();
@@ -325,46 +279,21 @@ impl<F: Medium, A: Heap + Clone> Volume<F, A> {
     /// `Full` only where that length needs more numbers than are free or left, and then with none left; `Memory`; and `Medium` where the
     /// medium fails. All is as before then, or the file has failed.
     pub fn append(&mut self, entry: u32, bytes: &[u8]) -> Result<(), Error>
-        requires sound { self.old.is_sound ≡ true }
-        requires unfailed { is_failed self.old ≡ false }
-        requires stream { IsStreamOf self.old.base entry }
-        requires fits { len_of self.old.base entry + length bytes.now
-            ≤ max_stream_len (version_of self.old.base) }
-        ensures len { OnOk result (len_of self.new.base entry
-            ≡ len_of self.old.base entry + length bytes.now) }
-        ensures stream { IsStreamOf self.new.base entry }
-        ensures setting { SameSetting self.old self.new }
-        ensures none { length bytes.now ≡ 0 → OnErr result ⊥ × (self.new ≡ self.old) }
-        ensures content { IsTrue F.tells → Holds self.old → OnOk result
-            (content_at self.new entry ≡ written (content_at self.old entry)
-            (len_of self.old.base entry) bytes.now) }
-        ensures entries { MovesContent self.old.base self.new.base entry }
-        ensures changes { IsTrue F.tells
-            → Holds self.old → ChangesOneContent entry self.old self.new }
-        ensures no_shorter { OnOk result (length (tables_in self.old.base).fat
-            ≤ length (tables_in self.new.base).fat) }
-        ensures stays_full { IsTrue F.tells → Holds self.old
-            → LeavesNoMinis self.old.base entry
-            (len_of self.old.base entry + length bytes.now)
-            → NoneFree (tables_in self.old.base).fat
-            → OnOk result (NoneFree (tables_in self.new.base).fat) }
+        requires can_change { CanChange self.old }
+        requires can_append { CanAppend self.old entry bytes.now }
+        ensures appended { AppendsBytes F.tells entry bytes.now self.old self.new result }
+        ensures only { ChangesOneStream F.tells entry self.old self.new }
+        ensures ends { ChangeEnds F.tells (λ f. F.read_faults f || F.write_faults f) self.old
+            self.new result }
+        ensures takes { TakesFreeFirst F.tells entry (len_of self.old.base entry + length bytes.now)
+            self.old self.new result }
         ensures minis_full { IsTrue F.tells → Holds self.old
             → LeavesNoMinis self.old.base entry
             (len_of self.old.base entry + length bytes.now)
             → free_count self.old.base.minifat ≡ 0
             → OnOk result (free_count self.new.base.minifat ≡ 0) }
-        ensures agrees { IsTrue F.tells → Holds self.old → Agrees self.new }
-        ensures ended { OnOk result (is_failed self.new ≡ false) }
-        ensures refused { IsTrue F.tells
-            → Holds self.old → OnErr result (StaysOrFails self.old self.new) }
-        ensures in_memory { OnErr result (StaysInMemoryOrFails self.old self.new) }
-        ensures err { IsTrue F.tells → Holds self.old
-            → IfErr result (IsBreak (IsFullFile self.new)) }
-        ensures foreseen { IsTrue F.tells → Holds self.old → IfErr result (λ e. e ≡ Full
-            → IsTooLongFor self.old.base entry
-            (len_of self.old.base entry + length bytes.now)) }
-        ensures counts { IsTrue F.tells → CountsFailure (λ f. F.read_faults f
-            || F.write_faults f) result (failures_of self.old) (failures_of self.new) }
+        ensures error { GrowthRefused F.tells (IsFullFile self.new) entry (len_of self.old.base
+            entry + length bytes.now) self.old result }
     {
         append_all(&mut self.mini, entry, bytes)?;
         self.mini.end_change();
@@ -379,40 +308,14 @@ impl<F: Medium, A: Heap + Clone> Volume<F, A> {
     /// has failed. To empty a stream takes no sector, however that ends, and after `Memory` nothing has changed then. Once it is longer, each
     /// still longer length can be had that could be before.
     pub fn resize(&mut self, entry: u32, len: u64) -> Result<(), Error>
-        requires sound { self.old.is_sound ≡ true }
-        requires unfailed { is_failed self.old ≡ false }
-        requires stream { IsStreamOf self.old.base entry }
-        requires limit { len ≤ max_stream_len (version_of self.old.base) }
-        ensures len { OnOk result (len_of self.new.base entry ≡ len) }
-        ensures stream { IsStreamOf self.new.base entry }
-        ensures setting { SameSetting self.old self.new }
-        ensures none { len ≡ len_of self.old.base entry → OnErr result ⊥ × (self.new ≡ self.old) }
-        ensures content { IsTrue F.tells → Holds self.old
-            → OnOk result (content_at self.new entry ≡ resized (content_at self.old entry) len) }
-        ensures erased { IsTrue F.tells → Holds self.old
-            → OnOk result (ErasesMinis self.old.base self.new.base entry) }
-        ensures entries { MovesContent self.old.base self.new.base entry }
-        ensures changes { IsTrue F.tells
-            → Holds self.old → ChangesOneContent entry self.old self.new }
-        ensures agrees { IsTrue F.tells → Holds self.old → Agrees self.new }
-        ensures ended { OnOk result (is_failed self.new ≡ false) }
-        ensures refused { IsTrue F.tells
-            → Holds self.old → OnErr result (StaysOrFails self.old self.new) }
-        ensures in_memory { OnErr result (StaysInMemoryOrFails self.old self.new) }
-        ensures enough { IsTrue F.tells → Holds self.old → len ≢ len_of self.old.base entry
-            → OnOk result (IsTooLongFor self.old.base entry len → ⊥) }
-        ensures leaves_room { IsTrue F.tells → Holds self.old → len_of self.old.base entry ≤ len
-            → OnOk result ((more : ℕ) → len ≤ more → IsTooLongFor self.new.base entry more
-            → IsTooLongFor self.old.base entry more) }
-        ensures emptied { Holds self.old → len ≡ 0 → IsTooLongFor self.old.base entry len → ⊥ }
-        ensures takes_none { len ≡ 0
-            → length (tables_in self.new.base).fat ≡ length (tables_in self.old.base).fat }
-        ensures first { IsTrue F.tells → len ≡ 0
-            → IfErr result (AfterMedium Unit (self.new ≡ self.old)) }
-        ensures err { IsTrue F.tells → Holds self.old → IfErr result
-            (IsBreak (IsTooLongFor self.old.base entry len × (self.new ≡ self.old))) }
-        ensures counts { IsTrue F.tells → CountsFailure (λ f. F.read_faults f
-            || F.write_faults f) result (failures_of self.old) (failures_of self.new) }
+        requires can_change { CanChange self.old }
+        requires can_resize { CanResize self.old entry len }
+        ensures resized { ResizesStream F.tells entry len self.old self.new result }
+        ensures only { ChangesOneStream F.tells entry self.old self.new }
+        ensures ends { ChangeEnds F.tells (λ f. F.read_faults f || F.write_faults f) self.old
+            self.new result }
+        ensures room { HasRoomToResize F.tells entry len self.old self.new result }
+        ensures error { ResizeRefused F.tells entry len self.old self.new result }
     {
         // The MiniFAT is no longer than it may be: else there were lengths too long that take nothing.
         let _ = self.mini.minifat_len();

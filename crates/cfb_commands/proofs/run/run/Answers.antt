@@ -1,4 +1,5 @@
-use Rattle.std.proofs.Common.{◌≤◌, ◌∙◌, ◌∷◌, [], List, ap, arith, length, length-append, map, subst, take, drop}
+use Rattle.std.proofs.lemmas.Grind.{common_steps}
+use Rattle.std.proofs.Common.{◌≤◌, ◌∙◌, ◌∷◌, [], List, ap, arith, length, length-append, map, subst, take, drop, rules}
 use Rattle.std.proofs.lemmas.List.{take-append-le, take_all}
 use Rattle.std.specs.Prelude.{◌||◌}
 use Rattle.cfb_commands.specs.declared.command.Command.{Command as TheCommand}
@@ -55,7 +56,13 @@ returns-clause-any g c =
     let each = c.loop-command.invariant.heeds in
     record { untouched = heed_untouched c.args.file.now c.loop-command.file (drop (length c.args.replies.now.items) c.loop-command.replies.items) each; each = each }
 
-pub returns-clause-of_kinds : goal.returns-clause-of_kinds
-returns-clause-of_kinds g c =
-    subst (λ (commands : List (TheCommand g.row.A.Denot)). AreOfKinds (map kind_of_command commands) (drop (length c.args.replies.now.items) c.loop-command.replies.items))
-    (take_all c.loop-command.command-index c.args.commands.now c.loop-command-test.false) c.loop-command.invariant.of_kinds
+pub returns-clause-replies : goal.returns-clause-replies
+returns-clause-replies g c = record {
+  kept = first_of (search rules, grind (arith, common_steps));
+  one_each = first_of (search rules, grind (arith, common_steps));
+  of_kinds = (
+      subst (λ (commands : List (TheCommand g.row.A.Denot)). AreOfKinds (map kind_of_command commands) (drop (length c.args.replies.now.items) c.loop-command.replies.items))
+      (take_all c.loop-command.command-index c.args.commands.now c.loop-command-test.false) c.loop-command.invariant.of_kinds
+      );
+  asked = first_of (search rules, grind (arith, common_steps));
+}

@@ -1,4 +1,5 @@
-use Rattle.std.proofs.Common.{ℕ, List, true, ap, sym, ◌∙◌, subst}
+use Rattle.std.proofs.lemmas.Grind.{common_steps}
+use Rattle.std.proofs.Common.{ℕ, List, true, ap, sym, ◌∙◌, subst, rules, arith}
 use Rattle.std.specs.Prelude.{slice_index}
 use Rattle.cfb_format.specs.declared.version.Version.{Version}
 use Rattle.cfb_format.specs.Created.{created_bytes}
@@ -7,18 +8,22 @@ use Rattle.cfb_copies.specs.Copies.{HasNoObjects, IsFresh, IsMadeCopy}
 use Rattle.cfb_copies.proofs.Emptied.{created_full, created_none, created_tight, created_used}
 use Rattle.cfb_copies.proofs.copying.make_empty.Goals as goal
 
-pub returns-clause-made : goal.returns-clause-made
-returns-clause-made g c told =
-    let m = c.in_ok-mini.ensures in
-    let file : FileState = record { base = c.in_ok-mini.mini; is_sound = true; buffer_limit = c.args.buffer_limit } in
-    subst (λ (f : FileState). IsMadeCopy (g.W.ReadMedium.failures c.args.dest) f) (sym c.new.ensures) (record {
-      holds = m.holds told c.args.buffer_limit;
-      made = m.made told;
-      none_free = created_full file _ (m.holds told c.args.buffer_limit) (m.bytes told);
-      tight = created_tight file _ (m.holds told c.args.buffer_limit) (m.bytes told);
-      header = λ i fixed. ap (λ (bytes : List ℕ). slice_index bytes i) (m.bytes told) ∙ ap (λ (v : Version). slice_index (created_bytes v) i) (sym m.version);
-      calm = m.calm told;
-    })
+pub returns-clause-copy : goal.returns-clause-copy
+returns-clause-copy g c = record {
+  after = first_of (search rules, grind (arith, common_steps));
+  made = λ told. (
+      let m = c.in_ok-mini.ensures in
+      let file : FileState = record { base = c.in_ok-mini.mini; is_sound = true; buffer_limit = c.args.buffer_limit } in
+      subst (λ (f : FileState). IsMadeCopy (g.W.ReadMedium.failures c.args.dest) f) (sym c.new.ensures) (record {
+        holds = m.holds told c.args.buffer_limit;
+        made = m.made told;
+        none_free = created_full file _ (m.holds told c.args.buffer_limit) (m.bytes told);
+        tight = created_tight file _ (m.holds told c.args.buffer_limit) (m.bytes told);
+        header = λ i fixed. ap (λ (bytes : List ℕ). slice_index bytes i) (m.bytes told) ∙ ap (λ (v : Version). slice_index (created_bytes v) i) (sym m.version);
+        calm = m.calm told;
+      })
+      );
+}
 
 pub returns-clause-empty : goal.returns-clause-empty
 returns-clause-empty g c told =

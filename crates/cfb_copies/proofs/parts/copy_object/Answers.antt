@@ -1,4 +1,5 @@
-use Rattle.std.proofs.Common.{◌≡◌, ◌≢◌, ◌≤◌, ◌∷◌, ℕ, List, refl, sym, ◌∙◌, ap, subst, arith}
+use Rattle.std.proofs.lemmas.Grind.{common_steps}
+use Rattle.std.proofs.Common.{◌≡◌, ◌≢◌, ◌≤◌, ◌∷◌, ℕ, List, refl, sym, ◌∙◌, ap, subst, arith, rules}
 use Rattle.std.proofs.lemmas.Result.{err_from_is_err_and}
 use Rattle.cfb_format.specs.declared.objtype.ObjType.TheVariants.{Stream}
 use Rattle.cfb_format.specs.declared.version.Version.{Version}
@@ -20,83 +21,82 @@ use Rattle.cfb_copies.proofs.Slots.{moved_used}
 use Rattle.cfb_copies.proofs.parts.copy_object.Goals as goal
 
 pub insert_like-requires-clause-like : goal.insert_like-requires-clause-like
-insert_like-requires-clause-like g c = subst (λ (es : List Entry). CanBeLike es c.args.entry) (sym c.entries-entries.ensures.entries) c.requires.copyable.like
+insert_like-requires-clause-like g c = subst (λ (es : List Entry). CanBeLike es c.args.entry) (sym c.entries-entries.ensures.entries) c.requires.can_copy.copyable.like
 
-pub returns-in_err-number-clause-err : goal.returns-in_err-number-clause-err
-returns-in_err-number-clause-err g c told tells holds target whole takes =
+pub returns-in_err-number-clause-error : goal.returns-in_err-number-clause-error
+returns-in_err-number-clause-error g c =
     let p = err_from_is_err_and c.from_residual.result c.from_residual.ensures.1 in
-    rw (p.1, p.2) (c.in_err-number.ensures.err tells target
-    (subst (λ (es : List Entry). TakesName c.args.target.now c.args.parent (entry_at es c.args.entry).name) (sym c.entries-entries.ensures.entries) takes))
+    record {
+      err = λ told tells holds target whole takes. (
+          rw (p.1, p.2) (c.in_err-number.ensures.error.err tells target
+          (subst (λ (es : List Entry). TakesName c.args.target.now c.args.parent (entry_at es c.args.entry).name) (sym c.entries-entries.ensures.entries) takes))
+          );
+      enough = λ told tells holds target whole part is to room. rw (p.1, p.2) (c.in_err-number.ensures.error.enough tells target (entry_for c.args.target.now target part room));
+    }
 
-pub returns-in_err-number-clause-enough : goal.returns-in_err-number-clause-enough
-returns-in_err-number-clause-enough g c told tells holds target whole part is to room =
-    let p = err_from_is_err_and c.from_residual.result c.from_residual.ensures.1 in
-    rw (p.1, p.2) (c.in_err-number.ensures.enough tells target (entry_for c.args.target.now target part room))
+pub copy_bytes-requires-clause-empty_stream : goal.copy_bytes-requires-clause-empty_stream
+copy_bytes-requires-clause-empty_stream g c = record {
+  fits = (
+      let kind = sym (ap (λ (es : List Entry). (entry_at es c.args.entry).obj_type) c.entries-entries.ensures.entries) ∙ sym c.kind_of-kind.ensures ∙ c.in-Stream.is in
+      let most = subst (λ (v : Version). len_of c.args.source.now.base c.args.entry ≤ max_stream_len v) (sym (c.in_ok-number.ensures.added.grows.setting.limits.version ∙ c.requires.can_copy.in_version)) (c.requires.can_copy.copyable.len kind) in
+      omega (arith, most, c.in_ok-len-in-Stream.ensures.within)
+      );
+  stream = (
+      let w = c.in_ok-number.ensures in
+      new_stream_of c.insert_like.new.target c.in_ok-number.number w.added.grows.outline w.added.is_new.reached (w.is_like.kind ∙ sym c.kind_of-kind.ensures ∙ c.in-Stream.is)
+      );
+  empty = first_of (search rules, grind (arith, common_steps));
+}
 
-pub copy_bytes-requires-clause-fits : goal.copy_bytes-requires-clause-fits
-copy_bytes-requires-clause-fits g c =
-    let kind = sym (ap (λ (es : List Entry). (entry_at es c.args.entry).obj_type) c.entries-entries.ensures.entries) ∙ sym c.kind_of-kind.ensures ∙ c.in-Stream.is in
-    let most = subst (λ (v : Version). len_of c.args.source.now.base c.args.entry ≤ max_stream_len v) (sym (c.in_ok-number.ensures.grows.setting.limits.version ∙ c.requires.in_version)) (c.requires.copyable.len kind) in
-    omega (arith, most, c.in_ok-len-in-Stream.ensures.within)
-
-pub copy_bytes-requires-clause-stream : goal.copy_bytes-requires-clause-stream
-copy_bytes-requires-clause-stream g c =
-    let w = c.in_ok-number.ensures in
-    new_stream_of c.insert_like.new.target c.in_ok-number.number w.grows.outline w.is_new.reached (w.is_like.kind ∙ sym c.kind_of-kind.ensures ∙ c.in-Stream.is)
-
-pub returns-in_err-copy_bytes-in-Stream-clause-err : goal.returns-in_err-copy_bytes-in-Stream-clause-err
-returns-in_err-copy_bytes-in-Stream-clause-err g c told tells holds target whole takes =
+pub returns-in_err-copy_bytes-in-Stream-clause-error : goal.returns-in_err-copy_bytes-in-Stream-clause-error
+returns-in_err-copy_bytes-in-Stream-clause-error g c =
     let p = err_from_is_err_and c.from_residual-in_err-copy_bytes-in-Stream.result c.from_residual-in_err-copy_bytes-in-Stream.ensures.1 in
-    let kind = sym (ap (λ (es : List Entry). (entry_at es c.args.entry).obj_type) c.entries-entries.ensures.entries) ∙ sym c.kind_of-kind.ensures ∙ c.in-Stream.is in
-    rw (p.1, p.2) (c.in_err-copy_bytes-in-Stream.ensures.err told tells holds (c.in_ok-number.ensures.grows.holds tells target) (c.in_ok-len-in-Stream.ensures.kept told holds whole kind))
+    record {
+      err = λ told tells holds target whole takes. (
+          let kind = sym (ap (λ (es : List Entry). (entry_at es c.args.entry).obj_type) c.entries-entries.ensures.entries) ∙ sym c.kind_of-kind.ensures ∙ c.in-Stream.is in
+          rw (p.1, p.2) (c.in_err-copy_bytes-in-Stream.ensures.error.err told tells holds (c.in_ok-number.ensures.added.grows.holds tells target) (c.in_ok-len-in-Stream.ensures.kept told holds whole kind))
+          );
+      enough = λ told tells holds target whole part is to room. (
+          let w = c.in_ok-number.ensures in
+          let n = c.in_ok-number.number in
+          let old = c.args.target.now in
+          let mid = c.insert_like.new.target in
+          let source = c.args.source.now in
+          let same = c.entries-entries.ensures.entries in
+          let e = entry_at (entries_of source.base) c.args.entry in
+          let content = content_of source.base in
+          let kind = sym (ap (λ (es : List Entry). (entry_at es c.args.entry).obj_type) same) ∙ sym c.kind_of-kind.ensures ∙ c.in-Stream.is in
+          let stream = new_stream_of mid n w.added.grows.outline w.added.is_new.reached (w.is_like.kind ∙ sym c.kind_of-kind.ensures ∙ c.in-Stream.is) in
+          let new_in = subst (λ (es : List Entry). IsNewIn old mid c.args.parent n (entry_at es c.args.entry).name) same w.added.is_new in
+          let tree = subst (λ (es : List Entry). (first : List ℕ) (names : List (List ℕ)) → LeadToEntry old (parent_names (first ∷ names)) c.args.parent → last_name (first ∷ names) ≡ (entry_at es c.args.entry).name
+          → BecomesTree (cases_of old.base) (bytes_of old.base) (bytes_of mid.base) (like_added (cases_of old.base) (entry_at es c.args.entry) (first ∷ names))) same (w.tree tells target) in
+          let joins = joined_as (cases_of old.base) (bytes_of old.base) (bytes_of mid.base) content e part is
+          (tree is.first is.rest (above_as old c.args.parent content e part is to) (named_as content e part is)) in
+          let kept = c.in_ok-len-in-Stream.ensures.kept told holds whole kind in
+          let can = filled_for g.W.ReadMedium.tells tells old mid n content e part is kind target w.added.grows w.added.used (w.added.grows.setting.is_sound ∙ c.requires.can_change.sound) stream
+          (new_leads old mid c.args.parent n content e part is new_in to) joins room c.in_ok-len-in-Stream.len kept in
+          rw (p.1, p.2) (c.in_err-copy_bytes-in-Stream.ensures.error.enough told tells holds (w.added.grows.holds tells target) kept can)
+          );
+    }
 
-pub returns-in_err-copy_bytes-in-Stream-clause-enough : goal.returns-in_err-copy_bytes-in-Stream-clause-enough
-returns-in_err-copy_bytes-in-Stream-clause-enough g c told tells holds target whole part is to room =
-    let p = err_from_is_err_and c.from_residual-in_err-copy_bytes-in-Stream.result c.from_residual-in_err-copy_bytes-in-Stream.ensures.1 in
-    let w = c.in_ok-number.ensures in
-    let n = c.in_ok-number.number in
-    let old = c.args.target.now in
-    let mid = c.insert_like.new.target in
-    let source = c.args.source.now in
-    let same = c.entries-entries.ensures.entries in
-    let e = entry_at (entries_of source.base) c.args.entry in
-    let content = content_of source.base in
-    let kind = sym (ap (λ (es : List Entry). (entry_at es c.args.entry).obj_type) same) ∙ sym c.kind_of-kind.ensures ∙ c.in-Stream.is in
-    let stream = new_stream_of mid n w.grows.outline w.is_new.reached (w.is_like.kind ∙ sym c.kind_of-kind.ensures ∙ c.in-Stream.is) in
-    let new_in = subst (λ (es : List Entry). IsNewIn old mid c.args.parent n (entry_at es c.args.entry).name) same w.is_new in
-    let tree = subst (λ (es : List Entry). (first : List ℕ) (names : List (List ℕ)) → LeadToEntry old (parent_names (first ∷ names)) c.args.parent → last_name (first ∷ names) ≡ (entry_at es c.args.entry).name
-    → BecomesTree (cases_of old.base) (bytes_of old.base) (bytes_of mid.base) (like_added (cases_of old.base) (entry_at es c.args.entry) (first ∷ names))) same (w.tree tells target) in
-    let joins = joined_as (cases_of old.base) (bytes_of old.base) (bytes_of mid.base) content e part is
-    (tree is.first is.rest (above_as old c.args.parent content e part is to) (named_as content e part is)) in
-    let kept = c.in_ok-len-in-Stream.ensures.kept told holds whole kind in
-    let can = filled_for g.W.ReadMedium.tells tells old mid n content e part is kind target w.grows w.used (w.grows.setting.is_sound ∙ c.requires.sound) stream
-    (new_leads old mid c.args.parent n content e part is new_in to) joins room c.in_ok-len-in-Stream.len kept in
-    rw (p.1, p.2) (c.in_err-copy_bytes-in-Stream.ensures.enough told tells holds (w.grows.holds tells target) kept can)
-
-pub returns-in_ok-copy_bytes-in-Stream-clause-used : goal.returns-in_ok-copy_bytes-in-Stream-clause-used
-returns-in_ok-copy_bytes-in-Stream-clause-used g c =
-    moved_used c.insert_like.new.target.base c.copy_bytes.new.target.base c.in_ok-number.number c.in_ok-copy_bytes-in-Stream.ensures.fills.moves ∙ c.in_ok-number.ensures.used
-
-pub returns-in_ok-copy_bytes-in-Stream-clause-grows : goal.returns-in_ok-copy_bytes-in-Stream-clause-grows
-returns-in_ok-copy_bytes-in-Stream-clause-grows g c =
-    let w = c.in_ok-number.ensures in
-    let n = c.in_ok-number.number in
-    let mid = c.insert_like.new.target in
-    let stream = new_stream_of mid n w.grows.outline w.is_new.reached (w.is_like.kind ∙ sym c.kind_of-kind.ensures ∙ c.in-Stream.is) in
-    grows_then g.W.ReadMedium.tells c.args.target.now mid c.copy_bytes.new.target w.grows (fills_grow g.W.ReadMedium.tells n mid c.copy_bytes.new.target stream c.in_ok-copy_bytes-in-Stream.ensures.fills)
-
-pub returns-in_ok-copy_bytes-in-Stream-clause-is_new : goal.returns-in_ok-copy_bytes-in-Stream-clause-is_new
-returns-in_ok-copy_bytes-in-Stream-clause-is_new g c =
+pub returns-in_ok-copy_bytes-in-Stream-clause-added : goal.returns-in_ok-copy_bytes-in-Stream-clause-added
+returns-in_ok-copy_bytes-in-Stream-clause-added g c =
     let w = c.in_ok-number.ensures in
     let n = c.in_ok-number.number in
     let mid = c.insert_like.new.target in
-    let new = c.copy_bytes.new.target in
-    let stream = new_stream_of mid n w.grows.outline w.is_new.reached (w.is_like.kind ∙ sym c.kind_of-kind.ensures ∙ c.in-Stream.is) in
-    let more = fills_grow g.W.ReadMedium.tells n mid new stream c.in_ok-copy_bytes-in-Stream.ensures.fills in
-    subst (λ (es : List Entry). IsNewIn c.args.target.now new c.args.parent n (entry_at es c.args.entry).name) c.entries-entries.ensures.entries (record {
-      reached = reached_still mid new n w.grows.outline more.stays w.is_new.reached;
-      found = λ first names to last. leads_still mid new (first ∷ names) n w.grows.outline more.stays (w.is_new.found first names to last);
-    })
+    let stream = new_stream_of mid n w.added.grows.outline w.added.is_new.reached (w.is_like.kind ∙ sym c.kind_of-kind.ensures ∙ c.in-Stream.is) in
+    record {
+      grows = grows_then g.W.ReadMedium.tells c.args.target.now mid c.copy_bytes.new.target w.added.grows (fills_grow g.W.ReadMedium.tells n mid c.copy_bytes.new.target stream c.in_ok-copy_bytes-in-Stream.ensures.fills);
+      is_new = (
+          let new = c.copy_bytes.new.target in
+          let more = fills_grow g.W.ReadMedium.tells n mid new stream c.in_ok-copy_bytes-in-Stream.ensures.fills in
+          subst (λ (es : List Entry). IsNewIn c.args.target.now new c.args.parent n (entry_at es c.args.entry).name) c.entries-entries.ensures.entries (record {
+            reached = reached_still mid new n w.added.grows.outline more.stays w.added.is_new.reached;
+            found = λ first names to last. leads_still mid new (first ∷ names) n w.added.grows.outline more.stays (w.added.is_new.found first names to last);
+          })
+          );
+      used = moved_used c.insert_like.new.target.base c.copy_bytes.new.target.base c.in_ok-number.number c.in_ok-copy_bytes-in-Stream.ensures.fills.moves ∙ c.in_ok-number.ensures.added.used;
+    }
 
 pub returns-in_ok-copy_bytes-in-Stream-clause-tree : goal.returns-in_ok-copy_bytes-in-Stream-clause-tree
 returns-in_ok-copy_bytes-in-Stream-clause-tree g c told tells holds target whole part is to =
@@ -111,12 +111,12 @@ returns-in_ok-copy_bytes-in-Stream-clause-tree g c told tells holds target whole
     let e = entry_at (entries_of source.base) c.args.entry in
     let content = content_of source.base in
     let kind = sym (ap (λ (es : List Entry). (entry_at es c.args.entry).obj_type) same) ∙ sym c.kind_of-kind.ensures ∙ c.in-Stream.is in
-    let stream = new_stream_of mid n w.grows.outline w.is_new.reached (w.is_like.kind ∙ sym c.kind_of-kind.ensures ∙ c.in-Stream.is) in
-    let held = w.grows.holds tells target in
-    let new_in = subst (λ (es : List Entry). IsNewIn old mid c.args.parent n (entry_at es c.args.entry).name) same w.is_new in
+    let stream = new_stream_of mid n w.added.grows.outline w.added.is_new.reached (w.is_like.kind ∙ sym c.kind_of-kind.ensures ∙ c.in-Stream.is) in
+    let held = w.added.grows.holds tells target in
+    let new_in = subst (λ (es : List Entry). IsNewIn old mid c.args.parent n (entry_at es c.args.entry).name) same w.added.is_new in
     let tree = subst (λ (es : List Entry). (first : List ℕ) (names : List (List ℕ)) → LeadToEntry old (parent_names (first ∷ names)) c.args.parent → last_name (first ∷ names) ≡ (entry_at es c.args.entry).name
     → BecomesTree (cases_of old.base) (bytes_of old.base) (bytes_of mid.base) (like_added (cases_of old.base) (entry_at es c.args.entry) (first ∷ names))) same (w.tree tells target) in
-    stream_tree g.W.ReadMedium.tells tells old mid new n content e part is kind w.grows.setting.limits.cases held (w.grows.setting.is_sound ∙ c.requires.sound) stream b.fills
+    stream_tree g.W.ReadMedium.tells tells old mid new n content e part is kind w.added.grows.setting.limits.cases held (w.added.grows.setting.is_sound ∙ c.requires.can_change.sound) stream b.fills
     (b.content told tells holds held (c.in_ok-len-in-Stream.ensures.kept told holds whole kind)) (new_leads old mid c.args.parent n content e part is new_in to)
     (joined_as (cases_of old.base) (bytes_of old.base) (bytes_of mid.base) content e part is
     (tree is.first is.rest (above_as old c.args.parent content e part is to) (named_as content e part is)))
@@ -133,17 +133,25 @@ returns-in_default g c =
     let content = content_of source.base in
     let other : e.obj_type ≢ Stream = λ s. c.in_default.not-Stream (c.kind_of-kind.ensures ∙ ap (λ (es : List Entry). (entry_at es c.args.entry).obj_type) same ∙ s) in
     record {
-      reads = read_none g.F.ReadMedium.tells source;
-      grows = w.grows;
-      is_new = subst (λ (es : List Entry). IsNewIn old mid c.args.parent n (entry_at es c.args.entry).name) same w.is_new;
+      reads = record { reads = read_none g.F.ReadMedium.tells source; counts = λ told. refl };
+      added = record { grows = w.added.grows; is_new = subst (λ (es : List Entry). IsNewIn old mid c.args.parent n (entry_at es c.args.entry).name) same w.added.is_new; used = w.added.used };
       tree = λ told tells holds target whole part is to.
           let tree = subst (λ (es : List Entry). (first : List ℕ) (names : List (List ℕ)) → LeadToEntry old (parent_names (first ∷ names)) c.args.parent → last_name (first ∷ names) ≡ (entry_at es c.args.entry).name
           → BecomesTree (cases_of old.base) (bytes_of old.base) (bytes_of mid.base) (like_added (cases_of old.base) (entry_at es c.args.entry) (first ∷ names))) same (w.tree tells target) in
-          storage_tree (cases_of old.base) (bytes_of old.base) (bytes_of mid.base) content e part is (other_is_storage e c.requires.copyable.like.object other)
+          storage_tree (cases_of old.base) (bytes_of old.base) (bytes_of mid.base) content e part is (other_is_storage e c.requires.can_copy.copyable.like.object other)
           (joined_as (cases_of old.base) (bytes_of old.base) (bytes_of mid.base) content e part is
           (tree is.first is.rest (above_as old c.args.parent content e part is to) (named_as content e part is)));
-      used = w.used;
-      err = λ told tells holds target whole takes. tt;
-      enough = λ told tells holds target whole part is to room. tt;
-      counts = λ told. refl;
+      error = record { err = λ told tells holds target whole takes. tt; enough = λ told tells holds target whole part is to room. tt };
     }
+
+pub copy_bytes-requires-clause-can_change : goal.copy_bytes-requires-clause-can_change
+copy_bytes-requires-clause-can_change g c = record {
+  sound = first_of (search rules, grind (arith, common_steps));
+  unfailed = first_of (search rules, grind (arith, common_steps));
+}
+
+pub copy_bytes-requires-clause-source : goal.copy_bytes-requires-clause-source
+copy_bytes-requires-clause-source g c = record {
+  from = first_of (search rules, grind (arith, common_steps));
+  within = first_of (search rules, grind (arith, common_steps));
+}

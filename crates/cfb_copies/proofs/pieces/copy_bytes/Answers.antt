@@ -1,4 +1,5 @@
-use Rattle.std.proofs.Common.{◌≡◌, ◌+◌, ◌<◌, ◌≤◌, ◌++◌, ◌⊎◌, inl, inr, ℕ, List, refl, sym, ◌∙◌, ap, subst, length, take, drop, arith, length-append, length-take, length-drop}
+use Rattle.std.proofs.lemmas.Grind.{common_steps}
+use Rattle.std.proofs.Common.{◌≡◌, ◌+◌, ◌<◌, ◌≤◌, ◌++◌, ◌⊎◌, inl, inr, ℕ, List, refl, sym, ◌∙◌, ap, subst, length, take, drop, arith, length-append, length-take, length-drop, rules}
 use Rattle.std.proofs.lemmas.List.{take_all, take-append-le}
 use Rattle.std.proofs.lemmas.Result.{err_from_is_err_and}
 use Rattle.cfb_format.specs.Content.{mini_stream_cutoff}
@@ -21,84 +22,85 @@ loop-at-init g c = record {
   settled = inl refl;
   reads = read_none g.F.ReadMedium.tells c.args.source.now;
   calm = λ told. refl;
-  fills = fills_none g.W.ReadMedium.tells c.args.to c.args.target.now c.requires.unfailed c.requires.stream;
-  end = c.requires.empty;
+  fills = fills_none g.W.ReadMedium.tells c.args.to c.args.target.now c.requires.can_change.unfailed c.requires.empty_stream.stream;
+  end = c.requires.empty_stream.empty;
   room = refl;
-  content = λ told tells source target whole. nothing_yet c.args.target.now c.args.to c.requires.empty;
+  content = λ told tells source target whole. nothing_yet c.args.target.now c.args.to c.requires.empty_stream.empty;
 }
 
 pub read_piece-requires-clause-from : goal.read_piece-requires-clause-from
-read_piece-requires-clause-from g c = subst (λ (n : ℕ). c.args.from < n) (sym (ap (λ (es : List Entry). length es) c.loop-at.invariant.reads.entries)) c.requires.from
+read_piece-requires-clause-from g c = subst (λ (n : ℕ). c.args.from < n) (sym (ap (λ (es : List Entry). length es) c.loop-at.invariant.reads.entries)) c.requires.source.from
 
 pub read_piece-requires-clause-inside : goal.read_piece-requires-clause-inside
 read_piece-requires-clause-inside g c =
     let i = c.loop-at.invariant in
     let lens : len_of c.loop-at.source.base c.args.from ≡ len_of c.args.source.now.base c.args.from = ap (λ (es : List Entry). (entry_at es c.args.from).stream_len) i.reads.entries in
-    omega (arith, lens, c.requires.within, i.within, c.min-count.ensures, length-take c.min-count.result c.loop-at.piece)
+    omega (arith, lens, c.requires.source.within, i.within, c.min-count.ensures, length-take c.min-count.result c.loop-at.piece)
 
-pub append-requires-clause-sound : goal.append-requires-clause-sound
-append-requires-clause-sound g c = c.loop-at.invariant.fills.setting.is_sound ∙ c.requires.sound
+pub append-requires-clause-can_change : goal.append-requires-clause-can_change
+append-requires-clause-can_change g c = record {
+  sound = c.loop-at.invariant.fills.setting.is_sound ∙ c.requires.can_change.sound;
+  unfailed = c.loop-at.invariant.fills.unfailed;
+}
 
-pub append-requires-clause-unfailed : goal.append-requires-clause-unfailed
-append-requires-clause-unfailed g c = c.loop-at.invariant.fills.unfailed
+pub append-requires-clause-can_append : goal.append-requires-clause-can_append
+append-requires-clause-can_append g c = record {
+  stream = c.loop-at.invariant.fills.stream;
+  fits = first_of (search rules, grind (arith, common_steps));
+}
 
-pub append-requires-clause-stream : goal.append-requires-clause-stream
-append-requires-clause-stream g c = c.loop-at.invariant.fills.stream
-
-pub returns-in_err-read_piece-clause-err : goal.returns-in_err-read_piece-clause-err
-returns-in_err-read_piece-clause-err g c told tells holds target whole =
+pub returns-in_err-read_piece-clause-error : goal.returns-in_err-read_piece-clause-error
+returns-in_err-read_piece-clause-error g c =
     let p = err_from_is_err_and c.from_residual.result c.from_residual.ensures.1 in
     let start = c.args.source.now in
     let mid = c.loop-at.source in
     let i = c.loop-at.invariant in
-    let same : length (content_at mid c.args.from) ≡ length (content_at start c.args.from) = ap (λ (xs : List ℕ). length xs) (read_content g.F.ReadMedium.tells start mid i.reads told c.args.from) in
-    rw (p.1, p.2) (break_at_all _ c.in_err-read_piece.field-0.0 (c.in_err-read_piece.ensures.err told (read_holds g.F.ReadMedium.tells start mid i.reads told holds)
-    (omega (arith, same, whole, i.within, c.min-count.ensures, length-take c.min-count.result c.loop-at.piece))))
+    record {
+      err = λ told tells holds target whole. (
+          let same : length (content_at mid c.args.from) ≡ length (content_at start c.args.from) = ap (λ (xs : List ℕ). length xs) (read_content g.F.ReadMedium.tells start mid i.reads told c.args.from) in
+          rw (p.1, p.2) (break_at_all _ c.in_err-read_piece.field-0.0 (c.in_err-read_piece.ensures.err told (read_holds g.F.ReadMedium.tells start mid i.reads told holds)
+          (omega (arith, same, whole, i.within, c.min-count.ensures, length-take c.min-count.result c.loop-at.piece))))
+          );
+      enough = λ told tells holds target whole can. (
+          let same : length (content_at mid c.args.from) ≡ length (content_at start c.args.from) = ap (λ (xs : List ℕ). length xs) (read_content g.F.ReadMedium.tells start mid i.reads told c.args.from) in
+          rw (p.1, p.2) (no_full_break c.in_err-read_piece.field-0.0 (c.in_err-read_piece.ensures.err told (read_holds g.F.ReadMedium.tells start mid i.reads told holds)
+          (omega (arith, same, whole, i.within, c.min-count.ensures, length-take c.min-count.result c.loop-at.piece))))
+          );
+    }
 
-pub returns-in_err-read_piece-clause-enough : goal.returns-in_err-read_piece-clause-enough
-returns-in_err-read_piece-clause-enough g c told tells holds target whole can =
-    let p = err_from_is_err_and c.from_residual.result c.from_residual.ensures.1 in
-    let start = c.args.source.now in
-    let mid = c.loop-at.source in
-    let i = c.loop-at.invariant in
-    let same : length (content_at mid c.args.from) ≡ length (content_at start c.args.from) = ap (λ (xs : List ℕ). length xs) (read_content g.F.ReadMedium.tells start mid i.reads told c.args.from) in
-    rw (p.1, p.2) (no_full_break c.in_err-read_piece.field-0.0 (c.in_err-read_piece.ensures.err told (read_holds g.F.ReadMedium.tells start mid i.reads told holds)
-    (omega (arith, same, whole, i.within, c.min-count.ensures, length-take c.min-count.result c.loop-at.piece))))
-
-pub returns-in_err-append-clause-err : goal.returns-in_err-append-clause-err
-returns-in_err-append-clause-err g c told tells holds target whole =
+pub returns-in_err-append-clause-error : goal.returns-in_err-append-clause-error
+returns-in_err-append-clause-error g c =
     let p = err_from_is_err_and c.from_residual-in_err-append.result c.from_residual-in_err-append.ensures.1 in
-    rw (p.1, p.2) (break_at_all _ c.in_err-append.field-0.0 (c.in_err-append.ensures.err tells (c.loop-at.invariant.fills.holds tells target)))
-
--- there are numbers for the next piece
-pub returns-in_err-append-clause-enough : goal.returns-in_err-append-clause-enough
-returns-in_err-append-clause-enough g c told tells holds target whole can =
-    let p = err_from_is_err_and c.from_residual-in_err-append.result c.from_residual-in_err-append.ensures.1 in
-    let i = c.loop-at.invariant in
-    let to = c.args.to in
-    let old = c.loop-at.target in
-    let n = c.min-count.result in
-    let at = c.loop-at.at in
-    let into = c.read_piece.new.into in
-    let least = c.min-count.ensures in
-    let more = c.loop-at-test.true in
-    let upto : at + n ≤ c.args.len = omega (arith, least, i.within) in
-    let long : length into ≡ n = omega (arith, c.read_piece.auto.into, length-take n c.loop-at.piece, least) in
-    let put : take n (into ++ drop n c.loop-at.piece) ≡ take n into = take-append-le n into (drop n c.loop-at.piece) (omega (arith, long)) in
-    let count : length (take n (into ++ drop n c.loop-at.piece)) ≡ n = ap (λ (xs : List ℕ). length xs) put ∙ omega (arith, long, length-take n into) in
-    let some : 0 < n = omega (arith, least, more, c.requires.room, c.loop-at.auto.piece) in
-    let size = len_of old.base to + length (take n (into ++ drop n c.loop-at.piece)) in
-    let is : size ≡ at + n = λ j. i.end j + count j in
-    let settled : (mini_stream_cutoff ≤ size) ⊎ (size ≡ c.args.len) =
-    elim (settles c.args.len at n (length c.loop-at.piece) least (omega (arith, c.requires.room, c.loop-at.auto.piece)) i.within) [
-      | inl none ↦ absurd (omega (arith, none, some))
-      | inr (inl large) ↦ inl (omega (arith, large, is))
-      | inr (inr all) ↦ inr (is ∙ all)
-    ] in
-    let end = i.end in
-    rw (p.1, p.2) (λ full. can old size i.fills (omega (arith, end, is, some)) (omega (arith, is, upto)) settled
-    (leaves_none old to c.args.len at (length (take n (into ++ drop n c.loop-at.piece))) i.end i.settled more)
-    (c.in_err-append.ensures.foreseen tells (i.fills.holds tells target) full))
+    record {
+      err = λ told tells holds target whole. rw (p.1, p.2) (break_at_all _ c.in_err-append.field-0.0 (c.in_err-append.ensures.error.err tells (c.loop-at.invariant.fills.holds tells target)));
+      enough = λ told tells holds target whole can. (
+          let i = c.loop-at.invariant in
+          let to = c.args.to in
+          let old = c.loop-at.target in
+          let n = c.min-count.result in
+          let at = c.loop-at.at in
+          let into = c.read_piece.new.into in
+          let least = c.min-count.ensures in
+          let more = c.loop-at-test.true in
+          let upto : at + n ≤ c.args.len = omega (arith, least, i.within) in
+          let long : length into ≡ n = omega (arith, c.read_piece.auto.into, length-take n c.loop-at.piece, least) in
+          let put : take n (into ++ drop n c.loop-at.piece) ≡ take n into = take-append-le n into (drop n c.loop-at.piece) (omega (arith, long)) in
+          let count : length (take n (into ++ drop n c.loop-at.piece)) ≡ n = ap (λ (xs : List ℕ). length xs) put ∙ omega (arith, long, length-take n into) in
+          let some : 0 < n = omega (arith, least, more, c.requires.room, c.loop-at.auto.piece) in
+          let size = len_of old.base to + length (take n (into ++ drop n c.loop-at.piece)) in
+          let is : size ≡ at + n = λ j. i.end j + count j in
+          let settled : (mini_stream_cutoff ≤ size) ⊎ (size ≡ c.args.len) =
+          elim (settles c.args.len at n (length c.loop-at.piece) least (omega (arith, c.requires.room, c.loop-at.auto.piece)) i.within) [
+            | inl none ↦ absurd (omega (arith, none, some))
+            | inr (inl large) ↦ inl (omega (arith, large, is))
+            | inr (inr all) ↦ inr (is ∙ all)
+          ] in
+          let end = i.end in
+          rw (p.1, p.2) (λ full. can old size i.fills (omega (arith, end, is, some)) (omega (arith, is, upto)) settled
+          (leaves_none old to c.args.len at (length (take n (into ++ drop n c.loop-at.piece))) i.end i.settled more)
+          (c.in_err-append.ensures.error.full_only tells (i.fills.holds tells target) full))
+          );
+    }
 
 pub loop-at-preserved : goal.loop-at-preserved
 loop-at-preserved g c =
@@ -127,16 +129,16 @@ loop-at-preserved g c =
       reads = read_then g.F.ReadMedium.tells start mid c.read_piece.new.source i.reads r.reads;
       calm = λ told. r.counts told ∙ i.calm told;
       fills = fills_then g.W.ReadMedium.tells to c.args.target.now old new i.fills
-          (fills_written g.W.ReadMedium.tells to old new a.setting a.ended a.stream a.entries
-          (λ told holds. moved_tight old.base new.base to a.entries a.setting.limits.version
-          (λ none. a.minis_full told holds (leaves_none old to c.args.len at (length (take n (into ++ drop n c.loop-at.piece))) i.end i.settled more) none)) (λ told holds. a.agrees told holds) (λ told holds. a.changes told holds)
-          (λ told holds none. a.stays_full told holds (leaves_none old to c.args.len at (length (take n (into ++ drop n c.loop-at.piece))) i.end i.settled more) none) (λ told. a.counts told));
-      end = a.len ∙ (λ j. i.end j + count j);
+          (fills_written g.W.ReadMedium.tells to old new a.ends.setting a.ends.ended a.only.stream a.only.entries
+          (λ told holds. moved_tight old.base new.base to a.only.entries a.ends.setting.limits.version
+          (λ none. a.minis_full told holds (leaves_none old to c.args.len at (length (take n (into ++ drop n c.loop-at.piece))) i.end i.settled more) none)) (λ told holds. a.ends.agrees told holds) (λ told holds. a.only.changes told holds)
+          (λ told holds none. a.takes.stays_full told holds (leaves_none old to c.args.len at (length (take n (into ++ drop n c.loop-at.piece))) i.end i.settled more) none) (λ told. a.ends.counts told));
+      end = a.appended.len ∙ (λ j. i.end j + count j);
       room = omega (arith, length-append into (drop n c.loop-at.piece), length-drop n c.loop-at.piece, long, least, c.loop-at.auto.piece);
       content = λ told tells holds target whole.
           let same = read_content g.F.ReadMedium.tells start mid i.reads told c.args.from in
           next_joins (content_at start c.args.from) (content_at old to) (content_at new to) into at n (omega (arith, whole, i.within)) (i.content told tells holds target whole)
-          (a.content tells (i.fills.holds tells target) ∙ (λ j. written (content_at old to) (i.end j) (put j)))
+          (a.appended.content tells (i.fills.holds tells target) ∙ (λ j. written (content_at old to) (i.end j) (put j)))
           (take_all n into (omega (arith, long)) ∙ r.ok told (read_holds g.F.ReadMedium.tells start mid i.reads told holds) ∙ (λ j. part (same j) at (read j)));
     }
 

@@ -29,7 +29,7 @@ returns-in_err-count-clause-err g c told holds enough =
     let same : length (content_at mid c.args.from) ≡ length (content_at start c.args.from) = ap (λ (xs : List ℕ). length xs) (read_content g.F.ReadMedium.tells start mid i.reads told c.args.from) in
     let more = c.loop-done-test.true in
     rw (p.1, p.2) (read_breaks _ (λ past. absurd (omega (arith, past.0, same, enough, c.loop-done.auto.into, more))) c.in_err-count.field-0.0
-    (c.in_err-count.ensures.err told (read_holds g.F.ReadMedium.tells start mid i.reads told holds)))
+    (c.in_err-count.ensures.error.err told (read_holds g.F.ReadMedium.tells start mid i.reads told holds)))
 
 pub loop-done-preserved : goal.loop-done-preserved
 loop-done-preserved g c =
@@ -43,19 +43,19 @@ loop-done-preserved g c =
     let done = c.loop-done.done in
     let at = c.args.at in
     let into = c.loop-done.into in
-    let most = r.count in
+    let most = r.read.count in
     let same-len = c.loop-done.auto.into in
     let part-len = length-take (length into - done) (drop done into) in
     let rest-len = length-drop done into in
     let within : done ≤ length into = omega (arith, i.within, same-len) in
     record {
       within = omega (arith, most, same-len, part-len, rest-len, within);
-      reads = read_then tells start mid new i.reads (record { setting = r.setting; flag = r.flag; entries = r.entries; same = r.same });
-      calm = λ told. r.counts told ∙ i.calm told;
+      reads = read_then tells start mid new i.reads (record { setting = r.stays.setting; flag = r.stays.flag; entries = r.stays.entries; same = r.stays.same });
+      calm = λ told. r.error.counts told ∙ i.calm told;
       served = λ told holds.
           let same = read_content tells start mid i.reads told c.args.from in
           served_more (content_at start c.args.from) into c.read.new.into at done n within (omega (arith, most, c.read.auto.into)) (i.served told holds)
-          (r.ok told (read_holds tells start mid i.reads told holds) ∙ ap (λ (xs : List ℕ). part xs (at + done) n) same);
+          (r.read.ok told (read_holds tells start mid i.reads told holds) ∙ ap (λ (xs : List ℕ). part xs (at + done) n) same);
     }
 
 pub returns-clause-ok : goal.returns-clause-ok

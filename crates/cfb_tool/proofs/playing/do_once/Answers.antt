@@ -13,7 +13,7 @@ returns-in-Some-first_error-clause-plays g c =
     let olds = c.clear.new.self.items in
     let news = c.run.new.replies.items in
     let none : length olds ≡ 0 = ap (λ rs. length rs) c.clear.ensures.items in
-    let each : length news ≡ 1 = omega (arith, none, c.run.ensures.one_each, c.requires.one) in
+    let each : length news ≡ 1 = omega (arith, none, c.run.ensures.replies.one_each, c.requires.one) in
     let reply = c.in-Some.reply.now in
     let first = get_or_from_slice_get news 0 reply reply (sym (c.in-Some.ensures.value ∙ ap (λ rs. slice_get rs 0) c.deref.ensures.value)) in
     λ told asked one. (
@@ -28,7 +28,7 @@ returns-in-None-clause-plays g c =
     let olds = c.clear.new.self.items in
     let news = c.run.new.replies.items in
     let none : length olds ≡ 0 = ap (λ rs. length rs) c.clear.ensures.items in
-    let each : length news ≡ 1 = omega (arith, none, c.run.ensures.one_each, c.requires.one) in
+    let each : length news ≡ 1 = omega (arith, none, c.run.ensures.replies.one_each, c.requires.one) in
     let reply = c.in-Some.reply.now in
     let first = get_or_from_slice_get news 0 reply reply (sym (c.in-Some.ensures.value ∙ ap (λ rs. slice_get rs 0) c.deref.ensures.value)) in
     λ told asked one. (

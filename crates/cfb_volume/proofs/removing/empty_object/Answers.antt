@@ -1,4 +1,5 @@
-use Rattle.std.proofs.Common.{inl, inr, refl, sym, ◌∙◌, ap, arith}
+use Rattle.std.proofs.lemmas.Grind.{common_steps}
+use Rattle.std.proofs.Common.{◌≡◌, true, false, inl, inr, refl, sym, ◌∙◌, ap, arith, rules}
 use Rattle.std.specs.Prelude.{IsTrue}
 use Rattle.std.proofs.lemmas.Bool.{cases_lt}
 use Rattle.std.proofs.lemmas.Result.{err_from_is_err_and}
@@ -35,64 +36,73 @@ stream g c =
 pub resize_content-requires-clause-stream : goal.resize_content-requires-clause-stream
 resize_content-requires-clause-stream g c = stream g (goal.at.resize_content-requires-clause-stream g c).In-Stream
 
-pub returns-in_err-resize_content-in-Stream-clause-err : goal.returns-in_err-resize_content-in-Stream-clause-err
-returns-in_err-resize_content-in-Stream-clause-err g c told v change =
-    let s = c.args.mini.now in
-    let i = c.args.entry in
+pub returns-in_err-resize_content-in-Stream-clause-error : goal.returns-in_err-resize_content-in-Stream-clause-error
+returns-in_err-resize_content-in-Stream-clause-error g c =
     let p = err_from_is_err_and c.from_residual.result c.from_residual.ensures.1 in
-    rw (p.1, p.2) (empty-break (IsTrue g.F.ReadMedium.tells → IsNotChangeable s) ((validation : Validation) → HoldsMini validation s → IsTooLongFor s i 0)
-    (λ none. none told v change) (λ long. emptying-fits s i change.held c.minifat_len.ensures.short (long v change.held))
-    c.in_err-resize_content-in-Stream.field-0.0 c.in_err-resize_content-in-Stream.ensures.err)
+    record {
+      first = λ told. rw (p.1, p.2) (c.in_err-resize_content-in-Stream.ensures.first told refl);
+      still = first_of (search rules, grind (arith, common_steps));
+      err = λ told v change. (
+          let s = c.args.mini.now in
+          let i = c.args.entry in
+          rw (p.1, p.2) (empty-break (IsTrue g.F.ReadMedium.tells → IsNotChangeable s) ((validation : Validation) → HoldsMini validation s → IsTooLongFor s i 0)
+          (λ none. none told v change) (λ long. emptying-fits s i change.held c.minifat_len.ensures.short (long v change.held))
+          c.in_err-resize_content-in-Stream.field-0.0 c.in_err-resize_content-in-Stream.ensures.err)
+          );
+    }
 
-pub returns-in_err-resize_content-in-Stream-clause-first : goal.returns-in_err-resize_content-in-Stream-clause-first
-returns-in_err-resize_content-in-Stream-clause-first g c told =
+pub returns-in_err-resize_content-in-Stream-clause-gives : goal.returns-in_err-resize_content-in-Stream-clause-gives
+returns-in_err-resize_content-in-Stream-clause-gives g c =
     let p = err_from_is_err_and c.from_residual.result c.from_residual.ensures.1 in
-    rw (p.1, p.2) (c.in_err-resize_content-in-Stream.ensures.first told refl)
+    record {
+      emptied = λ told. rw p.1 tt;
+      none = λ ne. absurd (ne (sym (ap (λ (x : Entry). x.obj_type) c.dir_entry.ensures) ∙ c.in-Stream.is));
+      quiet = rw p.1 tt;
+      gave_back = rw p.1 tt;
+    }
 
-pub returns-in_ok-resize_content-in-Stream-clause-gave_back : goal.returns-in_ok-resize_content-in-Stream-clause-gave_back
-returns-in_ok-resize_content-in-Stream-clause-gave_back g c =
-    let ok = c.in_ok-resize_content-in-Stream.ensures in
-    let s = c.args.mini.now in
-    elim (cases_lt 0 (len_of s c.args.entry)) [
-      | inl some ↦ inr (some, ok.len)
-      | inr none ↦ inl (ok.none (omega (arith, none))).1
-    ]
-
-pub returns-in_ok-resize_content-in-Stream-clause-emptied : goal.returns-in_ok-resize_content-in-Stream-clause-emptied
-returns-in_ok-resize_content-in-Stream-clause-emptied g c told =
-    let e = c.resize_content.ensures in
+pub returns-in_ok-resize_content-in-Stream-clause-gives : goal.returns-in_ok-resize_content-in-Stream-clause-gives
+returns-in_ok-resize_content-in-Stream-clause-gives g c =
     let ok = c.in_ok-resize_content-in-Stream.ensures in
     record {
-      limits = e.moves.limits;
-      entries = e.moves.entries;
-      others = (e.spares told).others;
-      holds = (ok.changed told).holds;
-      parts = λ v change.
+      emptied = λ told. (
+          let e = c.resize_content.ensures in
+          record {
+            limits = e.moves.limits;
+            entries = e.moves.entries;
+            others = (e.spares told).others;
+            holds = (ok.changed told).holds;
+            parts = λ v change.
+                let s = c.args.mini.now in
+                let new = c.resize_content.new.mini in
+                let i = c.args.entry in
+                let at = stream g (goal.at.returns-in_ok-resize_content-in-Stream-clause-gives g c).In-Stream in
+                let made = ok.changed told in
+                content-keeps-parts i s new e.moves at (made.holds Strict) (made.tidy v change) (made.owned v change) ok.tight.exact
+                (sized-is-snug s new i e.moves.limits e.moves.entries ((e.spares told).others v change) at (made.sized v change)) (made.snug_mini v change) (made.gives_back v change)
+                (sized-at-end s new i 0 ok.len (λ same. ap entries_of (ok.none same).1) ok.trimmed);
+            empty = λ stream. ok.len;
+            erased = λ v change stream. emptied-zeros c.args.mini.now c.resize_content.new.mini c.args.entry ok.len ((ok.content told).erased v change);
+          }
+          );
+      none = first_of (search rules, grind (arith, common_steps));
+      quiet = λ down. (
           let s = c.args.mini.now in
-          let new = c.resize_content.new.mini in
-          let i = c.args.entry in
-          let at = stream g (goal.at.returns-in_ok-resize_content-in-Stream-clause-emptied g c).In-Stream in
-          let made = ok.changed told in
-          content-keeps-parts i s new e.moves at (made.holds Strict) (made.tidy v change) (made.owned v change) ok.tight.exact
-          (sized-is-snug s new i e.moves.limits e.moves.entries ((e.spares told).others v change) at (made.sized v change)) (made.snug_mini v change) (made.gives_back v change)
-          (sized-at-end s new i 0 ok.len (λ same. ap entries_of (ok.none same).1) ok.trimmed);
-      empty = λ stream. ok.len;
-      erased = λ v change stream. emptied-zeros c.args.mini.now c.resize_content.new.mini c.args.entry ok.len ((ok.content told).erased v change);
+          elim (cases_lt 0 (len_of s c.args.entry)) [
+            | inl some ↦ absurd (let clash : true ≡ false = sym (ok.begun.1 (λ same. omega (arith, some, same))) ∙ down in cc)
+            | inr none ↦ (ok.none (omega (arith, none))).1
+          ]
+          );
+      gave_back = (
+          let s = c.args.mini.now in
+          elim (cases_lt 0 (len_of s c.args.entry)) [
+            | inl some ↦ inr (some, ok.len)
+            | inr none ↦ inl (ok.none (omega (arith, none))).1
+          ]
+          );
     }
 
 pub returns-in_default : goal.returns-in_default
 returns-in_default g c =
     let s = c.args.mini.now in
-    record {
-      emptied = λ told. none-emptied s c.args.entry (λ e. c.in_default.not-Stream (ap (λ (x : Entry). x.obj_type) c.dir_entry.ensures ∙ e));
-      moves = moves-same s c.args.entry;
-      spares = λ told. spares-same s c.args.entry;
-      takes_none = refl;
-      none = λ ne. refl;
-      quiet = λ down. refl;
-      gave_back = inl refl;
-      first = λ told. tt;
-      still = tt;
-      err = λ told v change. tt;
-      counts = λ told. refl;
-    }
+    record { gives = record { emptied = λ told. none-emptied s c.args.entry (λ e. c.in_default.not-Stream (ap (λ (x : Entry). x.obj_type) c.dir_entry.ensures ∙ e)); none = λ ne. refl; quiet = λ down. refl; gave_back = inl refl }; changes = record { moves = moves-same s c.args.entry; spares = λ told. spares-same s c.args.entry; takes_none = refl; counts = λ told. refl }; error = record { first = λ told. tt; still = tt; err = λ told v change. tt } }

@@ -1,4 +1,4 @@
-use Rattle.std.proofs.Common.{◌≡◌, ◌≤◌, List, IsTrue, ap, arith, length, length-take, subst, sym, take, ℕ}
+use Rattle.std.proofs.Common.{◌≡◌, List, IsTrue, ap, arith, length, length-take, subst, sym, take, ℕ}
 use Rattle.cfb_append_buffer.specs.Buffer.{buffered}
 use Rattle.cfb_format.specs.Medium.{ChangesOnlyBytes, Rises}
 use Rattle.cfb_format.proofs.ByteLemmas.{length-written}

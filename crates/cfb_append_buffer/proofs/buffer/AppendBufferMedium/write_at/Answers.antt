@@ -1,4 +1,4 @@
-use Rattle.std.proofs.Common.{◌≡◌, ◌≤◌, ◌∙◌, ◌-◌, ◌+◌, ◌<◌, List, IsTrue, ap, arith, length, refl, rules, sym, ℕ}
+use Rattle.std.proofs.Common.{◌∙◌, ◌<◌, List, ap, arith, length, refl, rules, sym, ℕ}
 use Rattle.std.proofs.lemmas.List.{take_all}
 use Rattle.cfb_append_buffer.specs.Buffer.{buffered}
 use Rattle.cfb_format.specs.Medium.{written}

@@ -1,4 +1,4 @@
-use Rattle.std.proofs.Common.{◌≡◌, ◌≤◌, ◌∙◌, ◌-◌, ◌+◌, ◌<◌, ◌++◌, List, IsTrue, ap, arith, drop, length, length-take, refl, sym, take, ℕ}
+use Rattle.std.proofs.Common.{◌≤◌, ◌∙◌, ◌-◌, ◌+◌, List, ap, arith, drop, length, length-take, refl, ℕ}
 use Rattle.std.proofs.lemmas.List.{take-append-le}
 use Rattle.cfb_format.specs.Medium.{part}
 use Rattle.cfb_append_buffer.proofs.Buffered.{length-buffered, part_below, part_behind}

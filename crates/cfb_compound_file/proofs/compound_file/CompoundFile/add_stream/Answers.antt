@@ -42,13 +42,13 @@ returns-clause-created g c =
     let entry = c.in_ok-entry.entry in
     let stands = filled.stands path place in
     let window = c.over-window.ensures.value ∙ ap (λ (b : Buffered). window_over (len_of new.base entry) b) c.in_ok-buffer.ensures.ok in
-    let agrees = c.fill_place.ensures.agrees in
+    let agrees = c.fill_place.ensures.ends.agrees in
     record {
       does = λ told. rw c.self.view_is at (subst (λ (m : ℕ). IsDoneBy c.self.inside.volume (creation c.args.what m path) done new) c.zero.ensures (c.in_ok-entry.ensures.runs told path place));
       agrees = agrees;
       was_sound = rw c.self.view_is at place.sound;
       was_unfailed = rw c.self.view_is at place.unfailed;
-      setting = rw c.self.view_is at c.fill_place.ensures.setting;
+      setting = rw c.self.view_is at c.fill_place.ensures.ends.setting;
       unfailed = filled.unfailed;
       window = window ∙ ap (λ (n : ℕ). window_over n (record { filled = []; cursor = 0; room = 1024; bound = max 1024 c.args.self.now.buffer_limit })) filled.empty;
       suits = λ told. (c.over-window.ensures.is_open told (fitting new entry filled.unfailed (agrees told filled.unfailed) filled.stream)).suits;
@@ -74,9 +74,9 @@ pub returns-in_err-entry-clause-any : goal.returns-in_err-entry-clause-any
 returns-in_err-entry-clause-any g c =
     let p = err_from_is_err_and c.from_residual-in_err-entry.result c.from_residual-in_err-entry.ensures.1 in
     let at = c.in_ok-place.ensures.ok in
-    rw (← c.self.view_is, p.1, p.2) (heeds_change c.self.inside.volume _ c.fill_place.new.volume at.unfailed at.sound c.fill_place.ensures.setting tt c.in_err-entry.ensures.in_memory)
+    rw (← c.self.view_is, p.1, p.2) (heeds_change c.self.inside.volume _ c.fill_place.new.volume at.unfailed at.sound c.fill_place.ensures.ends.setting tt c.in_err-entry.ensures.ends.in_memory)
 
 pub returns-clause-any : goal.returns-clause-any
 returns-clause-any g c =
     let at = c.in_ok-place.ensures.ok in
-    rw (← c.self.view_is) (heeds_change c.self.inside.volume _ c.fill_place.new.volume at.unfailed at.sound c.fill_place.ensures.setting c.in_ok-entry.ensures.ended tt)
+    rw (← c.self.view_is) (heeds_change c.self.inside.volume _ c.fill_place.new.volume at.unfailed at.sound c.fill_place.ensures.ends.setting c.in_ok-entry.ensures.ends.ended tt)

@@ -4,8 +4,8 @@ use Rattle.cfb_copies.proofs.Reading.{read_holds}
 use Rattle.cfb_compound_file.proofs.compound_file.CompoundFile.salvage_to.Goals as goal
 
 pub invariant_of-self : goal.invariant_of-self
-invariant_of-self g c = λ told unfailed. read_holds g.F.ReadMedium.tells c.self.inside.volume c.salvage_volume.new.source c.salvage_volume.ensures.reads told
-    (c.self.invariant told (sym c.salvage_volume.ensures.reads.flag ∙ unfailed))
+invariant_of-self g c = λ told unfailed. read_holds g.F.ReadMedium.tells c.self.inside.volume c.salvage_volume.new.source c.salvage_volume.ensures.reads.reads told
+    (c.self.invariant told (sym c.salvage_volume.ensures.reads.reads.flag ∙ unfailed))
 
 pub returns-in_err-salvaged-clause-full : goal.returns-in_err-salvaged-clause-full
 returns-in_err-salvaged-clause-full g c =
@@ -27,8 +27,8 @@ pub returns-clause-full : goal.returns-clause-full
 returns-clause-full g c = rw (← c.self.view_is) (λ told unfailed. c.in_ok-salvaged.ensures.full told (c.self.invariant told) unfailed)
 
 pub invariant_of-self-2 : goal.invariant_of-self-2
-invariant_of-self-2 g c = λ told unfailed. read_holds g.F.ReadMedium.tells c.self.inside.volume c.salvage_volume.new.source c.salvage_volume.ensures.reads told
-    (c.self.invariant told (sym c.salvage_volume.ensures.reads.flag ∙ unfailed))
+invariant_of-self-2 g c = λ told unfailed. read_holds g.F.ReadMedium.tells c.self.inside.volume c.salvage_volume.new.source c.salvage_volume.ensures.reads.reads told
+    (c.self.invariant told (sym c.salvage_volume.ensures.reads.reads.flag ∙ unfailed))
 
 pub returns-clause-made : goal.returns-clause-made
 returns-clause-made g c = λ tells. c.in_ok-salvaged.ensures.made tells

@@ -1,12 +1,16 @@
-use Rattle.std.proofs.Common.{◌≡◌, ◌∙◌, ap, arith, false, sym, true}
+use Rattle.std.proofs.lemmas.Grind.{common_steps}
+use Rattle.std.proofs.Common.{◌≡◌, ◌∙◌, ap, arith, false, sym, true, rules}
 use Rattle.cfb_format.specs.Bytes.{max_stream_len}
 use Rattle.cfb_compound_file.specs.cfb_content.Contents.{IsTooLongFor}
 use Rattle.cfb_compound_file.specs.Stored.{stored_of}
 use Rattle.cfb_compound_file.proofs.StoredStreams.{can_have, stream_there}
 use Rattle.cfb_compound_file.proofs.contents.CompoundFileContents.can_resize.Goals as goal
 
-pub can_resize-requires-clause-stream : goal.can_resize-requires-clause-stream
-can_resize-requires-clause-stream g c = stream_there _ _ c.entries-entries.ensures.in_order (rw (← c.self.view_is) at c.requires.there)
+pub can_resize-requires-clause-can_resize : goal.can_resize-requires-clause-can_resize
+can_resize-requires-clause-can_resize g c = record {
+  stream = stream_there _ _ c.entries-entries.ensures.in_order (rw (← c.self.view_is) at c.requires.there);
+  limit = first_of (search rules, grind (arith, common_steps));
+}
 
 pub returns-then-is_failed-clause-ok : goal.returns-then-is_failed-clause-ok
 returns-then-is_failed-clause-ok g c = rw (← c.self.view_is) (λ told. (λ no. cc, λ has. absurd (let w : true ≡ false = sym c.if-is_failed.true ∙ c.is_failed.ensures ∙ has.takes.unfailed in cc)))

@@ -1,4 +1,5 @@
-use Rattle.std.proofs.Common.{[], ◌+◌, take, get_or, refl, sym, ◌∙◌, subst, arith}
+use Rattle.std.proofs.lemmas.Grind.{common_steps}
+use Rattle.std.proofs.Common.{[], ◌+◌, take, get_or, refl, sym, ◌∙◌, subst, arith, rules}
 use Rattle.std.specs.Prelude.{Bool, ◌||◌}
 use Rattle.std.proofs.lemmas.List.{take_all, take_more}
 use Rattle.std.proofs.lemmas.List.Elements.{Contains-get_or}
@@ -12,7 +13,7 @@ use Rattle.cfb_volume.proofs.volume.Volume.empty_streams.Goals as goal
 
 pub loop-entry-init : goal.loop-entry-init
 loop-entry-init g c = record {
-  emptied = emptied-none g.F.ReadMedium.tells c.args.list.now [] c.args.self.now c.requires.unfailed (λ k (i, under, e). absurd (omega (arith, under)));
+  emptied = emptied-none g.F.ReadMedium.tells c.args.list.now [] c.args.self.now c.requires.can_change.unfailed (λ k (i, under, e). absurd (omega (arith, under)));
   first = λ none. refl;
 }
 
@@ -79,3 +80,9 @@ returns-clause-none g c = c.loop-entry.invariant.first
 
 pub returns-clause-others : goal.returns-clause-others
 returns-clause-others g c told holds = c.loop-entry.invariant.emptied.others told holds
+
+pub empty_stream-emptied-requires-clause-can_change : goal.empty_stream-emptied-requires-clause-can_change
+empty_stream-emptied-requires-clause-can_change g c = record {
+  sound = first_of (search rules, grind (arith, common_steps));
+  unfailed = first_of (search rules, grind (arith, common_steps));
+}

@@ -1,4 +1,5 @@
-use Rattle.std.proofs.Common.{◌≡◌, ◌≤◌, ◌<◌, ◌+◌, ◌-◌, ◌⊎◌, min, sym, ap, subst, length, take}
+use Rattle.std.proofs.lemmas.Grind.{common_steps}
+use Rattle.std.proofs.Common.{◌≡◌, ◌≤◌, ◌<◌, ◌+◌, ◌-◌, ◌⊎◌, min, sym, ap, subst, length, take, rules, arith}
 use Rattle.std.specs.Prelude.{IfErr, IfOk, IsErrAnd}
 use Rattle.cfb_format.specs.Medium.{part}
 use Rattle.cfb_format.specs.Refused.{CountsFailure, IsInvalidData, IsMemory}
@@ -15,77 +16,67 @@ read_content-requires g c = record {
   inside = subst (λ (f : FileState). c.args.entry < length (entries_of f.base)) (sym c.self.view_is) c.requires.inside;
 }
 
-pub returns-clause-same : goal.returns-clause-same
-returns-clause-same g c told =
+pub returns-clause-stays : goal.returns-clause-stays
+returns-clause-stays g c =
     let still : IsStill c.args.self.now.base c.read_content.new.mini = subst (λ (f : FileState). IsStill f.base c.read_content.new.mini) c.self.view_is c.read_content.ensures.kept in
     record {
-      base = still;
-      bytes = subst (λ (f : FileState). bytes_of c.read_content.new.mini ≡ bytes_of f.base) c.self.view_is (c.read_content.ensures.bytes told);
-      is_sound = ap (λ (f : FileState). f.is_sound) c.self.view_is;
-      buffer_limit = ap (λ (f : FileState). f.buffer_limit) c.self.view_is;
+      same = λ told. (
+          record {
+            base = still;
+            bytes = subst (λ (f : FileState). bytes_of c.read_content.new.mini ≡ bytes_of f.base) c.self.view_is (c.read_content.ensures.bytes told);
+            is_sound = ap (λ (f : FileState). f.is_sound) c.self.view_is;
+            buffer_limit = ap (λ (f : FileState). f.buffer_limit) c.self.view_is;
+          }
+          );
+      in_memory = (
+          record {
+            base = subst (λ (f : FileState). IsStill f.base c.read_content.new.mini) c.self.view_is c.read_content.ensures.kept;
+            is_sound = ap (λ (f : FileState). f.is_sound) c.self.view_is;
+            buffer_limit = ap (λ (f : FileState). f.buffer_limit) c.self.view_is;
+          }
+          );
+      flag = ap (λ (s : MiniState). (table_of s).file.begun) still;
+      entries = ap (λ (s : MiniState). entries_of s) still;
+      setting = (
+          record {
+            limits = record {
+              version = ap (λ (s : MiniState). version_of s) still;
+              cases = ap (λ (s : MiniState). cases_of s) still;
+              max_sectors = ap (λ (s : MiniState). (tables_in s).max_sectors) still;
+              max_mini_sectors = ap (λ (s : MiniState). s.max_mini_sectors) still;
+            };
+            is_sound = ap (λ (f : FileState). f.is_sound) c.self.view_is;
+            buffer_limit = ap (λ (f : FileState). f.buffer_limit) c.self.view_is;
+          }
+          );
     }
 
-pub returns-clause-in_memory : goal.returns-clause-in_memory
-returns-clause-in_memory g c = record {
-  base = subst (λ (f : FileState). IsStill f.base c.read_content.new.mini) c.self.view_is c.read_content.ensures.kept;
-  is_sound = ap (λ (f : FileState). f.is_sound) c.self.view_is;
-  buffer_limit = ap (λ (f : FileState). f.buffer_limit) c.self.view_is;
+pub returns-clause-read : goal.returns-clause-read
+returns-clause-read g c = record {
+  count = subst (λ (f : FileState). IfOk c.read_content.result (λ n. n ≤ min (length c.args.into.now) (len_of f.base c.args.entry - c.args.at))) c.self.view_is c.read_content.ensures.count;
+  some = subst (λ (f : FileState). IfOk c.read_content.result (λ n. 0 < min (length c.args.into.now) (len_of f.base c.args.entry - c.args.at) → 0 < n)) c.self.view_is c.read_content.ensures.some;
+  ok = λ told held. (
+      subst (λ (f : FileState). IfOk c.read_content.result (λ n. take n c.read_content.new.into ≡ part (content_at f c.args.entry) c.args.at n)) c.self.view_is
+      (c.read_content.ensures.ok told (subst (λ (f : FileState). TellsPlaces f.base) (sym c.self.view_is) held.places))
+      );
+  within = λ told held. subst (λ (f : FileState). IfOk c.read_content.result (λ n. 0 < n → c.args.at + n ≤ length (content_at f c.args.entry))) c.self.view_is (c.read_content.ensures.within told (subst (λ (f : FileState). TellsPlaces f.base) (sym c.self.view_is) held.places));
+  rest = first_of (search rules, grind (arith, common_steps));
 }
 
-pub returns-clause-flag : goal.returns-clause-flag
-returns-clause-flag g c =
-    let still : IsStill c.args.self.now.base c.read_content.new.mini = subst (λ (f : FileState). IsStill f.base c.read_content.new.mini) c.self.view_is c.read_content.ensures.kept in
-    ap (λ (s : MiniState). (table_of s).file.begun) still
-
-pub returns-clause-entries : goal.returns-clause-entries
-returns-clause-entries g c =
-    let still : IsStill c.args.self.now.base c.read_content.new.mini = subst (λ (f : FileState). IsStill f.base c.read_content.new.mini) c.self.view_is c.read_content.ensures.kept in
-    ap (λ (s : MiniState). entries_of s) still
-
-pub returns-clause-setting : goal.returns-clause-setting
-returns-clause-setting g c =
-    let still : IsStill c.args.self.now.base c.read_content.new.mini = subst (λ (f : FileState). IsStill f.base c.read_content.new.mini) c.self.view_is c.read_content.ensures.kept in
-    record {
-      limits = record {
-        version = ap (λ (s : MiniState). version_of s) still;
-        cases = ap (λ (s : MiniState). cases_of s) still;
-        max_sectors = ap (λ (s : MiniState). (tables_in s).max_sectors) still;
-        max_mini_sectors = ap (λ (s : MiniState). s.max_mini_sectors) still;
-      };
-      is_sound = ap (λ (f : FileState). f.is_sound) c.self.view_is;
-      buffer_limit = ap (λ (f : FileState). f.buffer_limit) c.self.view_is;
-    }
-
-pub returns-clause-count : goal.returns-clause-count
-returns-clause-count g c =
-    subst (λ (f : FileState). IfOk c.read_content.result (λ n. n ≤ min (length c.args.into.now) (len_of f.base c.args.entry - c.args.at))) c.self.view_is c.read_content.ensures.count
-
-pub returns-clause-some : goal.returns-clause-some
-returns-clause-some g c =
-    subst (λ (f : FileState). IfOk c.read_content.result (λ n. 0 < min (length c.args.into.now) (len_of f.base c.args.entry - c.args.at) → 0 < n)) c.self.view_is c.read_content.ensures.some
-
-pub returns-clause-ok : goal.returns-clause-ok
-returns-clause-ok g c told held =
-    subst (λ (f : FileState). IfOk c.read_content.result (λ n. take n c.read_content.new.into ≡ part (content_at f c.args.entry) c.args.at n)) c.self.view_is
-    (c.read_content.ensures.ok told (subst (λ (f : FileState). TellsPlaces f.base) (sym c.self.view_is) held.places))
-
-pub returns-clause-within : goal.returns-clause-within
-returns-clause-within g c told held =
-    subst (λ (f : FileState). IfOk c.read_content.result (λ n. 0 < n → c.args.at + n ≤ length (content_at f c.args.entry))) c.self.view_is (c.read_content.ensures.within told (subst (λ (f : FileState). TellsPlaces f.base) (sym c.self.view_is) held.places))
-
-pub returns-clause-err : goal.returns-clause-err
-returns-clause-err g c told held =
-    subst (λ (f : FileState). IfErr c.read_content.result (ChangeRefused
-    ((length (content_at f c.args.entry) ≤ c.args.at) × (0 < min (length c.args.into.now) (len_of f.base c.args.entry - c.args.at))) (Unit {0}) ⊥ (Unit {0}))) c.self.view_is
-    (c.read_content.ensures.err told (subst (λ (f : FileState). TellsPlaces f.base) (sym c.self.view_is) held.places))
-
-pub returns-clause-past : goal.returns-clause-past
-returns-clause-past g c told held =
-    subst (λ (f : FileState). length (content_at f c.args.entry) ≤ c.args.at → 0 < min (length c.args.into.now) (len_of f.base c.args.entry - c.args.at)
-    → IsErrAnd c.read_content.result (λ e. IsInvalidData e ⊎ IsMemory e)) c.self.view_is
-    (c.read_content.ensures.past told (subst (λ (f : FileState). TellsPlaces f.base) (sym c.self.view_is) held.places))
-
-pub returns-clause-counts : goal.returns-clause-counts
-returns-clause-counts g c told =
-    subst (λ (f : FileState). CountsFailure g.F.ReadMedium.read_faults c.read_content.result (failures_of f) (table_of c.read_content.new.mini).file.failures) c.self.view_is
-    (c.read_content.ensures.counts told)
+pub returns-clause-error : goal.returns-clause-error
+returns-clause-error g c = record {
+  err = λ told held. (
+      subst (λ (f : FileState). IfErr c.read_content.result (ChangeRefused
+      ((length (content_at f c.args.entry) ≤ c.args.at) × (0 < min (length c.args.into.now) (len_of f.base c.args.entry - c.args.at))) (Unit {0}) ⊥ (Unit {0}))) c.self.view_is
+      (c.read_content.ensures.err told (subst (λ (f : FileState). TellsPlaces f.base) (sym c.self.view_is) held.places))
+      );
+  past = λ told held. (
+      subst (λ (f : FileState). length (content_at f c.args.entry) ≤ c.args.at → 0 < min (length c.args.into.now) (len_of f.base c.args.entry - c.args.at)
+      → IsErrAnd c.read_content.result (λ e. IsInvalidData e ⊎ IsMemory e)) c.self.view_is
+      (c.read_content.ensures.past told (subst (λ (f : FileState). TellsPlaces f.base) (sym c.self.view_is) held.places))
+      );
+  counts = λ told. (
+      subst (λ (f : FileState). CountsFailure g.F.ReadMedium.read_faults c.read_content.result (failures_of f) (table_of c.read_content.new.mini).file.failures) c.self.view_is
+      (c.read_content.ensures.counts told)
+      );
+}

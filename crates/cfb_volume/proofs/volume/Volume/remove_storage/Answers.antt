@@ -1,4 +1,5 @@
-use Rattle.std.proofs.Common.{◌≡◌, true, false, sym, ◌∙◌, subst}
+use Rattle.std.proofs.lemmas.Grind.{common_steps}
+use Rattle.std.proofs.Common.{◌≡◌, true, false, sym, ◌∙◌, subst, rules, arith}
 use Rattle.std.specs.Prelude.{Bool, ◌||◌, chars}
 use Rattle.std.proofs.lemmas.Result.{err_from_is_err_and}
 use Rattle.cfb_format.specs.declared.medium.MediumFault.{MediumFault}
@@ -21,37 +22,31 @@ empty_storage-requires-clause-top g c =
     let s = c.args.self.now.base in
     let order : AreInOrder (cases_of s) (entries_of s) = c.entries-entries.ensures.in_order in
     let storage : IsReachedStorage (cases_of s) (entries_of s) c.args.top =
-    record { outline = order.outline; is = order.is; reached = below-reached order.outline c.args.top (c.requires.below order.outline order.is); kind = c.requires.storage } in
+    record { outline = order.outline; is = order.is; reached = below-reached order.outline c.args.top (c.requires.child.below order.outline order.is); kind = c.requires.storage } in
     storage
 
 -- ---- it can be taken
 
-pub remove-removed-requires-clause-parent : goal.remove-removed-requires-clause-parent
-remove-removed-requires-clause-parent g c =
+pub remove-removed-requires-clause-child : goal.remove-removed-requires-clause-child
+remove-removed-requires-clause-child g c =
     let s = c.args.self.now.base in
     let order : AreInOrder (cases_of s) (entries_of s) = c.entries-entries.ensures.in_order in
     let storage : IsReachedStorage (cases_of s) (entries_of s) c.args.top =
-    record { outline = order.outline; is = order.is; reached = below-reached order.outline c.args.top (c.requires.below order.outline order.is); kind = c.requires.storage } in
-    parent-still g.F.ReadMedium.tells c.args.top c.args.parent (chars c.args.name.now) c.args.self.now c.empty_storage.new.self storage c.requires.parent c.requires.below c.requires.named
-    c.in_ok-empty_storage.ensures.emptied
-
-pub remove-removed-requires-clause-below : goal.remove-removed-requires-clause-below
-remove-removed-requires-clause-below g c =
-    let s = c.args.self.now.base in
-    let order : AreInOrder (cases_of s) (entries_of s) = c.entries-entries.ensures.in_order in
-    let storage : IsReachedStorage (cases_of s) (entries_of s) c.args.top =
-    record { outline = order.outline; is = order.is; reached = below-reached order.outline c.args.top (c.requires.below order.outline order.is); kind = c.requires.storage } in
-    below-still g.F.ReadMedium.tells c.args.top c.args.parent (chars c.args.name.now) c.args.self.now c.empty_storage.new.self storage c.requires.parent c.requires.below c.requires.named
-    c.in_ok-empty_storage.ensures.emptied
-
-pub remove-removed-requires-clause-named : goal.remove-removed-requires-clause-named
-remove-removed-requires-clause-named g c =
-    let s = c.args.self.now.base in
-    let order : AreInOrder (cases_of s) (entries_of s) = c.entries-entries.ensures.in_order in
-    let storage : IsReachedStorage (cases_of s) (entries_of s) c.args.top =
-    record { outline = order.outline; is = order.is; reached = below-reached order.outline c.args.top (c.requires.below order.outline order.is); kind = c.requires.storage } in
-    named-still g.F.ReadMedium.tells c.args.top c.args.parent (chars c.args.name.now) c.args.self.now c.empty_storage.new.self storage c.requires.parent c.requires.below c.requires.named
-    c.in_ok-empty_storage.ensures.emptied
+    record { outline = order.outline; is = order.is; reached = below-reached order.outline c.args.top (c.requires.child.below order.outline order.is); kind = c.requires.storage } in
+    record {
+      storage = (
+          parent-still g.F.ReadMedium.tells c.args.top c.args.parent (chars c.args.name.now) c.args.self.now c.empty_storage.new.self storage c.requires.child.storage c.requires.child.below c.requires.child.named
+          c.in_ok-empty_storage.ensures.emptied
+          );
+      below = (
+          below-still g.F.ReadMedium.tells c.args.top c.args.parent (chars c.args.name.now) c.args.self.now c.empty_storage.new.self storage c.requires.child.storage c.requires.child.below c.requires.child.named
+          c.in_ok-empty_storage.ensures.emptied
+          );
+      named = (
+          named-still g.F.ReadMedium.tells c.args.top c.args.parent (chars c.args.name.now) c.args.self.now c.empty_storage.new.self storage c.requires.child.storage c.requires.child.below c.requires.child.named
+          c.in_ok-empty_storage.ensures.emptied
+          );
+    }
 
 -- ---- it was not taken
 
@@ -60,13 +55,13 @@ returns-in_err-hand_on-clause-others g c told holds =
     let s = c.args.self.now.base in
     let order : AreInOrder (cases_of s) (entries_of s) = c.entries-entries.ensures.in_order in
     let storage : IsReachedStorage (cases_of s) (entries_of s) c.args.top =
-    record { outline = order.outline; is = order.is; reached = below-reached order.outline c.args.top (c.requires.below order.outline order.is); kind = c.requires.storage } in
+    record { outline = order.outline; is = order.is; reached = below-reached order.outline c.args.top (c.requires.child.below order.outline order.is); kind = c.requires.storage } in
     let start = c.args.self.now in
     let step = c.remove-removed.new.self in
     let i = c.in_ok-empty_storage.ensures.emptied in
     let handed = hand-err step c.hand_on.new.self true c.remove-removed.result c.hand_on.ensures.fails c.in_err-hand_on.field-0.0 c.in_err-hand_on.ensures.step in
-    let keeps = others-now g.F.ReadMedium.tells c.args.top c.args.parent (chars c.args.name.now) start c.empty_storage.new.self storage c.requires.parent c.requires.below c.requires.named
-    i step.base told holds (c.remove-removed.ensures.others told (i.holds told holds)) in
+    let keeps = others-now g.F.ReadMedium.tells c.args.top c.args.parent (chars c.args.name.now) start c.empty_storage.new.self storage c.requires.child.storage c.requires.child.below c.requires.child.named
+    i step.base told holds (c.remove-removed.ensures.keeps.others told (i.holds told holds)) in
     subst (λ (f : FileState). KeepsStreamsBeside c.args.top start.base f.base) (sym handed)
     (λ o is names at k m out. flags-keep start.base step true _ (keeps o is names at k m out))
 
@@ -83,13 +78,13 @@ returns-in_err-hand_on-clause-refused g c =
     let p = err_from_is_err_and c.from_residual-in_err-hand_on.result c.from_residual-in_err-hand_on.ensures.1 in
     let faults : MediumFault → Bool = λ f. g.F.ReadMedium.read_faults f || g.F.Medium.write_faults f in
     let broke : ClearingBreaksOff g.F.ReadMedium.tells faults mid step e = record {
-      setting = w.setting;
-      header = λ told held. w.header told;
-      agrees = λ told held. w.agrees told held;
-      refused = λ told held. step-on-err c.remove-removed.result e is (w.refused told held);
-      in_memory = step-on-err c.remove-removed.result e is w.in_memory;
-      err = λ told held. step-err _ c.remove-removed.result e is (w.err told held);
-      counts = λ told. step-err-counts faults (failures_of mid) (failures_of step) c.remove-removed.result e is (w.counts told);
+      setting = w.ends.setting;
+      header = λ told held. w.keeps.header told;
+      agrees = λ told held. w.ends.agrees told held;
+      refused = λ told held. step-on-err c.remove-removed.result e is (w.ends.refused told held);
+      in_memory = step-on-err c.remove-removed.result e is w.ends.in_memory;
+      err = λ told held. step-err _ c.remove-removed.result e is (w.error.err told held);
+      counts = λ told. step-err-counts faults (failures_of mid) (failures_of step) c.remove-removed.result e is (w.ends.counts told);
     } in
     rw (p.1, p.2) (subst (λ (f : FileState). ClearingBreaksOff g.F.ReadMedium.tells faults start f e) (sym handed)
     (broke-off g.F.ReadMedium.tells faults start mid step e true (λ none. absurd (let clash : true ≡ false = none in cc)) i.setting i.header i.holds i.counted broke))
@@ -101,7 +96,7 @@ returns-clause-removed g c =
     let s = c.args.self.now.base in
     let order : AreInOrder (cases_of s) (entries_of s) = c.entries-entries.ensures.in_order in
     let storage : IsReachedStorage (cases_of s) (entries_of s) c.args.top =
-    record { outline = order.outline; is = order.is; reached = below-reached order.outline c.args.top (c.requires.below order.outline order.is); kind = c.requires.storage } in
+    record { outline = order.outline; is = order.is; reached = below-reached order.outline c.args.top (c.requires.child.below order.outline order.is); kind = c.requires.storage } in
     let start = c.args.self.now in
     let mid = c.empty_storage.new.self in
     let step = c.remove-removed.new.self in
@@ -109,20 +104,20 @@ returns-clause-removed g c =
     let i = c.in_ok-empty_storage.ensures.emptied in
     let w = c.remove-removed.ensures in
     let same = hand-ok step c.hand_on.new.self true c.remove-removed.result c.hand_on.ensures.fails _ is in
-    let calm = step-ok c.remove-removed.result _ is w.ended in
+    let calm = step-ok c.remove-removed.result _ is w.ends.ended in
     let faults : MediumFault → Bool = λ f. g.F.ReadMedium.read_faults f || g.F.Medium.write_faults f in
     subst (λ (f : FileState). RemovesWithAll g.F.ReadMedium.tells c.args.parent c.args.top (chars c.args.name.now) start f) (sym same) (record {
-      setting = setting-then start mid step i.setting w.setting;
+      setting = setting-then start mid step i.setting w.ends.setting;
       unfailed = calm;
-      balanced = λ told. balanced-then-but start.base mid.base step.base c.args.top (λ o o_is. let left = i.reached o o_is in (left.0, left.1)) i.balanced (step-ok c.remove-removed.result _ is (w.balanced told));
-      holds = λ told holds. w.agrees told (i.holds told holds) calm;
-      parts = λ told holds. parts-then start.base mid.base step.base (i.parts told holds) (step-ok c.remove-removed.result _ is (w.parts told (i.holds told holds)));
-      longer = (step-ok c.remove-removed.result _ is w.slots).slots ∙ i.longer;
-      same_length = w.takes_none ∙ i.same_length;
-      header = λ told holds. header-then start.base mid.base step.base i.setting.limits.version (i.header told holds) (w.header told);
-      tree = λ told holds. all-removed g.F.ReadMedium.tells c.args.top c.args.parent (chars c.args.name.now) start mid storage c.requires.parent c.requires.below c.requires.named i step.base told holds
-          (step-ok c.remove-removed.result _ is (w.tree told (i.holds told holds)));
-      counted = λ told. step-ok-counts faults (failures_of mid) (failures_of step) c.remove-removed.result _ is (w.counts told) ∙ i.counted told;
+      balanced = λ told. balanced-then-but start.base mid.base step.base c.args.top (λ o o_is. let left = i.reached o o_is in (left.0, left.1)) i.balanced (step-ok c.remove-removed.result _ is (w.object.balanced told));
+      holds = λ told holds. w.ends.agrees told (i.holds told holds) calm;
+      parts = λ told holds. parts-then start.base mid.base step.base (i.parts told holds) (step-ok c.remove-removed.result _ is (w.keeps.parts told (i.holds told holds)));
+      longer = (step-ok c.remove-removed.result _ is w.takes.slots).slots ∙ i.longer;
+      same_length = w.takes.takes_none ∙ i.same_length;
+      header = λ told holds. header-then start.base mid.base step.base i.setting.limits.version (i.header told holds) (w.keeps.header told);
+      tree = λ told holds. all-removed g.F.ReadMedium.tells c.args.top c.args.parent (chars c.args.name.now) start mid storage c.requires.child.storage c.requires.child.below c.requires.child.named i step.base told holds
+          (step-ok c.remove-removed.result _ is (w.object.tree told (i.holds told holds)));
+      counted = λ told. step-ok-counts faults (failures_of mid) (failures_of step) c.remove-removed.result _ is (w.ends.counts told) ∙ i.counted told;
     })
 
 pub returns-clause-others : goal.returns-clause-others
@@ -130,11 +125,17 @@ returns-clause-others g c told holds =
     let s = c.args.self.now.base in
     let order : AreInOrder (cases_of s) (entries_of s) = c.entries-entries.ensures.in_order in
     let storage : IsReachedStorage (cases_of s) (entries_of s) c.args.top =
-    record { outline = order.outline; is = order.is; reached = below-reached order.outline c.args.top (c.requires.below order.outline order.is); kind = c.requires.storage } in
+    record { outline = order.outline; is = order.is; reached = below-reached order.outline c.args.top (c.requires.child.below order.outline order.is); kind = c.requires.storage } in
     let start = c.args.self.now in
     let step = c.remove-removed.new.self in
     let i = c.in_ok-empty_storage.ensures.emptied in
     let same = hand-ok step c.hand_on.new.self true c.remove-removed.result c.hand_on.ensures.fails _ c.in_ok-hand_on.ensures.step in
     subst (λ (f : FileState). KeepsStreamsBeside c.args.top start.base f.base) (sym same)
-    (others-now g.F.ReadMedium.tells c.args.top c.args.parent (chars c.args.name.now) start c.empty_storage.new.self storage c.requires.parent c.requires.below c.requires.named
-    i step.base told holds (c.remove-removed.ensures.others told (i.holds told holds)))
+    (others-now g.F.ReadMedium.tells c.args.top c.args.parent (chars c.args.name.now) start c.empty_storage.new.self storage c.requires.child.storage c.requires.child.below c.requires.child.named
+    i step.base told holds (c.remove-removed.ensures.keeps.others told (i.holds told holds)))
+
+pub remove-removed-requires-clause-can_change : goal.remove-removed-requires-clause-can_change
+remove-removed-requires-clause-can_change g c = record {
+  sound = first_of (search rules, grind (arith, common_steps));
+  unfailed = first_of (search rules, grind (arith, common_steps));
+}

@@ -21,12 +21,12 @@ dir_entry-requires g c =
     let s = c.args.self.now.base in
     let order : AreInOrder (cases_of s) (entries_of s) = c.entries-entries.ensures.in_order in
     subst (λ (f : FileState). c.args.top < length (entries_of f.base)) (sym c.self.view_is)
-    (reached-is-within (cases_of s) (entries_of s) order.outline c.args.top order.is (below-reached order.outline c.args.top (c.requires.below order.outline order.is)))
+    (reached-is-within (cases_of s) (entries_of s) order.outline c.args.top order.is (below-reached order.outline c.args.top (c.requires.child.below order.outline order.is)))
 
 -- ---- nothing is in it
 
 pub returns-in_err-remove-clause-others : goal.returns-in_err-remove-clause-others
-returns-in_err-remove-clause-others g c told holds = beside-one c.args.self.now.base c.remove.new.self.base c.args.top (c.remove.ensures.others told holds)
+returns-in_err-remove-clause-others g c told holds = beside-one c.args.self.now.base c.remove.new.self.base c.args.top (c.remove.ensures.keeps.others told holds)
 
 pub returns-in_err-remove-clause-refused : goal.returns-in_err-remove-clause-refused
 returns-in_err-remove-clause-refused g c =
@@ -34,13 +34,13 @@ returns-in_err-remove-clause-refused g c =
     let w = c.remove.ensures in
     let r = c.in_err-remove.ensures in
     rw (p.1, p.2) (record {
-      setting = w.setting;
-      header = λ told holds. w.header told;
-      agrees = λ told holds. w.agrees told holds;
-      refused = λ told holds. r.refused told holds;
-      in_memory = r.in_memory;
-      err = λ told holds. r.err told holds;
-      counts = λ told. r.counts told;
+      setting = w.ends.setting;
+      header = λ told holds. w.keeps.header told;
+      agrees = λ told holds. w.ends.agrees told holds;
+      refused = λ told holds. r.ends.refused told holds;
+      in_memory = r.ends.in_memory;
+      err = λ told holds. r.error.err told holds;
+      counts = λ told. r.ends.counts told;
     })
 
 pub returns-then-dir_entry-clause-removed : goal.returns-then-dir_entry-clause-removed
@@ -48,20 +48,20 @@ returns-then-dir_entry-clause-removed g c =
     let w = c.remove.ensures in
     let ok = c.in_ok-remove.ensures in
     record {
-      setting = w.setting;
-      unfailed = ok.ended;
-      balanced = λ told. ok.balanced told;
-      holds = λ told holds. w.agrees told holds ok.ended;
-      parts = λ told holds. ok.parts told holds;
-      longer = ok.slots.slots;
-      same_length = w.takes_none;
-      header = λ told holds. w.header told;
-      tree = λ told holds. stands-removed c.args.self.now.base c.remove.new.self.base c.args.parent c.args.top (chars c.args.name.now) c.requires.below (ok.tree told holds);
-      counted = λ told. ok.counts told;
+      setting = w.ends.setting;
+      unfailed = ok.ends.ended;
+      balanced = λ told. ok.object.balanced told;
+      holds = λ told holds. w.ends.agrees told holds ok.ends.ended;
+      parts = λ told holds. ok.keeps.parts told holds;
+      longer = ok.takes.slots.slots;
+      same_length = w.takes.takes_none;
+      header = λ told holds. w.keeps.header told;
+      tree = λ told holds. stands-removed c.args.self.now.base c.remove.new.self.base c.args.parent c.args.top (chars c.args.name.now) c.requires.child.below (ok.object.tree told holds);
+      counted = λ told. ok.ends.counts told;
     }
 
 pub returns-then-dir_entry-clause-others : goal.returns-then-dir_entry-clause-others
-returns-then-dir_entry-clause-others g c told holds = beside-one c.args.self.now.base c.remove.new.self.base c.args.top (c.remove.ensures.others told holds)
+returns-then-dir_entry-clause-others g c told holds = beside-one c.args.self.now.base c.remove.new.self.base c.args.top (c.remove.ensures.keeps.others told holds)
 
 -- ---- a stream with a child, which no sound file has
 
@@ -81,7 +81,7 @@ returns-in-Stream-clause-refused g c =
       refused = λ told holds. inl (record { base = refl; bytes = refl; is_sound = refl; buffer_limit = refl });
       in_memory = same-in-memory c.args.self.now;
       err = λ told holds.
-          let none = stream-is-childless c.args.self.now order.outline c.args.top c.requires.sound holds order.is (below-reached order.outline c.args.top (c.requires.below order.outline order.is)) kind in
+          let none = stream-is-childless c.args.self.now order.outline c.args.top c.requires.can_change.sound holds order.is (below-reached order.outline c.args.top (c.requires.child.below order.outline order.is)) kind in
           let child : c.dir_entry.result.now.child ≡ no_stream = ap (λ (x : Entry). x.child) c.dir_entry.ensures
           ∙ subst (λ (f : FileState). (entry_at (entries_of f.base) c.args.top).child ≡ no_stream) (sym c.self.view_is) none in
           absurd (c.if-dir_entry.false child);
