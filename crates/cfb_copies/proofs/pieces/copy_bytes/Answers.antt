@@ -9,7 +9,7 @@ use Rattle.cfb_format.specs.Siblings.{entry_at}
 use Rattle.cfb_copies.specs.cfb_content.Contents.{len_of}
 use Rattle.cfb_volume.specs.Answers.{content_at}
 use Rattle.cfb_copies.proofs.Appended.{next_joins, nothing_yet}
-use Rattle.cfb_copies.proofs.Faults.{break_at_all, no_full_break}
+use Rattle.cfb_copies.proofs.Faults.{break_at_all, counted_gives, no_full_break, target_failed}
 use Rattle.cfb_copies.proofs.Filling.{fills_none, fills_then, fills_written}
 use Rattle.cfb_copies.proofs.Settled.{leaves_none, settles}
 use Rattle.cfb_copies.proofs.Slots.{moved_tight}
@@ -100,6 +100,17 @@ returns-in_err-append-clause-error g c =
           (leaves_none old to c.args.len at (length (take n (into ++ drop n c.loop-at.piece))) i.end i.settled more)
           (c.in_err-append.ensures.error.full_only tells (i.fills.holds tells target) full))
           );
+    }
+
+pub returns-in_err-append-clause-reads : goal.returns-in_err-append-clause-reads
+returns-in_err-append-clause-reads g c =
+    let p = err_from_is_err_and c.from_residual-in_err-append.result c.from_residual-in_err-append.ensures.1 in
+    let i = c.loop-at.invariant in
+    let e = c.in_err-append.field-0.0 in
+    record {
+      reads = read_then g.F.ReadMedium.tells c.args.source.now c.loop-at.source c.read_piece.new.source i.reads c.in_ok-read_piece.ensures.reads;
+      counts = λ told. rw (p.1, p.2) (target_failed _ _ _ _ _ (c.in_ok-read_piece.ensures.counts told ∙ i.calm told) e
+          (λ tells. counted_gives _ _ _ e (c.in_err-append.ensures.ends.counts tells)));
     }
 
 pub loop-at-preserved : goal.loop-at-preserved
