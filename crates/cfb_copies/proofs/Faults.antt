@@ -96,6 +96,10 @@ no_fault_counts gives tells can n Failed h = refl
 pub memory_no_fault : (e : Error) → e ≡ Memory → IsNoFault e
 memory_no_fault e is = subst (λ (x : Error). IsNoFault x) (sym is) tt
 
+-- want of memory breaks off
+pub memory_breaks : (e : Error) → e ≡ Memory → IsBreak (Unit {0}) e
+memory_breaks e is = subst (λ (x : Error). IsBreak (Unit {0}) x) (sym is) tt
+
 -- a fault of the medium breaks off
 pub medium_breaks : (P : MediumFault → Type 0) (e : Error) → IsMediumAnd P e → IsBreak (Unit {0}) e
 medium_breaks P (NotFound d) h = h

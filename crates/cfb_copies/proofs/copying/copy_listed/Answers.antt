@@ -11,7 +11,7 @@ use Rattle.cfb_places.specs.Places.{number_at, parent_at, placed_in}
 use Rattle.cfb_copies.specs.Copies.{parts_in_file}
 use Rattle.cfb_copies.specs.Steps.{HasRoomOnTheWay, IsNewIn, TakesName}
 use Rattle.cfb_copies.proofs.Enough.{next_room, room_next}
-use Rattle.cfb_copies.proofs.Faults.{fault_later}
+use Rattle.cfb_copies.proofs.Faults.{fault_later, memory_breaks, memory_not_full}
 use Rattle.cfb_copies.proofs.Growing.{grows_none, grows_then, lead_reached, ordered}
 use Rattle.cfb_copies.proofs.Next.{way_ends, way_starts}
 use Rattle.cfb_copies.proofs.Prepared.{listed_stands}
@@ -114,6 +114,14 @@ returns-in_err-push-clause-reads g c = record {
   reads = read_then g.F.ReadMedium.tells c.args.source.now c.loop-place.source c.copy_object.new.source c.loop-place.invariant.reads c.in_ok-number.ensures.reads.reads;
   counts = λ told. (let same = c.in_ok-number.ensures.reads.counts told ∙ c.loop-place.invariant.calm told in search (rules, same));
 }
+
+pub returns-in_err-push-clause-error : goal.returns-in_err-push-clause-error
+returns-in_err-push-clause-error g c =
+    let p = err_from_is_err_and c.from_residual-in_err-push.result c.from_residual-in_err-push.ensures.1 in
+    record {
+      err = λ told tells tree ready. rw (p.1) (memory_breaks _ p.2);
+      enough = λ told tells tree o is ready room. rw (p.1) (memory_not_full _ p.2);
+    }
 
 pub loop-place-preserved : goal.loop-place-preserved
 loop-place-preserved g c =

@@ -26,6 +26,7 @@ use Rattle.cfb_copies.proofs.Growing.{grows_by, grows_then, ordered, same_tables
 use Rattle.cfb_copies.proofs.cfb_agreement.Parts.{parts-keep-made}
 use Rattle.cfb_copies.proofs.Likes.{gives_all, like_len, like_start, like_valid}
 use Rattle.cfb_copies.proofs.Prepared.{means_in, tree_in}
+use Rattle.cfb_copies.proofs.Reading.{read_none}
 use Rattle.cfb_copies.proofs.Slots.{marked_tight, marked_used}
 use Rattle.cfb_copies.proofs.copying.fill.Goals as goal
 
@@ -65,6 +66,18 @@ pub returns-in_err-set_fields-clause-enough : goal.returns-in_err-set_fields-cla
 returns-in_err-set_fields-clause-enough g c told tells holds target kept none fresh fits =
     let p = err_from_is_err_and c.from_residual.result c.from_residual.ensures.1 in
     rw (p.1, p.2) (medium_not_full _ c.in_err-set_fields.field-0.0 (c.in_err-set_fields.ensures.err tells target))
+
+pub returns-in_err-clone-2-clause-reads : goal.returns-in_err-clone-2-clause-reads
+returns-in_err-clone-2-clause-reads g c = record {
+  reads = read_none g.F.ReadMedium.tells c.args.source.now;
+  counts = first_of (search rules, grind (arith, common_steps));
+}
+
+pub returns-in_err-numbers-clause-reads : goal.returns-in_err-numbers-clause-reads
+returns-in_err-numbers-clause-reads g c = record {
+  reads = read_none g.F.ReadMedium.tells c.args.source.now;
+  counts = first_of (search rules, grind (arith, common_steps));
+}
 
 pub returns-clause-grows : goal.returns-clause-grows
 returns-clause-grows g c =

@@ -13,6 +13,7 @@ use Rattle.cfb_copies.specs.cfb_content.Contents.{len_of}
 use Rattle.cfb_copies.specs.Steps.{CanBeLike, IsNewIn, LeadToEntry, TakesName, like_added}
 use Rattle.cfb_copies.proofs.Adding.{new_stream_of}
 use Rattle.cfb_copies.proofs.Enough.{entry_for, filled_for}
+use Rattle.cfb_copies.proofs.Faults.{memory_breaks, memory_not_full}
 use Rattle.cfb_copies.proofs.Filling.{fills_grow}
 use Rattle.cfb_copies.proofs.Growing.{grows_then, leads_still, reached_still}
 use Rattle.cfb_copies.proofs.Joining.{above_as, joined_as, named_as, new_leads, other_is_storage, storage_tree, stream_tree}
@@ -47,6 +48,15 @@ copy_bytes-requires-clause-empty_stream g c = record {
       );
   empty = first_of (search rules, grind (arith, common_steps));
 }
+
+pub returns-in_err-len-in-Stream-clause-error : goal.returns-in_err-len-in-Stream-clause-error
+returns-in_err-len-in-Stream-clause-error g c =
+    let p = err_from_is_err_and c.from_residual-in_err-len-in-Stream.result c.from_residual-in_err-len-in-Stream.ensures.1 in
+    let memory = c.in_err-len-in-Stream.ensures.err in
+    record {
+      err = λ told tells holds target whole takes. rw (p.1, p.2) (memory_breaks c.in_err-len-in-Stream.field-0.0 memory);
+      enough = λ told tells holds target whole part is to room. rw (p.1, p.2) (memory_not_full c.in_err-len-in-Stream.field-0.0 memory);
+    }
 
 pub returns-in_err-copy_bytes-in-Stream-clause-error : goal.returns-in_err-copy_bytes-in-Stream-clause-error
 returns-in_err-copy_bytes-in-Stream-clause-error g c =
