@@ -1,2 +1,4 @@
 pub mod Mended
+pub mod Missing
 pub mod Tables
+pub mod WholeFile

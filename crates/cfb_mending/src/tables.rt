@@ -1,7 +1,9 @@
 //! Where a file has its tables, and of which sectors these say something.
-ghost use Rattle.std.specs.Prelude.{◌≡◌, ◌<◌, ◌*◌, ◌+◌, ◌^◌, ℕ, true, List, length, take, IsTrue, IfOk, IfSome, OnOk};
+ghost use Rattle.std.specs.Prelude.{◌≡◌, ◌<◌, ◌*◌, ◌+◌, ◌^◌, ℕ, List, length, not, take, IsTrue, IfOk, IfSome, OnOk};
 ghost use Rattle.std.specs.List.{All};
-ghost use Rattle.cfb_mending.specs.Tables.{IsDifatEntry, IsDifatLink, IsDifatSector, IsFatSector, AreInTables, fat_place};
+ghost use Rattle.cfb_format.specs.Bytes.{points_below};
+ghost use Rattle.cfb_mending.specs.Missing.{cut_end, difat_from, first_difat_link, known_of};
+ghost use Rattle.cfb_mending.specs.Tables.{IsDifatEntry, IsDifatLink, IsFatSector, AreInTables, fat_place};
 
 use crate::bounds::{Bounds, holder_of, index_of, place_in, words_in};
 use crate::loaded::word_at;
@@ -29,14 +31,20 @@ pub(crate) struct Tables<A: Heap> {
 
 impl<A: Heap> Tables<A> {
     /// For how many sectors the FAT has words.
-    pub(crate) fn known(&self) -> u64 {
+    pub(crate) fn known(&self) -> u64
+        ensures { result ≡ known_of self.now.bounds.version self.now.bounds.sectors
+            self.now.fat.items }
+    {
         let words = words_in(self.bounds.version) as u64;
         let covered = (self.fat.len() as u64).saturating_mul(words);
         self.bounds.sectors.min(covered)
     }
 
     /// Whether the word names a sector that the file has not, or of which the FAT says nothing.
-    pub(crate) fn is_missing(&self, word: u32) -> bool {
+    pub(crate) fn is_missing(&self, word: u32) -> bool
+        ensures { result ≡ not (points_below (known_of self.now.bounds.version
+            self.now.bounds.sectors self.now.fat.items) word) }
+    {
         word <= MAX_REGULAR_SECTOR && self.known() <= u64::from(word)
     }
 
@@ -182,28 +190,30 @@ impl<F: ReadMedium, A: Heap + Clone> Scan<F, A> {
         Ok(Some((place_in(bounds.version, next, count), ends)))
     }
 
-    /// Whether this sector is one of the DIFAT.
-    pub(crate) fn is_of_difat(&mut self, bounds: Bounds, sector: u32) -> Result<bool, Error>
+    /// Where that of the DIFAT's sectors ends that the end of the file cuts, 0 where it cuts none.
+    pub(crate) fn difat_cut_end(&mut self, bounds: Bounds) -> Result<u64, Error>
         ensures same { IsTrue F.tells → F.bytes self.new.medium ≡ F.bytes self.old.medium }
         ensures stays { self.new.patches.items ≡ self.old.patches.items }
-        ensures is { IsTrue F.tells → IfOk result (λ is_one. is_one ≡ true
-            → IsDifatSector bounds.version (F.bytes self.old.medium) sector) }
+        ensures is { IsTrue F.tells → (bytes : List ℕ) → F.bytes self.old.medium ≡ bytes
+            → bounds.len ≡ length bytes → IfOk result (λ «end». «end»
+            ≡ cut_end bounds.version bounds.len
+            (difat_from bounds.version bytes bounds.sectors first_difat_link)) }
     {
         let mut link = FIRST_DIFAT_AT;
         for _turn in 0..bounds.sectors {
             if !bounds.has_word(link) {
-                return Ok(false);
+                return Ok(0);
             }
             let next = word_at(&mut self.medium, link)?;
             if next > MAX_REGULAR_SECTOR {
-                return Ok(false);
+                return Ok(0);
             }
-            if next == sector {
-                return Ok(true);
+            if bounds.is_cut(next) {
+                return Ok(place_in(bounds.version, next, words_in(bounds.version)));
             }
             link = place_in(bounds.version, next, words_in(bounds.version) - 1);
         }
-        Ok(false)
+        Ok(0)
     }
 }
 

@@ -1,4 +1,5 @@
-use Rattle.std.proofs.Common.{List, ℕ, sym, subst}
+use Rattle.std.proofs.Common.{List, ℕ, sym, ◌∙◌, ap, subst}
+use Rattle.cfb_format.specs.Bytes.{sector_count}
 use Rattle.cfb_format.specs.declared.validate.Validation.TheVariants.{Permissive}
 use Rattle.cfb_format.specs.declared.version.Version.{Version}
 use Rattle.cfb_format.specs.Header.{AcceptsHeader, HasFixedFields}
@@ -12,3 +13,8 @@ returns-clause-version g c told =
     let whole = (header_at_start Permissive bytes c.in_ok-header.header).0 first in
     subst (λ (v : Version). HasFixedFields (g.F.ReadMedium.bytes c.args.medium.now) v) (sym c.of.ensures.version)
     (subst (λ (b : List ℕ). HasFixedFields b c.in_ok-header.header.version) (c.in_ok-len.ensures.same told) whole.header.fixed)
+
+pub returns-clause-sectors : goal.returns-clause-sectors
+returns-clause-sectors g c told =
+    let bytes = g.F.ReadMedium.bytes c.args.medium.now in
+    c.of.ensures.sectors bytes (c.in_ok-len.ensures.honest told).0 ∙ ap (λ (v : Version). sector_count v bytes) (sym c.of.ensures.version)
