@@ -4,6 +4,7 @@ pub mod CutEnds
 pub mod FreedWords
 pub mod HeldWords
 pub mod InTables
+pub mod ListingFat
 pub mod MarkedWords
 pub mod Patching
 pub mod UsedWords

@@ -1,3 +1,4 @@
+pub mod Listing
 pub mod Mended
 pub mod Missing
 pub mod Tables

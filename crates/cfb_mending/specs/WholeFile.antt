@@ -1,12 +1,12 @@
 -- A file that was cut short: all that is read otherwise, and up to where (MS-CFB 2.2 to 2.6).
 use Rattle.std.specs.Prelude.{ℕ, ◌/◌, ◌≡◌, min, max, List, ◌++◌, length, Some}
-use Rattle.std.specs.List.{All}
 use Rattle.cfb_format.specs.declared.version.Version.{Version}
-use Rattle.cfb_format.specs.Bytes.{sector_count}
+use Rattle.cfb_format.specs.Bytes.{sector_count, word_at}
 use Rattle.cfb_format.specs.Header.{HasFixedFields}
 use Rattle.cfb_mending.specs.declared.patches.Patch.{Patch}
+use Rattle.cfb_mending.specs.Listing.{difat_patches, fat_sectors}
 use Rattle.cfb_mending.specs.Missing.{chain_from, chain_patches, cut_end, cut_patches, difat_from, fat_patches, first_difat_link, known_of, lost_links, mini_patches, mini_stream_len, used_words}
-use Rattle.cfb_mending.specs.Tables.{IsFatSector, directory_start, minifat_start}
+use Rattle.cfb_mending.specs.Tables.{directory_start, minifat_start}
 
 -- the sectors of the directory or the MiniFAT in a file of n sectors, up to the first that is missing
 abbrev pub chain_of : Version → List ℕ → ℕ → List ℕ → ℕ → List ℕ
@@ -38,10 +38,9 @@ pub record MendsAll (bytes : List ℕ) (patches : List Patch) (least lost : ℕ)
   pub fat : List ℕ
   pub directory : List ℕ
   pub minifat : List ℕ
-  pub difat : List Patch
-  pub listed : All (IsFatSector version bytes) fat
+  pub fat_is : fat ≡ fat_sectors version bytes (sector_count version bytes) (word_at bytes 44)
   pub directory_is : directory ≡ chain_of version bytes (sector_count version bytes) fat directory_start
   pub minifat_is : minifat ≡ chain_of version bytes (sector_count version bytes) fat minifat_start
-  pub patched : patches ≡ difat ++ tables_patches version bytes (length bytes) (sector_count version bytes) fat directory minifat
+  pub patched : patches ≡ difat_patches version bytes (sector_count version bytes) ++ tables_patches version bytes (length bytes) (sector_count version bytes) fat directory minifat
   pub padded : least ≡ least_len version bytes (length bytes) (sector_count version bytes) fat directory minifat
   pub counted : lost ≡ length (lost_links version bytes directory)

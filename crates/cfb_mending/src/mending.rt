@@ -1,6 +1,6 @@
 //! Which words of a file that was cut short lead past its end.
 ghost use Rattle.std.specs.Prelude.{◌≡◌, length, IsTrue, IfOk};
-ghost use Rattle.cfb_format.specs.Bytes.{sector_count};
+ghost use Rattle.cfb_format.specs.Bytes.{sector_count, word_at};
 ghost use Rattle.cfb_format.specs.Header.{HasFixedFields};
 ghost use Rattle.cfb_mending.specs.Tables.{MendsTables};
 ghost use Rattle.cfb_mending.specs.WholeFile.{MendsAll};
@@ -31,6 +31,8 @@ fn start<F: ReadMedium>(medium: &mut F) -> Result<(Header, Bounds), Error>
         started.1.len ≡ length (F.bytes medium.old)) }
     ensures sectors { IsTrue F.tells → IfOk result (λ started. started.1.sectors
         ≡ sector_count started.1.version (F.bytes medium.old)) }
+    ensures counted { IsTrue F.tells → IfOk result (λ started. started.0.num_fat_sectors
+        ≡ word_at (F.bytes medium.old) 44) }
 {
     let len = medium.length()?;
     if len < HEADER_LEN as u64 {

@@ -3,6 +3,7 @@ use Rattle.std.specs.List.{All}
 use Rattle.std.proofs.lemmas.List.Elements.{All-contains, All-nil, All-same}
 use Rattle.cfb_format.specs.Bytes.{sector_count}
 use Rattle.cfb_mending.specs.declared.patches.Patch.{Patch}
+use Rattle.cfb_mending.specs.Listing.{difat_patches, fat_sectors}
 use Rattle.cfb_mending.specs.Missing.{cut_end, cut_patches, difat_from, first_difat_link, known_of, lost_links, mini_patches, mini_stream_len, used_words}
 use Rattle.cfb_mending.specs.Tables.{IsFatSector, IsInTables, IsTableSector, directory_start, minifat_start}
 use Rattle.cfb_mending.specs.WholeFile.{chain_of, least_len, mini_count, tables_patches}
@@ -89,14 +90,15 @@ returns-clause-exact g c told =
       fat = fat;
       directory = d;
       minifat = m;
-      difat = c.list_fat.new.self.patches.items;
-      listed = subst (λ (b : List ℕ). All (IsFatSector version b) fat) started (c.in_ok-fat.ensures.listed told);
+      fat_is = c.in_ok-fat.ensures.is told bytes started is ∙ (λ j. fat_sectors version bytes (sectors j) (c.in_ok-header.ensures.counted told j));
       directory_is = c.in_ok-directory.ensures.exact told bytes mended is ∙ ap (λ (k : ℕ). chain_of version bytes k fat directory_start) sectors;
       minifat_is = c.in_ok-minifat.ensures.exact told bytes linked is ∙ ap (λ (k : ℕ). chain_of version bytes k fat minifat_start) sectors;
       patched =
           joined _ _ _ _ _ _ _ _ _ _ _ _ (c.in_ok-mend_fat.ensures.exact told bytes listed is) (c.in_ok-directory.ensures.ends told bytes mended is) e3
           (c.in_ok-minifat.ensures.ends told bytes linked is) e5
-          ∙ ap (λ (k : ℕ). c.list_fat.new.self.patches.items ++ tables_patches version bytes (length bytes) k fat d m) sectors;
+          ∙ ap (λ (l : List Patch). l ++ tables_patches version bytes (length bytes) n fat d m)
+          (c.in_ok-fat.ensures.patched told bytes started is ∙ ap (λ (l : List Patch). l ++ difat_patches version bytes n) c.new-patches.ensures.items)
+          ∙ ap (λ (k : ℕ). difat_patches version bytes k ++ tables_patches version bytes (length bytes) k fat d m) sectors;
       padded = c.in_ok-least.ensures.is told bytes limited is ∙ (λ j. least_len version bytes (is j) (sectors j) fat (c.deref-4.ensures.value j) (c.deref-5.ensures.value j));
       counted = c.in_ok-lost.ensures.lost told bytes chained is ∙ ap (λ (l : List ℕ). length (lost_links version bytes l)) c.deref.ensures.value;
     }
