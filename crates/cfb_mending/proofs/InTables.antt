@@ -1,9 +1,8 @@
 -- What is read otherwise are words of tables: links of chains, and the words of a sector.
-use Rattle.std.proofs.Common.{◌≡◌, ◌<◌, ◌≤◌, ℕ, suc, ◌+◌, ◌-◌, ◌*◌, ◌/◌, ◌%◌, ◌^◌, List, [], ◌∷◌, ◌++◌, drop, get_or, get_or-take, inl, inr, refl, sym, ◌∙◌, ap, subst, arith, zero, length}
-use Rattle.std.specs.Prelude.{◌⊎◌, Bool, true, false, Option, Some, None, slice_get, option_and_then, nat_eq, if◌then◌else◌}
+use Rattle.std.proofs.Common.{◌≡◌, ◌<◌, ◌≤◌, ℕ, suc, ◌+◌, ◌-◌, ◌*◌, ◌/◌, ◌%◌, ◌^◌, List, [], ◌∷◌, ◌++◌, drop, get_or-take, inl, inr, refl, sym, ◌∙◌, ap, subst, arith, zero, length}
+use Rattle.std.specs.Prelude.{◌⊎◌, Bool, true, false, Option, Some, None, slice_get, option_and_then, if◌then◌else◌}
 use Rattle.std.specs.Option.{option_map}
-use Rattle.std.specs.List.{All, Contains, IsAnyAnswer}
-use Rattle.std.proofs.lemmas.Bool.{eqb-true}
+use Rattle.std.specs.List.{All, Contains}
 use Rattle.std.proofs.lemmas.List.Elements.{All-push, All-same, All-weaker}
 use Rattle.std.proofs.lemmas.Option.{get_or_from_slice_get, option_and_then_some, slice_get_within}
 use Rattle.cfb_format.specs.declared.version.Version.{Version}
@@ -258,16 +257,3 @@ pub directory-moved : (version : Version) (b b' fat now : List ℕ) (len : ℕ) 
     → All (IsOnChain version b' fat directory_start) now → AreInTables version b' fat old → AreInTables version b' fat new
 directory-moved version b b' fat now len old new same step =
     subst (λ (x : List ℕ). len ≡ length x → All (IsOnChain version x fat directory_start) now → AreInTables version x fat old → AreInTables version x fat new) same step
-
--- the same of what the file is read up to
-pub padding-moved : (version : Version) (b b' fat now now' : List ℕ) (len least : ℕ) → b ≡ b'
-    → (len ≡ length b → All (IsTableSector version b fat) now → All (IsTableSector version b fat) now' → (least ≡ 0) ⊎ IsPadded version b fat least) → len ≡ length b'
-    → All (IsTableSector version b' fat) now → All (IsTableSector version b' fat) now' → (least ≡ 0) ⊎ IsPadded version b' fat least
-padding-moved version b b' fat now now' len least same step =
-    subst (λ (x : List ℕ).
-    len ≡ length x → All (IsTableSector version x fat) now → All (IsTableSector version x fat) now' → (least ≡ 0) ⊎ IsPadded version x fat least) same step
-
--- one of several sectors
-pub any-contains : (xs : List ℕ) (s : ℕ) (r : Bool) → IsAnyAnswer (λ (y : ℕ) (b : Bool). nat_eq y s ≡ b) xs r → r ≡ true → Contains xs s
-any-contains xs s true (k, below, holds) e = (k, below, eqb-true (get_or xs k s) s (holds s))
-any-contains xs s false h e = absurd (let w : false ≡ true = e in cc)

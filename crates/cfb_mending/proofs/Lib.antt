@@ -1,2 +1,10 @@
+pub mod AllPatches
+pub mod ChainWalk
+pub mod CutEnds
+pub mod FreedWords
+pub mod HeldWords
 pub mod InTables
+pub mod ListingFat
+pub mod MarkedWords
 pub mod Patching
+pub mod UsedWords

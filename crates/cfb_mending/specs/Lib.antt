@@ -1,2 +1,5 @@
+pub mod Listing
 pub mod Mended
+pub mod Missing
 pub mod Tables
+pub mod WholeFile

@@ -1,6 +1,7 @@
 //! How much of a file there is, and where the words of its sectors stand.
-ghost use Rattle.std.specs.Prelude.{◌≡◌, ◌+◌, ◌*◌, ◌/◌, ◌%◌, ◌^◌, ◌<◌, ◌≤◌, IfSome};
-ghost use Rattle.cfb_format.specs.Bytes.{sector_len, sector_start, words_per_sector};
+ghost use Rattle.std.specs.Prelude.{◌≡◌, ◌+◌, ◌-◌, ◌*◌, ◌/◌, ◌%◌, ◌^◌, ◌<◌, ◌≤◌, ℕ, List, length, min, nat_le, nat_lt};
+ghost use Rattle.cfb_format.specs.Bytes.{sector_count, sector_len, sector_start, words_per_sector};
+ghost use Rattle.cfb_mending.specs.Missing.{cut_end, is_cut};
 
 use cfb_format::version::Version;
 
@@ -19,6 +20,8 @@ impl Bounds {
     pub(crate) fn of(version: Version, len: u64) -> Bounds
         ensures version { result.version ≡ version }
         ensures len { result.len ≡ len }
+        ensures sectors { (bytes : List ℕ) → len ≡ length bytes
+            → result.sectors ≡ sector_count version bytes }
     {
         let all = match version {
             Version::V3 => len.div_ceil(512),
@@ -32,37 +35,47 @@ impl Bounds {
     }
 
     /// Whether the file has this sector, or its first bytes.
-    pub(crate) fn has(self, sector: u32) -> bool {
+    pub(crate) fn has(self, sector: u32) -> bool
+        ensures { result ≡ nat_lt sector self.sectors }
+    {
         u64::from(sector) < self.sectors
     }
 
     /// Whether the file has all of the word at this place.
-    pub(crate) fn has_word(self, at: u64) -> bool {
+    pub(crate) fn has_word(self, at: u64) -> bool
+        ensures { result ≡ nat_le (at + 4) self.len }
+    {
         at < self.len && 4 <= self.len - at
     }
 
     /// How many bytes the file has of a sector.
     pub(crate) fn bytes_of(self, sector: u32) -> usize
-        ensures { result ≤ 4096 }
+        ensures is { result ≡ min (self.len - sector_start self.version sector)
+            (sector_len self.version) }
+        ensures bound { result ≤ 4096 }
     {
         let behind = self.len.saturating_sub(place_in(self.version, sector, 0));
         behind.min(4 * words_in(self.version) as u64) as usize
     }
 
-    /// The sector that the end of the file cuts, if there is one.
-    pub(crate) fn cut(self) -> Option<u32>
-        ensures begun { IfSome result (λ s. sector_start self.version s < self.len) }
-        ensures cut { IfSome result (λ s. self.len < sector_start self.version s + sector_len self.version) }
+    /// Whether the end of the file cuts this sector.
+    pub(crate) fn is_cut(self, sector: u32) -> bool
+        ensures { result ≡ is_cut self.version self.len sector }
     {
-        let (number, is_cut) = match self.version {
-            Version::V3 => (self.len / 512, self.len % 512 != 0),
-            Version::V4 => (self.len / 4096, self.len % 4096 != 0),
-        };
-        if is_cut && 0 < number {
-            u32::try_from(number - 1).ok()
-        } else {
-            None
+        let end = place_in(self.version, sector, words_in(self.version));
+        place_in(self.version, sector, 0) < self.len && self.len < end
+    }
+
+    /// Where that of these sectors ends that the end of the file cuts, 0 where it cuts none.
+    pub(crate) fn cut_end(self, sectors: &[u32]) -> u64
+        ensures { result ≡ cut_end self.version self.len sectors.now }
+    {
+        for sector in sectors {
+            if self.is_cut(*sector) {
+                return place_in(self.version, *sector, words_in(self.version));
+            }
         }
+        0
     }
 }
 

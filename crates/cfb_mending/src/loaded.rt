@@ -1,28 +1,27 @@
 //! What is read of a file.
-ghost use Rattle.std.specs.Prelude.{◌≡◌, ◌+◌, ◌^◌, ◌<◌, length, IsTrue, IfOk, OnOk};
-ghost use Rattle.cfb_format.specs.Bytes.{word_at};
+ghost use Rattle.std.specs.Prelude.{◌≡◌, ◌+◌, ◌*◌, ◌/◌, ◌^◌, ◌<◌, ℕ, List, length, nat_lt, if◌then◌else◌, IsTrue, IfOk, OnOk};
+ghost use Rattle.cfb_format.specs.Bytes.{byte_at, word_at};
 ghost use Rattle.cfb_format.specs.Medium.{part};
+ghost use Rattle.cfb_mending.specs.Missing.{Holds, len_at};
 
 use crate::bounds::{Bounds, place_in};
 use cfb_format::bytes::u32_at;
 use cfb_format::error::Error;
 use cfb_format::medium::{MediumFault, ReadMedium};
+use cfb_format::version::Version;
 
 /// The length of the longest sector.
 const MAX_SECTOR_LEN: usize = 4096;
-
-/// How many words a slot of the directory has.
-pub(crate) const SLOT_WORDS: usize = 32;
 
 /// How many bytes a slot of the directory has, and a word.
 pub(crate) const SLOT_LEN: usize = 128;
 
 pub(crate) const WORD_LEN: usize = 4;
 
-// Which words of a slot have its type and its length (MS-CFB 2.6.1).
-const TYPE_WORD: usize = 16;
+// Where a slot has its type and its length (MS-CFB 2.6.1).
+const TYPE_AT: usize = 66;
 
-const LEN_WORDS: [usize; 2] = [30, 31];
+const LEN_AT: usize = 120;
 
 /// What one sector holds, and zeros behind it.
 #[derive(Drop)]
@@ -34,32 +33,43 @@ pub(crate) struct Loaded {
 
 impl Loaded {
     /// Whether the file has the word of this number.
-    pub(crate) fn has(&self, index: usize) -> bool {
+    pub(crate) fn has(&self, index: usize) -> bool
+        ensures { result ≡ nat_lt index (self.now.len / 4) }
+    {
         index < self.len / WORD_LEN
     }
 
     /// The word of this number.
-    pub(crate) fn word(&self, index: usize) -> u32 {
-        let at = (index % 1024) * 4;
-        u32_at(&self.bytes, at)
+    pub(crate) fn word(&self, index: usize) -> u32
+        ensures { index < 1024 → result ≡ word_at self.now.bytes (4 * index) }
+    {
+        u32_at(&self.bytes, 4 * (index % 1024))
     }
 
-    /// A word of a slot.
-    pub(crate) fn slot_word(&self, slot: usize, word: usize) -> u32 {
-        self.word(slot.saturating_mul(SLOT_WORDS).saturating_add(word))
+    /// The type of the object in a slot, that of none where the slot is cut.
+    pub(crate) fn kind(&self, slot: usize) -> u8
+        ensures { slot < 32 → result ≡ (if nat_lt slot (self.now.len / 128)
+            then byte_at self.now.bytes (128 * slot + 66) else 0) }
+    {
+        if slot >= self.len / SLOT_LEN {
+            return 0;
+        }
+        self.bytes[(slot % 32) * SLOT_LEN + TYPE_AT]
     }
 
-    /// The type of the object in a slot.
-    pub(crate) fn kind(&self, slot: usize) -> u8 {
-        let [_, _, kind, _] = self.slot_word(slot, TYPE_WORD).to_le_bytes();
-        kind
-    }
-
-    /// The length that a slot has.
-    pub(crate) fn len(&self, slot: usize) -> u64 {
-        let [low, high] = LEN_WORDS;
-        let high = u64::from(self.slot_word(slot, high)) << 32;
-        high | u64::from(self.slot_word(slot, low))
+    /// The length that the first slot has, 0 where it is cut.
+    pub(crate) fn first_len(&self, version: Version) -> u64
+        ensures { result ≡ (if nat_lt 0 (self.now.len / 128)
+            then len_at version self.now.bytes 0 else 0) }
+    {
+        if self.len / SLOT_LEN == 0 {
+            return 0;
+        }
+        let low = u64::from(u32_at(&self.bytes, LEN_AT));
+        match version {
+            Version::V3 => low,
+            Version::V4 => u64::from(u32_at(&self.bytes, LEN_AT + 4)) * (1 << 32) + low,
+        }
     }
 }
 
@@ -94,7 +104,10 @@ pub(crate) fn load<F: ReadMedium>(
     part_len: usize,
 ) -> Result<Loaded, Error>
     requires { 0 < part_len }
-    ensures { IsTrue F.tells → F.bytes medium.new ≡ F.bytes medium.old }
+    ensures same { IsTrue F.tells → F.bytes medium.new ≡ F.bytes medium.old }
+    ensures holds { IsTrue F.tells → (bytes : List ℕ) → F.bytes medium.old ≡ bytes
+        → bounds.len ≡ length bytes → IfOk result (λ loaded.
+        Holds part_len bounds.version bytes sector loaded.bytes loaded.len) }
 {
     let mut bytes = [0; MAX_SECTOR_LEN];
     let there = bounds.bytes_of(sector);

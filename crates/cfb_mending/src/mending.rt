@@ -1,7 +1,9 @@
 //! Which words of a file that was cut short lead past its end.
 ghost use Rattle.std.specs.Prelude.{◌≡◌, length, IsTrue, IfOk};
+ghost use Rattle.cfb_format.specs.Bytes.{sector_count, word_at};
 ghost use Rattle.cfb_format.specs.Header.{HasFixedFields};
 ghost use Rattle.cfb_mending.specs.Tables.{MendsTables};
+ghost use Rattle.cfb_mending.specs.WholeFile.{MendsAll};
 
 use crate::bounds::Bounds;
 use crate::loaded::read_whole;
@@ -27,6 +29,10 @@ fn start<F: ReadMedium>(medium: &mut F) -> Result<(Header, Bounds), Error>
         HasFixedFields (F.bytes medium.old) started.1.version) }
     ensures len { IsTrue F.tells → IfOk result (λ started.
         started.1.len ≡ length (F.bytes medium.old)) }
+    ensures sectors { IsTrue F.tells → IfOk result (λ started. started.1.sectors
+        ≡ sector_count started.1.version (F.bytes medium.old)) }
+    ensures counted { IsTrue F.tells → IfOk result (λ started. started.0.num_fat_sectors
+        ≡ word_at (F.bytes medium.old) 44) }
 {
     let len = medium.length()?;
     if len < HEADER_LEN as u64 {
@@ -53,6 +59,8 @@ pub fn mended<F: ReadMedium, A: Heap + Clone>(heap: A, medium: F) -> Result<Mend
     ensures same { IsTrue F.tells → IfOk result (λ new. F.bytes new.medium ≡ F.bytes medium) }
     ensures tables { IsTrue F.tells
         → IfOk result (λ new. MendsTables (F.bytes medium) new.patches.items new.least) }
+    ensures exact { IsTrue F.tells → IfOk result (λ new.
+        MendsAll (F.bytes medium) new.patches.items new.least new.lost) }
 {
     let mut medium = medium;
     let (header, bounds) = start(&mut medium)?;
@@ -68,8 +76,8 @@ pub fn mended<F: ReadMedium, A: Heap + Clone>(heap: A, medium: F) -> Result<Mend
     let directory = scan.mend_chain(&tables, FIRST_DIR_AT)?;
     let (lost, root_len) = scan.mend_directory(&tables, &directory)?;
     let minifat = scan.mend_chain(&tables, FIRST_MINIFAT_AT)?;
-    let len = scan.minifat_len(&tables, &minifat)?;
-    scan.mend_minifat(&tables, &minifat, len.min(root_len / 64))?;
+    let len = scan.minifat_len(&tables, &minifat, root_len / 64)?;
+    scan.mend_minifat(&tables, &minifat, len)?;
     let least = scan.least(&tables, &directory, &minifat)?;
     let Scan {
         medium,

@@ -1,7 +1,10 @@
 //! Where a file has its tables, and of which sectors these say something.
-ghost use Rattle.std.specs.Prelude.{◌≡◌, ◌<◌, ◌*◌, ◌+◌, ◌^◌, ℕ, true, List, length, take, IsTrue, IfOk, IfSome, OnOk};
-ghost use Rattle.std.specs.List.{All};
-ghost use Rattle.cfb_mending.specs.Tables.{IsDifatEntry, IsDifatLink, IsDifatSector, IsFatSector, AreInTables, fat_place};
+ghost use Rattle.std.specs.Prelude.{◌≡◌, ◌<◌, ◌*◌, ◌+◌, ◌^◌, ◌-◌, ◌++◌, ◌==◌, ◌&&◌, ℕ, List, length, nat_lt, not, take, IsTrue, IfOk, IfSome, OnOk};
+ghost use Rattle.std.specs.List.{All, suffix_len};
+ghost use Rattle.cfb_format.specs.Bytes.{points_below};
+ghost use Rattle.cfb_mending.specs.Listing.{ListsOne, difat_patches, fat_sectors, is_named_cut, listed_from, listed_patches, named_from, named_patches, without_zeros};
+ghost use Rattle.cfb_mending.specs.Missing.{cut_end, difat_from, first_difat_link, known_of};
+ghost use Rattle.cfb_mending.specs.Tables.{IsDifatEntry, IsDifatLink, IsFatSector, AreInTables, fat_place};
 
 use crate::bounds::{Bounds, holder_of, index_of, place_in, words_in};
 use crate::loaded::word_at;
@@ -29,14 +32,20 @@ pub(crate) struct Tables<A: Heap> {
 
 impl<A: Heap> Tables<A> {
     /// For how many sectors the FAT has words.
-    pub(crate) fn known(&self) -> u64 {
+    pub(crate) fn known(&self) -> u64
+        ensures { result ≡ known_of self.now.bounds.version self.now.bounds.sectors
+            self.now.fat.items }
+    {
         let words = words_in(self.bounds.version) as u64;
         let covered = (self.fat.len() as u64).saturating_mul(words);
         self.bounds.sectors.min(covered)
     }
 
     /// Whether the word names a sector that the file has not, or of which the FAT says nothing.
-    pub(crate) fn is_missing(&self, word: u32) -> bool {
+    pub(crate) fn is_missing(&self, word: u32) -> bool
+        ensures { result ≡ not (points_below (known_of self.now.bounds.version
+            self.now.bounds.sectors self.now.fat.items) word) }
+    {
         word <= MAX_REGULAR_SECTOR && self.known() <= u64::from(word)
     }
 
@@ -73,6 +82,15 @@ impl<F: ReadMedium, A: Heap + Clone> Scan<F, A> {
             → AreInTables bounds.version (F.bytes self.old.medium) table self.old.patches.items
             → OnOk result (AreInTables bounds.version (F.bytes self.old.medium) table
             self.new.patches.items) }
+        ensures named { IsTrue F.tells → (bytes : List ℕ) → F.bytes self.old.medium ≡ bytes
+            → bounds.len ≡ length bytes → OnOk result (fat.new.items
+            ≡ fat.old.items ++ named_from bounds.sectors bytes at count) }
+        ensures patched { IsTrue F.tells → (bytes : List ℕ) → F.bytes self.old.medium ≡ bytes
+            → bounds.len ≡ length bytes → OnOk result (self.new.patches.items
+            ≡ self.old.patches.items ++ named_patches bounds.sectors bytes at count) }
+        ensures ends { IsTrue F.tells → (bytes : List ℕ) → F.bytes self.old.medium ≡ bytes
+            → bounds.len ≡ length bytes → IfOk result (λ ends. ends
+            ≡ is_named_cut bounds.sectors bytes at count) }
     {
         for index in 0..count {
             let place = at + 4 * index as u64;
@@ -103,6 +121,12 @@ impl<F: ReadMedium, A: Heap + Clone> Scan<F, A> {
             → AreInTables bounds.version (F.bytes self.old.medium) table self.old.patches.items
             → OnOk result (AreInTables bounds.version (F.bytes self.old.medium) table
             self.new.patches.items) }
+        ensures is { IsTrue F.tells → (bytes : List ℕ) → F.bytes self.old.medium ≡ bytes
+            → bounds.len ≡ length bytes → IfOk result (λ fat. fat.items
+            ≡ fat_sectors bounds.version bytes bounds.sectors header.now.num_fat_sectors) }
+        ensures patched { IsTrue F.tells → (bytes : List ℕ) → F.bytes self.old.medium ≡ bytes
+            → bounds.len ≡ length bytes → OnOk result (self.new.patches.items
+            ≡ self.old.patches.items ++ difat_patches bounds.version bytes bounds.sectors) }
     {
         let mut fat = Vec::new(self.heap.clone()?);
         let is_cut = self.list_in(bounds, DIFAT_AT, NUM_DIFAT_ENTRIES_IN_HEADER, &mut fat)?;
@@ -127,6 +151,14 @@ impl<F: ReadMedium, A: Heap + Clone> Scan<F, A> {
             → AreInTables bounds.version (F.bytes self.old.medium) table self.old.patches.items
             → OnOk result (AreInTables bounds.version (F.bytes self.old.medium) table
             self.new.patches.items) }
+        ensures named { IsTrue F.tells → (bytes : List ℕ) → F.bytes self.old.medium ≡ bytes
+            → bounds.len ≡ length bytes → OnOk result (fat.new.items
+            ≡ fat.old.items ++ listed_from bounds.version bytes bounds.sectors bounds.sectors is_cut
+            first_difat_link) }
+        ensures patched { IsTrue F.tells → (bytes : List ℕ) → F.bytes self.old.medium ≡ bytes
+            → bounds.len ≡ length bytes → OnOk result (self.new.patches.items
+            ≡ self.old.patches.items ++ listed_patches bounds.version bytes bounds.sectors
+            bounds.sectors is_cut first_difat_link) }
     {
         let mut link = FIRST_DIFAT_AT;
         let mut is_cut = is_cut;
@@ -164,6 +196,10 @@ impl<F: ReadMedium, A: Heap + Clone> Scan<F, A> {
             → AreInTables bounds.version (F.bytes self.old.medium) table self.old.patches.items
             → OnOk result (AreInTables bounds.version (F.bytes self.old.medium) table
             self.new.patches.items) }
+        ensures one { IsTrue F.tells → (bytes : List ℕ) → F.bytes self.old.medium ≡ bytes
+            → bounds.len ≡ length bytes → IfOk result (λ r. ListsOne bounds.version
+            bytes bounds.sectors is_cut link fat.old.items fat.new.items self.old.patches.items
+            self.new.patches.items r) }
     {
         if !bounds.has_word(link) {
             self.set(link, link + 4, END_OF_CHAIN)?;
@@ -173,7 +209,7 @@ impl<F: ReadMedium, A: Heap + Clone> Scan<F, A> {
         if next > MAX_REGULAR_SECTOR {
             return Ok(None);
         }
-        if is_cut || !bounds.has(next) {
+        if !is_listed(bounds, is_cut, next) {
             self.set(link, link + 4, END_OF_CHAIN)?;
             return Ok(None);
         }
@@ -182,37 +218,56 @@ impl<F: ReadMedium, A: Heap + Clone> Scan<F, A> {
         Ok(Some((place_in(bounds.version, next, count), ends)))
     }
 
-    /// Whether this sector is one of the DIFAT.
-    pub(crate) fn is_of_difat(&mut self, bounds: Bounds, sector: u32) -> Result<bool, Error>
+    /// Where that of the DIFAT's sectors ends that the end of the file cuts, 0 where it cuts none.
+    pub(crate) fn difat_cut_end(&mut self, bounds: Bounds) -> Result<u64, Error>
         ensures same { IsTrue F.tells → F.bytes self.new.medium ≡ F.bytes self.old.medium }
         ensures stays { self.new.patches.items ≡ self.old.patches.items }
-        ensures is { IsTrue F.tells → IfOk result (λ is_one. is_one ≡ true
-            → IsDifatSector bounds.version (F.bytes self.old.medium) sector) }
+        ensures is { IsTrue F.tells → (bytes : List ℕ) → F.bytes self.old.medium ≡ bytes
+            → bounds.len ≡ length bytes → IfOk result (λ «end». «end»
+            ≡ cut_end bounds.version bounds.len
+            (difat_from bounds.version bytes bounds.sectors first_difat_link)) }
     {
         let mut link = FIRST_DIFAT_AT;
         for _turn in 0..bounds.sectors {
             if !bounds.has_word(link) {
-                return Ok(false);
+                return Ok(0);
             }
             let next = word_at(&mut self.medium, link)?;
             if next > MAX_REGULAR_SECTOR {
-                return Ok(false);
+                return Ok(0);
             }
-            if next == sector {
-                return Ok(true);
+            if bounds.is_cut(next) {
+                return Ok(place_in(bounds.version, next, words_in(bounds.version)));
             }
             link = place_in(bounds.version, next, words_in(bounds.version) - 1);
         }
-        Ok(false)
+        Ok(0)
     }
+}
+
+/// Whether the DIFAT goes on to this sector: its list has not ended, and the file has the sector.
+fn is_listed(bounds: Bounds, is_cut: bool, sector: u32) -> bool
+    ensures { result ≡ (not is_cut && nat_lt sector bounds.sectors) }
+{
+    !is_cut && bounds.has(sector)
+}
+
+/// Where the zeros at the end of a list begin.
+fn zeros_start(sectors: &[u32]) -> usize
+    ensures { result ≡ length sectors.now - suffix_len (λ s. s == 0) sectors.now }
+{
+    let mut start = sectors.len();
+    while start > 0 && sectors[start - 1] == 0 {
+        start -= 1;
+    }
+    start
 }
 
 /// Zeros at the end of the list pad it (MS-CFB 2.5).
 fn drop_padding<A: Heap>(fat: &mut Vec<u32, A>, header: &Header)
-    ensures { fat.new.items ≡ take (length fat.new.items) fat.old.items }
+    ensures some { fat.new.items ≡ take (length fat.new.items) fat.old.items }
+    ensures is { fat.new.items ≡ without_zeros header.now.num_fat_sectors fat.old.items }
 {
     let least = NUM_DIFAT_ENTRIES_IN_HEADER.max(header.num_fat_sectors as usize);
-    let last = fat.iter().rposition(|sector| *sector != 0);
-    let used = last.map_or(0, |last| last.saturating_add(1));
-    fat.truncate(least.max(used));
+    fat.truncate(least.max(zeros_start(fat)));
 }
