@@ -14,6 +14,8 @@ pub mod Gates
 pub mod Applying
 pub mod FrameLists
 pub mod Beginning
+pub mod Behind
+pub mod Blockwise
 pub mod LaidFrames
 pub mod Framed
 pub mod Ending

@@ -7,6 +7,7 @@ mod laying;
 pub mod looking;
 pub mod medium;
 mod overlay;
+mod pieces;
 pub mod recovery;
 mod stages;
 mod stamps;

@@ -12,9 +12,10 @@ ghost use Rattle.cfb_journal.specs.declared.medium.Phase.TheVariants.{Quiet, Cha
 ghost use Rattle.cfb_journal.specs.declared.recovery.RecoveryError.TheVariants.{Damaged, Foreign};
 
 use crate::disk::Disk;
-use crate::overlay::{overlay, sealed, serve};
+use crate::overlay::{overlay, serve};
 use crate::recovery::{NotOpened, RecoveryError, recover};
 use crate::stages::{append, begin, commit};
+use crate::stamps::stamp_with;
 use cfb_format::medium::{Medium, MediumFault, ReadMedium};
 use std::alloc::Global;
 
@@ -324,21 +325,15 @@ impl<D: Disk> Medium for JournaledMedium<D> {
         if self.phase == Phase::Quiet && self.blocks.is_empty() {
             return Ok(());
         }
-        let gated = match sealed(
-            self.alloc,
-            &mut self.disk,
-            self.base,
-            self.len,
-            &self.blocks,
-        ) {
-            Ok(gated) => gated,
+        let stamp = match stamp_with(&mut self.disk, self.base, self.len, &self.blocks) {
+            Ok(stamp) => stamp,
             Err(fault) => return Err(fail(&mut self.failures, fault)),
         };
         if let Err(fault) = ready(&mut self.disk, &mut self.phase, self.base) {
             return Err(fail(&mut self.failures, fault));
         }
         self.is_first = false;
-        if let Err(fault) = commit(&mut self.disk, self.base, &gated[1..]) {
+        if let Err(fault) = commit(&mut self.disk, self.base, self.len, stamp, &self.blocks) {
             self.phase = Phase::Broken;
             return Err(fail(&mut self.failures, fault));
         }

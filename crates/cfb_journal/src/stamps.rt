@@ -1,13 +1,15 @@
 //! The stamp of a compound file, by which its journal knows it again.
-ghost use Rattle.std.specs.Prelude.{◌≡◌, ◌+◌, ◌^◌, ◌<◌, ◌≤◌, ◌∷◌, [], length, take, IsTrue, IfOk, IfErr, OnOk};
+ghost use Rattle.std.specs.Prelude.{◌≡◌, ◌+◌, ◌%◌, ◌^◌, ◌<◌, ◌≤◌, ◌∷◌, [], length, take, IsTrue, IfOk, IfErr, OnOk};
 ghost use Rattle.cfb_format.specs.Medium.{part, FailsBy};
 ghost use Rattle.cfb_journal.specs.Disk.{CountsFault, OnlyLooks};
 ghost use Rattle.cfb_journal.specs.Journal.{applied, are_whole, frames_of};
+ghost use Rattle.cfb_journal.specs.Overlay.{contents, frames_from, AreBlocks};
 ghost use Rattle.cfb_journal.specs.Stamp.{stamp_of, step_of, summed};
 ghost use Rattle.cfb_journal.specs.States.{Looks};
 
 use crate::disk::Disk;
 use crate::laying::lay_frames;
+use crate::overlay::read_with;
 use cfb_format::medium::{MediumFault, ReadMedium};
 use cfb_format::transfer::read_exact_at;
 
@@ -23,6 +25,7 @@ const FIRST: u64 = 1442695040888963407;
 /// How far it is from one block to the next in a file of this length.
 fn step(len: u64) -> u64
     ensures is { result ≡ step_of len }
+    ensures blocks { result % 4096 ≡ 0 }
     ensures small { result ≤ 2 ^ 60 }
 {
     (len / (BLOCKS * BLOCK) + 1) * BLOCK
@@ -88,6 +91,37 @@ pub(crate) fn stamp_on<D: Disk>(
         let size = (len - at).min(BLOCK) as usize;
         let piece = &mut bytes[..size];
         read_part(disk, at, piece, len, count, frames)?;
+        sum = summed(sum, piece);
+        at += step.min(len - at);
+        left -= 1;
+    }
+    Ok(sum)
+}
+
+/// The stamp of the disk's file with the blocks of a table over it.
+pub(crate) fn stamp_with<D: Disk>(
+    disk: &mut D,
+    base: u64,
+    len: u64,
+    blocks: &[Vec<u8>],
+) -> Result<u64, MediumFault>
+    requires ordered { base ≤ len }
+    requires fits { AreBlocks base 0 (contents blocks.now) }
+    requires sized { IsTrue D.tells → len ≡ length (D.view disk.old).seen.file }
+    ensures stamp { IsTrue D.tells → IfOk result (λ n. n
+        ≡ stamp_of (applied (frames_from 0 (contents blocks.now)) (D.view disk.old).seen.file)) }
+    ensures looks { IsTrue D.tells → Looks (D.view disk.old) (D.view disk.new) }
+    ensures cause { IsTrue D.tells → CountsFault result (D.view disk.old).faults (D.view disk.new).faults }
+{
+    let step = step(len);
+    let mut bytes = [0; BLOCK as usize];
+    let mut sum = FIRST;
+    let mut at = 0;
+    let mut left = BLOCKS;
+    while left > 0 && at < len {
+        let size = (len - at).min(BLOCK) as usize;
+        let piece = &mut bytes[..size];
+        read_with(disk, base, blocks, at, piece)?;
         sum = summed(sum, piece);
         at += step.min(len - at);
         left -= 1;
