@@ -39,3 +39,9 @@ returns-clause-copy g c = record {
   after = first_of (search rules, grind (arith, common_steps));
   made = (λ tells. c.in_ok-volume.ensures.copy.made tells);
 }
+
+pub returns-clause-reads : goal.returns-clause-reads
+returns-clause-reads g c = rw (← c.self.view_is) (record {
+  reads = c.copy_volume.ensures.reads.reads;
+  counts = λ told. c.in_ok-volume.ensures.reads.counts told;
+})

@@ -32,3 +32,9 @@ invariant_of-self-2 g c = λ told unfailed. read_holds g.F.ReadMedium.tells c.se
 
 pub returns-clause-made : goal.returns-clause-made
 returns-clause-made g c = λ tells. c.in_ok-salvaged.ensures.made tells
+
+pub returns-clause-reads : goal.returns-clause-reads
+returns-clause-reads g c = rw (← c.self.view_is) (record {
+  reads = c.salvage_volume.ensures.reads.reads;
+  counts = λ told. c.in_ok-salvaged.ensures.reads.counts told;
+})
