@@ -1,22 +1,20 @@
 -- What one piece of a stream is that is read at a place, by the rules of calls.
-use Rattle.std.proofs.Common.{◌≡◌, ◌∙◌, ◌≤◌, ◌<◌, ℕ, Bool, true, false, List, [], ◌∷◌, refl, sym, ap, subst, arith, inl, inr, length, drop, take, ◌+◌, ◌++◌}
+use Rattle.std.proofs.Common.{◌≡◌, ◌∙◌, ◌≤◌, ◌<◌, ℕ, Bool, true, false, List, [], refl, sym, ap, subst, arith, inl, inr, length, drop, take, ◌+◌, ◌++◌}
 use borrow.Rule.Slice.PartMut.{post_of, put_mid}
 use Rattle.std.proofs.lemmas.List.{drop-drop, length-append, length-drop, length-take-le, take-append-le}
 use Rattle.std.proofs.Math.Seq.{take-add, take-append-add}
-use Rattle.std.specs.Prelude.{◌⊎◌, ◌||◌, ◌==◌, IfErr, IfOk, MatchBool, MatchOption, Option, Some, None, Result, Ok, Err, nat_lt, nat_le, ⊤, if◌then◌else◌}
+use Rattle.std.specs.Prelude.{◌⊎◌, ◌||◌, ◌==◌, IfErr, IfOk, MatchBool, MatchOption, Option, Some, None, Result, Ok, Err, nat_lt, nat_le, if◌then◌else◌}
 use Rattle.cfb_format.specs.declared.error.Error.{Error}
 use Rattle.cfb_format.specs.declared.medium.MediumFault.{MediumFault}
 use Rattle.cfb_format.specs.declared.error.Error.TheVariants.{NotFound, AlreadyExists, InvalidInput, InvalidData, Medium, Memory, Full, Unsound, Failed}
 use Rattle.cfb_format.specs.Refused.{CountsError}
-use Rattle.cfb_format.specs.Tree.{Tree}
 use Rattle.cfb_commands.specs.cfb_agreement.Files.{FileState, failures_of, is_failed}
 use Rattle.cfb_commands.specs.cfb_agreement.Laws.{with_flags}
-use Rattle.cfb_commands.specs.cfb_mini_sectors.State.{cases_of}
-use Rattle.cfb_commands.specs.cfb_path_changes.Answers.{Answers, MeansTree, setting_of}
+use Rattle.cfb_commands.specs.cfb_path_changes.Answers.{Answers, setting_of}
 use Rattle.cfb_commands.specs.cfb_rules.Calls.{done, open_read_stream}
 use Rattle.cfb_commands.specs.cfb_rules.Refusal.{Refusal, failed_earlier, invalid_data, invalid_input}
-use Rattle.cfb_commands.specs.cfb_rules.Runs.{Causes, IsStreamBroken, StreamCallRuns, StreamOnFailed, StreamRun, opened_by_path}
-use Rattle.cfb_commands.specs.cfb_rules.StreamCalls.{Moves, Read, Seek, Serves, Refuses, StreamCall, StreamReply, StreamSetting, StreamState, StreamStep, from_start, got, not_done, offset, place_within, read, seek, sought}
+use Rattle.cfb_commands.specs.cfb_rules.Runs.{Causes, IsStreamBroken, StreamCallRuns, StreamOnFailed, StreamRun}
+use Rattle.cfb_commands.specs.cfb_rules.StreamCalls.{Moves, Serves, Refuses, StreamCall, StreamReply, StreamSetting, StreamState, StreamStep, from_start, got, not_done, offset, place_within, read, seek}
 use Rattle.cfb_format.specs.Medium.{part}
 use Rattle.cfb_commands.specs.cfb_stream_buffer.Contents.{stream_setting_of}
 use Rattle.cfb_commands.specs.cfb_stream_window.Windows.{Runs}

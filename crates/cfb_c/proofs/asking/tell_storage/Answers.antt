@@ -1,4 +1,4 @@
-use Rattle.std.proofs.Common.{◌≡◌, ℕ, List, chars, refl, subst}
+use Rattle.std.proofs.Common.{ℕ, List, chars, refl, subst}
 use Rattle.cfb_commands.specs.cfb_path_changes.Answers.{Answers}
 use Rattle.cfb_commands.specs.cfb_rules.Calls.{is_storage, flag}
 use Rattle.cfb_c.proofs.asking.tell_storage.Goals as goal

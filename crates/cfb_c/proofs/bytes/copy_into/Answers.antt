@@ -1,4 +1,4 @@
-use Rattle.std.proofs.Common.{◌≡◌, arith, inl, refl, rules, subst, sym}
+use Rattle.std.proofs.Common.{arith, inl, refl, rules, subst, sym}
 use Rattle.std.proofs.lemmas.Result.{err_from_is_err_and}
 use Rattle.cfb_commands.specs.cfb_agreement.Files.{FileState}
 use Rattle.cfb_copies.specs.Copies.{IsMadeCopy, MeansTheSame}

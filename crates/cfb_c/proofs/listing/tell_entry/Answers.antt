@@ -1,4 +1,4 @@
-use Rattle.std.proofs.Common.{◌≡◌, ℕ, List, chars, refl, subst}
+use Rattle.std.proofs.Common.{ℕ, List, chars, refl, subst}
 use Rattle.std.proofs.lemmas.Result.{err_from_is_err_and}
 use Rattle.cfb_commands.specs.cfb_path_changes.Answers.{Answers, AnswersNot}
 use Rattle.cfb_commands.specs.cfb_rules.Calls.{entry, one_entry}

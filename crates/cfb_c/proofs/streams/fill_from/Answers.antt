@@ -1,4 +1,4 @@
-use Rattle.std.proofs.Common.{◌≡◌, ◌∙◌, ◌+◌, ◌-◌, ℕ, arith, inl, inr, length, refl, subst, take}
+use Rattle.std.proofs.Common.{◌∙◌, ◌-◌, ℕ, arith, inl, inr, length, refl, subst, take}
 use Rattle.std.proofs.lemmas.Result.{err_from_is_err_and}
 use Rattle.cfb_commands.specs.cfb_rules.StreamCalls.{from_start, read, seek}
 use Rattle.std.proofs.lemmas.Grind.{common_steps}

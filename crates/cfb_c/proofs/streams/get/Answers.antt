@@ -1,4 +1,4 @@
-use Rattle.std.proofs.Common.{◌≡◌, ℕ, List, chars, refl, subst}
+use Rattle.std.proofs.Common.{ℕ, List, chars, refl, subst}
 use Rattle.std.proofs.lemmas.Result.{err_from_is_err_and}
 use Rattle.cfb_whole_streams.specs.Content.{IsNotRead}
 use Rattle.cfb_c.proofs.streams.get.Goals as goal

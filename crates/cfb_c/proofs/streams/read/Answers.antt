@@ -1,4 +1,4 @@
-use Rattle.std.proofs.Common.{◌≡◌, ℕ, List, chars, rules, subst}
+use Rattle.std.proofs.Common.{ℕ, List, chars, subst}
 use Rattle.std.proofs.lemmas.Result.{err_from_is_err_and}
 use Rattle.cfb_c.specs.Pieces.{IsNotReadFrom}
 use Rattle.cfb_c.proofs.streams.read.Goals as goal

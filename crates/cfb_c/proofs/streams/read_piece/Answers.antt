@@ -1,4 +1,4 @@
-use Rattle.std.proofs.Common.{◌≡◌, ◌∙◌, inl, refl, rules}
+use Rattle.std.proofs.Common.{◌≡◌, ◌∙◌, inl, rules}
 use Rattle.std.proofs.lemmas.Result.{err_from_is_err_and}
 use Rattle.cfb_commands.specs.cfb_agreement.Files.{FileState}
 use Rattle.cfb_commands.proofs.Openings.{at_error, same_file}
