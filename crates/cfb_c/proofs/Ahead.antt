@@ -1,11 +1,10 @@
 -- What was read ahead is served as it would be read.
-use Rattle.std.proofs.Common.{◌≡◌, ◌∙◌, ◌≤◌, ◌<◌, ℕ, Bool, true, false, List, [], ap, arith, drop, inl, inr, length, min, refl, subst, sym, take, ◌+◌, ◌-◌, ◌++◌}
+use Rattle.std.proofs.Common.{◌≡◌, ◌∙◌, ◌≤◌, ◌<◌, ℕ, Bool, true, false, List, ap, arith, drop, inl, inr, length, refl, subst, sym, take, ◌+◌, ◌-◌, ◌++◌}
 use Rattle.std.proofs.lemmas.List.{drop-append-le, drop-drop, length-drop, length-take, length-take-le, take-append-drop, take-append-le}
 use Rattle.std.specs.Prelude.{◌⊎◌, IfSome, IsTrue, MatchOption, Option, Some, None, chars, ⊤}
-use Rattle.cfb_format.specs.Tree.{Tree}
 use Rattle.cfb_commands.specs.cfb_agreement.Files.{FileState}
 use Rattle.cfb_commands.specs.cfb_mini_sectors.State.{cases_of}
-use Rattle.cfb_commands.specs.cfb_path_changes.Answers.{Answers, MeansTree}
+use Rattle.cfb_commands.specs.cfb_path_changes.Answers.{Answers}
 use Rattle.cfb_commands.specs.cfb_rules.Calls.{done, open_read_stream}
 use Rattle.cfb_commands.specs.cfb_rules.Runs.{opened_by_path}
 use Rattle.cfb_commands.specs.cfb_rules.StreamCalls.{StreamState}
@@ -13,7 +12,7 @@ use Rattle.cfb_c.specs.declared.open_file.Ahead.{Ahead}
 use Rattle.cfb_c.specs.Ahead.{AreThere, IsAheadOf, IsBehind, IsServed}
 use Rattle.cfb_c.specs.Given.{IsPartOf}
 use Rattle.cfb_c.specs.Numbers.{IsPath}
-use Rattle.cfb_c.specs.Pieces.{HasRead, ReadsPart, ReadsPiece}
+use Rattle.cfb_c.specs.Pieces.{ReadsPart, ReadsPiece}
 
 -- ---- served
 

@@ -1,21 +1,20 @@
 -- What one piece of a stream is that is read at a place, by the rules of calls.
-use Rattle.std.proofs.Common.{◌≡◌, ◌∙◌, ◌≤◌, ◌<◌, ℕ, Bool, true, false, List, [], ◌∷◌, refl, sym, ap, subst, arith, inl, inr, length, drop, take, ◌+◌, ◌++◌}
+use Rattle.std.proofs.Common.{◌≡◌, ◌∙◌, ◌≤◌, ◌<◌, ℕ, Bool, true, false, List, [], refl, sym, ap, subst, arith, inl, inr, length, drop, take, ◌+◌, ◌++◌}
 use borrow.Rule.Slice.PartMut.{post_of, put_mid}
 use Rattle.std.proofs.lemmas.List.{drop-drop, length-append, length-drop, length-take-le, take-append-le}
 use Rattle.std.proofs.Math.Seq.{take-add, take-append-add}
-use Rattle.std.specs.Prelude.{◌⊎◌, ◌||◌, ◌==◌, IfErr, IfOk, MatchBool, MatchOption, Option, Some, None, Result, Ok, Err, nat_lt, nat_le, ⊤, if◌then◌else◌}
+use Rattle.std.specs.Prelude.{◌⊎◌, ◌||◌, ◌==◌, IfErr, IfOk, MatchBool, MatchOption, Option, Some, None, Result, Ok, Err, nat_lt, nat_le, if◌then◌else◌}
 use Rattle.cfb_format.specs.declared.error.Error.{Error}
+use Rattle.cfb_format.specs.declared.medium.MediumFault.{MediumFault}
 use Rattle.cfb_format.specs.declared.error.Error.TheVariants.{NotFound, AlreadyExists, InvalidInput, InvalidData, Medium, Memory, Full, Unsound, Failed}
 use Rattle.cfb_format.specs.Refused.{CountsError}
-use Rattle.cfb_format.specs.Tree.{Tree}
 use Rattle.cfb_commands.specs.cfb_agreement.Files.{FileState, failures_of, is_failed}
 use Rattle.cfb_commands.specs.cfb_agreement.Laws.{with_flags}
-use Rattle.cfb_commands.specs.cfb_mini_sectors.State.{cases_of}
-use Rattle.cfb_commands.specs.cfb_path_changes.Answers.{Answers, MeansTree, setting_of}
+use Rattle.cfb_commands.specs.cfb_path_changes.Answers.{Answers, setting_of}
 use Rattle.cfb_commands.specs.cfb_rules.Calls.{done, open_read_stream}
 use Rattle.cfb_commands.specs.cfb_rules.Refusal.{Refusal, failed_earlier, invalid_data, invalid_input}
-use Rattle.cfb_commands.specs.cfb_rules.Runs.{Causes, IsStreamBroken, StreamCallRuns, StreamOnFailed, StreamRun, opened_by_path}
-use Rattle.cfb_commands.specs.cfb_rules.StreamCalls.{Moves, Read, Seek, Serves, Refuses, StreamCall, StreamReply, StreamSetting, StreamState, StreamStep, from_start, got, not_done, offset, place_within, read, seek, sought}
+use Rattle.cfb_commands.specs.cfb_rules.Runs.{Causes, IsStreamBroken, StreamCallRuns, StreamOnFailed, StreamRun}
+use Rattle.cfb_commands.specs.cfb_rules.StreamCalls.{Moves, Serves, Refuses, StreamCall, StreamReply, StreamSetting, StreamState, StreamStep, from_start, got, not_done, offset, place_within, read, seek}
 use Rattle.cfb_format.specs.Medium.{part}
 use Rattle.cfb_commands.specs.cfb_stream_buffer.Contents.{stream_setting_of}
 use Rattle.cfb_commands.specs.cfb_stream_window.Windows.{Runs}
@@ -24,7 +23,7 @@ use Rattle.cfb_commands.specs.cfb_compound_file.Stored.{kept_of}
 use Rattle.cfb_commands.specs.cfb_compound_file.StreamAnswers.{IsStreamRefused, OpenStream, StreamRunsBy, causes_of_reading, run_in, stored_in, stream_in}
 use Rattle.cfb_commands.specs.Commands.{refusal_of_error}
 use Rattle.cfb_commands.proofs.Errors.{known}
-use Rattle.cfb_c.specs.Pieces.{HasRead, IsNotReadFrom, IsPieceRefused, IsPieceRefusedBy, ReadsPart, ReadsPiece, StandsIn}
+use Rattle.cfb_c.specs.Pieces.{HasRead, IsNotReadFrom, IsPieceRefused, IsPieceRefusedBy, IsSure, ReadsPart, ReadsPiece, StandsIn}
 
 got_not_done : (bytes : List ℕ) (r : Refusal) → got bytes ≡ not_done r → ⊥
 got_not_done bytes r e = cc
@@ -201,25 +200,25 @@ same_file old new kept count =
     ap (λ (file : FileState). with_flags file (failures_of new) (is_failed file)) kept ∙ ap (λ (n : ℕ). with_flags old n (is_failed old)) count
 
 -- bytes in memory are read without a fault of the medium
-pub none_counted : (old new : ℕ) (e : Error) → CountsError (λ f. false) old new e → new ≡ old
-none_counted old new (NotFound d) same = same
-none_counted old new (AlreadyExists d) same = same
-none_counted old new (InvalidInput d) same = same
-none_counted old new (InvalidData d) same = same
-none_counted old new (Medium f) fails = absurd (let w : false ≡ true = fails.can in cc)
-none_counted old new Memory same = same
-none_counted old new Full same = same
-none_counted old new Unsound same = same
-none_counted old new Failed same = same
+pub none_counted : (can_give : MediumFault → Bool) → IsSure can_give → (old new : ℕ) (e : Error) → CountsError can_give old new e → new ≡ old
+none_counted can_give sure old new (NotFound d) same = same
+none_counted can_give sure old new (AlreadyExists d) same = same
+none_counted can_give sure old new (InvalidInput d) same = same
+none_counted can_give sure old new (InvalidData d) same = same
+none_counted can_give sure old new (Medium f) fails = absurd (let w : false ≡ true = sym (sure f) ∙ fails.can in cc)
+none_counted can_give sure old new Memory same = same
+none_counted can_give sure old new Full same = same
+none_counted can_give sure old new Unsound same = same
+none_counted can_give sure old new Failed same = same
 
 -- ---- refused
 
 -- a call on the stream as it was opened, or behind bytes that were read
-pub piece_refused : (first old next : OpenStream) (at : ℕ) (call : StreamCall) (e : Error) → old.file ≡ first.file → next.file ≡ first.file → (stream_in old).len ≡ (stream_in first).len
+pub piece_refused : (can_give : MediumFault → Bool) (first old next : OpenStream) (at : ℕ) (call : StreamCall) (e : Error) → old.file ≡ first.file → next.file ≡ first.file → (stream_in old).len ≡ (stream_in first).len
     → (stream_in old).content ≡ (stream_in first).content → (call ≡ seek (from_start at)) ⊎ ((wanted : ℕ) × (call ≡ read wanted) × (at ≤ (stream_in old).position))
-    → IsStreamRefused (causes_of_reading old.file next.file) (λ f. false) old call next e → IsPieceRefused first at e
+    → IsStreamRefused (causes_of_reading old.file next.file) can_give old call next e → IsPieceRefused first at e
 unfolding Runs
-piece_refused first old next at call e same still len content is why = record {
+piece_refused can_give first old next at call e same still len content is why = record {
   call = call;
   old = run_in old;
   new = run_in next;

@@ -1,5 +1,5 @@
 -- What calls on whole files through a handle come to.
-use Rattle.std.specs.Prelude.{ℕ, ◌≡◌, ◌⊎◌, ◌++◌, Bool, true, List, Option, None, Some, MatchResult, Result, Err, IsOk, length}
+use Rattle.std.specs.Prelude.{ℕ, ◌≡◌, ◌⊎◌, ◌++◌, Bool, true, List, Option, None, Some, MatchResult, Result, IsOk, length}
 use Rattle.cfb_format.specs.declared.error.Error.{Error}
 use Rattle.cfb_format.specs.Refused.{IsMemory}
 use Rattle.cfb_commands.specs.cfb_agreement.Files.{FileState}

@@ -1,5 +1,5 @@
 -- What calls answer.
-use Rattle.std.specs.Prelude.{ℕ, ◌≡◌, ◌==◌, List, Bool, false, Option, None, Some, Result, Ok, Err, IsUtf8}
+use Rattle.std.specs.Prelude.{ℕ, ◌≡◌, ◌==◌, List, false, Option, None, Some, Result, Ok, Err, IsUtf8}
 use Rattle.std.specs.List.{list_any}
 use Rattle.cfb_format.specs.declared.error.Error.{Error}
 use Rattle.cfb_format.specs.Refused.{IsInvalidInput, number_of}

@@ -1,6 +1,7 @@
 -- What is read of a stream from a place on.
-use Rattle.std.specs.Prelude.{ℕ, ◌≡◌, ◌<◌, ◌≤◌, ◌+◌, ◌⊎◌, List, IfErr, OnOk, Result, drop, length, take}
+use Rattle.std.specs.Prelude.{ℕ, ◌≡◌, ◌<◌, ◌≤◌, ◌+◌, ◌⊎◌, Bool, false, List, IfErr, OnOk, Result, drop, length, take}
 use Rattle.cfb_format.specs.declared.error.Error.{Error}
+use Rattle.cfb_format.specs.declared.medium.MediumFault.{MediumFault}
 use Rattle.cfb_format.specs.Tree.{Tree}
 use Rattle.cfb_commands.specs.cfb_agreement.Files.{FileState, is_failed}
 use Rattle.cfb_commands.specs.cfb_compound_file.StreamAnswers.{OpenStream, causes_of_reading, run_in}
@@ -11,6 +12,10 @@ use Rattle.cfb_commands.specs.cfb_rules.Refusal.{Refusal}
 use Rattle.cfb_commands.specs.cfb_rules.Runs.{Causes, StreamCallRuns, StreamRun, opened_by_path}
 use Rattle.cfb_commands.specs.cfb_rules.StreamCalls.{StreamCall, StreamSetting, StreamState, from_start, not_done, read, seek}
 use Rattle.cfb_commands.specs.Commands.{refusal_of_error}
+
+-- no read of the medium fails
+abbrev pub IsSure : (MediumFault → Bool) → Type 0
+IsSure can_give = (fault : MediumFault) → can_give fault ≡ false
 
 -- the same stream, at this place
 pub record StandsIn (s : StreamState) (at : ℕ) (next : StreamState) : Type 0 where

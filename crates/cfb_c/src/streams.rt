@@ -1,9 +1,9 @@
 //! The bytes of streams, read in pieces, and read and written whole. Places and lengths are in bytes.
-ghost use Rattle.std.specs.Prelude.{◌≡◌, IfErr, IfOk, chars};
+ghost use Rattle.std.specs.Prelude.{◌≡◌, IfErr, IfOk, IsTrue, chars};
 ghost use Rattle.cfb_commands.specs.cfb_compound_file.ReadStreams.{file_of as read_file_of, open_of};
 ghost use Rattle.cfb_commands.specs.cfb_compound_file.StreamAnswers.{stream_in};
 ghost use Rattle.cfb_c.specs.Calls.{AtPath, Calls, FromFile, FromPath, OnFile};
-ghost use Rattle.cfb_c.specs.Pieces.{IsNotReadFrom, IsPieceRefused, ReadsFrom, ReadsPart, ReadsPiece};
+ghost use Rattle.cfb_c.specs.Pieces.{IsNotReadFrom, IsPieceRefused, IsSure, ReadsFrom, ReadsPart, ReadsPiece};
 ghost use Rattle.cfb_c.specs.Streams.{GetsWhole, PutsEmpty, PutsWhole};
 
 use crate::giving::give;
@@ -13,6 +13,7 @@ use crate::refusal::{NOT_OPEN, Refusal, text};
 use cfb_compound_file::compound_file::CompoundFile;
 use cfb_compound_file::read_stream::ReadStream;
 use cfb_format::error::{Detail, Error};
+use cfb_format::medium::ReadMedium;
 use cfb_lent::lent::LentMedium;
 use cfb_whole_streams::content::{read_stream, write_stream};
 use std::alloc::Global;
@@ -187,29 +188,35 @@ fn read(
 }
 
 /// Reads from the place `at` on of the stream at this path, until there is no more room or the
-/// stream ends.
+/// stream ends. The medium is memory, which can be read at each time.
 #[tactic(auto, using(crate::proofs::Pieces::reads_piece, crate::proofs::Pieces::piece_not_read))]
-pub fn read_piece(
-    file: &mut CompoundFile<LentMedium>,
+pub fn read_piece<F: ReadMedium>(
+    file: &mut CompoundFile<F>,
     path: &str,
     at: u64,
     into: &mut [u8],
 ) -> Result<usize, Error>
+    requires tells { IsTrue F.tells }
+    requires sure { IsSure F.read_faults }
     ensures same { file.new ≡ file.old }
     ensures reads { IfOk result (ReadsPiece file.old (chars path.now) at into.new) }
     ensures refused { IfErr result (IsNotReadFrom file.old (chars path.now) at) }
 {
     let mut stream = file.open_read_stream(path)?;
-    // It is only read, and so it need not be closed.
-    fill_from(&mut stream, at, into)
+    let read = fill_from(&mut stream, at, into);
+    // It was only read, so that nothing is left to be told.
+    let _closed = stream.close();
+    read
 }
 
 /// Reads from the place `at` on, until there is no more room or the stream ends.
-fn fill_from(
-    stream: &mut ReadStream<'_, LentMedium>,
+fn fill_from<F: ReadMedium>(
+    stream: &mut ReadStream<'_, F>,
     at: u64,
     into: &mut [u8],
 ) -> Result<usize, Error>
+    requires tells { IsTrue F.tells }
+    requires sure { IsSure F.read_faults }
     ensures same_file { (read_file_of stream.new).ghost_name
         ≡ (read_file_of stream.old).ghost_name }
     ensures same { (read_file_of stream.new).now ≡ (read_file_of stream.old).now }

@@ -5,7 +5,7 @@ use Rattle.cfb_c.specs.Pieces.{HasRead, StandsIn}
 use Rattle.cfb_c.proofs.streams.fill_from.Given as goal
 
 abbrev pub invariant-loop-count : goal.invariant-loop-count
-invariant-loop-count l = record {
+invariant-loop-count g l = record {
   same_file : (read_file_of l.stream).ghost_name ≡ (read_file_of l.fn.stream).ghost_name;
   same : (read_file_of l.stream).now ≡ (read_file_of l.fn.stream).now;
   inside : l.count ≤ length l.into;
@@ -14,4 +14,4 @@ invariant-loop-count l = record {
 }
 
 abbrev pub decreases-loop-count : goal.decreases-loop-count
-decreases-loop-count l = length l.into - l.count
+decreases-loop-count g l = length l.into - l.count

@@ -1,0 +1,21 @@
+use Rattle.std.proofs.Common.{ℕ, List, chars, refl, subst}
+use Rattle.std.specs.Prelude.{Err, Ok}
+use Rattle.std.proofs.lemmas.Result.{err_from_is_err_and}
+use Rattle.cfb_format.specs.Memory.{is_refused_growth}
+use Rattle.cfb_stream_parts.specs.Parts.{Resizes}
+use Rattle.cfb_c.proofs.writing.set_len.Goals as goal
+
+pub returns-in_err-set_len_at : goal.returns-in_err-set_len_at
+returns-in_err-set_len_at c =
+    let p = err_from_is_err_and c.from_residual-in_err-set_len_at.result c.from_residual-in_err-set_len_at.ensures.1 in
+    rw (c.in-File.is, p.1, p.2, ← c.file.view_is) (record {
+      made = λ _. subst (λ (path : List ℕ). Resizes {T = Unit {0}} is_refused_growth c.args.len (chars path) c.file.inside.inner (Err c.in_err-set_len_at.field-0.0) c.set_len_at.new.file) c.in_ok-text.ensures.0 (c.in_err-set_len_at.ensures.changes refl);
+      wrong = λ not. absurd (not c.in_ok-text.ensures.1);
+    })
+
+pub returns : goal.returns
+returns c =
+    rw (c.in-File.is, ← c.file.view_is) (record {
+      made = λ _. subst (λ (path : List ℕ). Resizes {T = Unit {0}} is_refused_growth c.args.len (chars path) c.file.inside.inner (Ok c.in_ok-set_len_at.field-0) c.set_len_at.new.file) c.in_ok-text.ensures.0 (c.in_ok-set_len_at.ensures.changes refl);
+      wrong = λ not. absurd (not c.in_ok-text.ensures.1);
+    })
