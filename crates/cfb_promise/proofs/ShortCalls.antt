@@ -1,12 +1,12 @@
 -- Calls by path and on streams by the rules of the code's commands are those by the rules of calls, both ways.
-use Rattle.std.proofs.Common.{◌≡◌, ◌∙◌, ◌^◌, ◌-◌, ◌<◌, ◌⊎◌, ℕ, List, Bool, true, false, refl, sym, ap, arith, length, nat_le, subst, inl, inr}
+use Rattle.std.proofs.Common.{◌≡◌, ◌+◌, ◌∙◌, ◌^◌, ◌-◌, ◌<◌, ◌⊎◌, ℕ, List, Bool, true, false, refl, sym, ap, arith, length, nat_le, subst, inl, inr}
 use Rattle.std.proofs.lemmas.Bool.Decides.{nat_tests}
-use Rattle.std.specs.Prelude.{⊤, ◌&&◌, ◌||◌, MatchBool, MatchOption, IsTrue, Option, Some, None, is_some, if◌then◌else◌}
+use Rattle.std.specs.Prelude.{⊤, ◌≢◌, ◌&&◌, ◌||◌, MatchBool, MatchOption, IsTrue, Option, Some, None, is_some, if◌then◌else◌}
 use Rattle.std.specs.Option.{option_map_or}
 use Rattle.std.specs.declared.io.traits.SeekFrom.{SeekFrom}
 use Rattle.std.specs.declared.io.traits.SeekFrom.TheVariants.{Start, End, Current}
 use Rattle.cfb_format.specs.declared.version.Version.{Version}
-use Rattle.cfb_format.specs.Bytes.{max_regular_sector, max_stream_len}
+use Rattle.cfb_format.specs.Bytes.{entries_per_sector, max_regular_sector, max_stream_len}
 use Rattle.cfb_format.specs.Full.{IsFull}
 use Rattle.cfb_format.specs.Medium.{Rises}
 use Rattle.cfb_format.specs.Names.{Cases}
@@ -19,7 +19,7 @@ use Rattle.cfb_rules.specs.Calls.{Call, Reply, create_storage_all, create_stream
 use Rattle.cfb_rules.proofs.CallBreaks.{creation_is_full}
 use Rattle.cfb_rules.specs.Lists.{CallStep, ClosingStep, Deed, FileView, IsSeenAsBefore, LacksFor, LeavesAll, LeavesFile, StreamCallStep, by_call, by_closing, by_stream_call, causes_between, names_at}
 use Rattle.cfb_rules.specs.Refusal.{Refusal, failed_earlier, file_full, invalid_input, medium_failed, not_sound, out_of_memory}
-use Rattle.cfb_rules.specs.Runs.{BlamesOneOf, CallBreaksOff, Causes, CallRuns, Closes, FollowsRules, HasCause, IsBroken, IsStreamBroken, Setting, StreamBreaksOff, StreamCallRuns, StreamOnFailed, StreamRun, TreeState, Work, WorkMayBreak, may_leave_failed}
+use Rattle.cfb_rules.specs.Runs.{BlamesOneOf, CallBreaksOff, Causes, CallRuns, Closes, FollowsRules, HasCause, IsBroken, IsStreamBroken, Setting, StreamBreaksOff, StreamCallRuns, StreamOnFailed, StreamRun, TreeState, Work, WorkMayBreak, is_served, may_leave_failed}
 use Rattle.cfb_rules.specs.Runs as rules
 use Rattle.cfb_rules.specs.Steps.{CallKind, asking, asking_freely, changing, creating, emptying, flushing, is_changing, is_there, kind_of, kind_on, outcome}
 use Rattle.cfb_rules.specs.StreamCalls.{Moves, Refuses, StreamReply, StreamState, StreamStep, not_done, offset}
@@ -32,7 +32,7 @@ use Rattle.cfb_commands.specs.declared.command.StreamOp.TheVariants as op
 use Rattle.cfb_promise.specs.CallRules.{Rule}
 use Rattle.cfb_promise.specs.Files.{DiffersInContent, File, FullBy, FullByCall, FullCause, HasNoEntry, HasNoRoomFor, HasNoRoomForKept, HasSoundBytes, Keeps, KeepsBack, LeavesAlone, LeavesSound, MeansIt, MemoryByCall, MemoryCause, StandsAt, Unfailed}
 use Rattle.cfb_promise.specs.Files as files
-use Rattle.cfb_promise.specs.Steps.{Breaks, Closing, Follows, IsLeft, LeavesUnsound, OnFailed, OpRuns, refusal_in, root_len}
+use Rattle.cfb_promise.specs.Steps.{Breaks, Closing, FollowsRule, IsLeft, LeavesUnsound, OnFailed, OpRuns, refusal_in}
 use Rattle.cfb_promise.specs.Steps as short
 use Rattle.cfb_promise.specs.StreamRules.{CanBreak, IsAllowed, IsLeftBy, OpBreaks, OpLeavesFile, OpOnFailed, OpStep, may_write, sought, work_of}
 use Rattle.cfb_promise.proofs.Blaming.{blames, can_break, can_work, may_break, may_work, stream_is_full}
@@ -178,20 +178,20 @@ full_of false old new K P f k is = absurd (let w : false ≡ true = is in cc)
 
 module _ (cases : Cases) (version : Version) (old new : File) where
   -- nothing is read otherwise where nothing was written
-  reading_stays : (b : Bool) (may : ℕ → Type 0) (nothing besides : Type 0) → IsSet cases version b old
-      → MatchBool b (LeavesSound cases version old new may nothing besides) (LeavesUnsound old new)
+  reading_stays : (b : Bool) (may : ℕ → Type 0) (grows : ℕ) (nothing besides : Type 0) → IsSet cases version b old
+      → MatchBool b (LeavesSound cases version old new may grows nothing besides) (LeavesUnsound old new)
       → nothing → old.failed ≡ false → new.failed ≡ false → new.reading ≡ old.reading
-  reading_stays true may nothing besides set l none was calm = same_reading cases version old new (set was) (l.sound calm) (l.stays none calm)
-  reading_stays false may nothing besides set l none was calm = (l.1 calm).1
+  reading_stays true may grows nothing besides set l none was calm = same_reading cases version old new (set was) (l.sound calm) (l.stays none calm)
+  reading_stays false may grows nothing besides set l none was calm = (l.1 calm).1
 
-  sticks_by : (b : Bool) (may : ℕ → Type 0) (nothing besides : Type 0) → MatchBool b (LeavesSound cases version old new may nothing besides) (LeavesUnsound old new)
+  sticks_by : (b : Bool) (may : ℕ → Type 0) (grows : ℕ) (nothing besides : Type 0) → MatchBool b (LeavesSound cases version old new may grows nothing besides) (LeavesUnsound old new)
       → old.failed ≡ true → new.failed ≡ true
-  sticks_by true may nothing besides l = l.failed
-  sticks_by false may nothing besides l = l.0
+  sticks_by true may grows nothing besides l = l.failed
+  sticks_by false may grows nothing besides l = l.0
 
-  pub set_next : (b : Bool) (may : ℕ → Type 0) (nothing besides : Type 0) → MatchBool b (LeavesSound cases version old new may nothing besides) (LeavesUnsound old new) → IsSet cases version b new
-  set_next true may nothing besides l = l.sound
-  set_next false may nothing besides l = λ calm. tt
+  pub set_next : (b : Bool) (may : ℕ → Type 0) (grows : ℕ) (nothing besides : Type 0) → MatchBool b (LeavesSound cases version old new may grows nothing besides) (LeavesUnsound old new) → IsSet cases version b new
+  set_next true may grows nothing besides l = l.sound
+  set_next false may grows nothing besides l = λ calm. tt
 
   was_calm : (old.failed ≡ true → new.failed ≡ true) → new.failed ≡ false → old.failed ≡ false
   was_calm sticks calm = go old.failed refl
@@ -220,13 +220,16 @@ module _ (cases : Cases) (version : Version) (sound : Bool) (old new : File) (ca
   state f = record { tree = f.tree; root_len = (root_entry f.reading).stream_len; failed = f.failed }
 
   abbrev its_rule : Rule
-  its_rule = rule_from cases (root_len old) old.tree call
+  its_rule = rule_from cases (root_entry old.reading).stream_len old.tree call
 
   abbrev no_entry : Causes
   no_entry = lacking sound new (HasNoEntry new.reading)
 
   abbrev Nothing : Type 0
   Nothing = ((refusal : Refusal) × (reply ≡ refused refusal)) ⊎ (is_changing its_rule.kind ≡ false)
+
+  abbrev Grows : ℕ
+  Grows = entries_per_sector version + files.most_made call
 
   abbrev May : ℕ → Type 0
   May k = files.MayLose cases old.reading call k
@@ -256,13 +259,13 @@ module _ (cases : Cases) (version : Version) (sound : Bool) (old new : File) (ca
   failed_back k f h = (h, f)
 
   runs_here : CallRuns no_entry (setting_by cases version sound) (state old) call reply (state new)
-      → MatchBool old.failed (OnFailed its_rule.kind reply) (Follows cases version sound old its_rule reply new ⊎ Breaks cases version sound old its_rule reply new)
+      → MatchBool old.failed (OnFailed its_rule.kind reply) (FollowsRule cases version sound old its_rule reply new ⊎ Breaks cases version sound old its_rule reply new)
   runs_here h = go old.failed refl h
     where
       go : (b : Bool) → old.failed ≡ b
           → MatchBool b (rules.OnFailed no_entry (kind_of call) reply (state new))
           (FollowsRules (setting_by cases version sound) (state old) call reply (state new) ⊎ IsBroken no_entry (setting_by cases version sound) (state old) call reply (state new))
-          → MatchBool b (OnFailed its_rule.kind reply) (Follows cases version sound old its_rule reply new ⊎ Breaks cases version sound old its_rule reply new)
+          → MatchBool b (OnFailed its_rule.kind reply) (FollowsRule cases version sound old its_rule reply new ⊎ Breaks cases version sound old its_rule reply new)
       go true e x = by_kinds cases old.tree (λ k l. rules.OnFailed no_entry k reply (state new) → OnFailed l reply) failed_here (λ y. y.0) (λ y. y.0) call x
       go false e (inl f) = inl (record {
         step = subst (λ o. MatchOption o ((reply ≡ its_rule.reply) × (new.tree ≡ its_rule.tree)) (λ refusal. (reply ≡ refused refusal) × (new.tree ≡ old.tree))) outcome_same f.step;
@@ -282,12 +285,12 @@ module _ (cases : Cases) (version : Version) (sound : Bool) (old new : File) (ca
 
   runs_back : (IsSame old new → Nothing → old.failed ≡ false → state new ≡ state old) → (old.failed ≡ true → new.failed ≡ true)
       → (old.failed ≡ false → reply ≡ refused file_full → no_entry.full)
-      → MatchBool old.failed (OnFailed its_rule.kind reply) (Follows cases version sound old its_rule reply new ⊎ Breaks cases version sound old its_rule reply new)
+      → MatchBool old.failed (OnFailed its_rule.kind reply) (FollowsRule cases version sound old its_rule reply new ⊎ Breaks cases version sound old its_rule reply new)
       → CallRuns no_entry (setting_by cases version sound) (state old) call reply (state new)
   runs_back up sticks lacks h = go old.failed refl h
     where
       go : (b : Bool) → old.failed ≡ b
-          → MatchBool b (OnFailed its_rule.kind reply) (Follows cases version sound old its_rule reply new ⊎ Breaks cases version sound old its_rule reply new)
+          → MatchBool b (OnFailed its_rule.kind reply) (FollowsRule cases version sound old its_rule reply new ⊎ Breaks cases version sound old its_rule reply new)
           → MatchBool b (rules.OnFailed no_entry (kind_of call) reply (state new))
           (FollowsRules (setting_by cases version sound) (state old) call reply (state new) ⊎ IsBroken no_entry (setting_by cases version sound) (state old) call reply (state new))
       go true e x = by_kinds cases old.tree (λ k l. OnFailed l reply → rules.OnFailed no_entry k reply (state new)) (λ k. failed_back k (sticks e)) (λ y. (y, sticks e)) (λ y. (y, sticks e)) call x
@@ -319,13 +322,16 @@ module _ (cases : Cases) (version : Version) (sound : Bool) (old new : File) (ca
   nothing_back (inr e) = inr (changing_same cases old.tree call ∙ e)
 
   leaves_here : (b : Bool) → MatchBool b (Keeps cases version old (by_call call reply) new) (LeavesUnsound old new)
-      → MatchBool b (LeavesSound cases version old new May Nothing (MeansIt new)) (LeavesUnsound old new)
+      → MatchBool b (LeavesSound cases version old new May Grows Nothing (MeansIt new)) (LeavesUnsound old new)
   leaves_here true k = record {
     failed = k.failed;
     others = k.others;
     header = k.header;
     sound = k.sound;
     tidy = k.tidy;
+    sectors = k.sectors;
+    mini_sectors = k.mini_sectors;
+    entries = k.entries;
     stays = λ none. k.stays (nothing_back none);
     besides = k.means tt;
   }
@@ -336,7 +342,7 @@ module _ (cases : Cases) (version : Version) (sound : Bool) (old new : File) (ca
   Caused = old.failed ≡ false → (reply ≡ refused file_full → FullByCall cases version old call new × Unfailed new (HasNoEntry new.reading))
       × (reply ≡ refused out_of_memory → MemoryByCall cases old call new)
 
-  leaves_back : (b : Bool) → (IsTrue b → Caused) → MatchBool b (LeavesSound cases version old new May Nothing (MeansIt new)) (LeavesUnsound old new)
+  leaves_back : (b : Bool) → (IsTrue b → Caused) → MatchBool b (LeavesSound cases version old new May Grows Nothing (MeansIt new)) (LeavesUnsound old new)
       → MatchBool b (Keeps cases version old (by_call call reply) new) (LeavesUnsound old new)
   leaves_back true caused l = record {
     failed = l.failed;
@@ -348,6 +354,9 @@ module _ (cases : Cases) (version : Version) (sound : Bool) (old new : File) (ca
     kept_back = λ no. absurd no;
     sound = l.sound;
     tidy = l.tidy;
+    sectors = l.sectors;
+    mini_sectors = l.mini_sectors;
+    entries = l.entries;
     means = λ is. l.besides;
     stays = λ none. l.stays (nothing_here none);
   }
@@ -357,7 +366,7 @@ module _ (cases : Cases) (version : Version) (sound : Bool) (old new : File) (ca
   LongCall = CallStep (seen_by cases version sound) (kept_by cases version sound) (setting_by cases version sound) old call reply new
 
   abbrev pub ShortCall : Type 0
-  ShortCall = short.CallStep cases version sound old its_rule May reply new
+  ShortCall = short.CallStep cases version sound old its_rule May Grows reply new
 
   pub call_here : LongCall → ShortCall
   call_here h = record {
@@ -382,8 +391,8 @@ module _ (cases : Cases) (version : Version) (sound : Bool) (old new : File) (ca
 
   pub call_back : IsSet cases version sound old → (IsTrue sound → Caused) → ShortCall → LongCall
   call_back set caused h =
-      let sticks = sticks_by cases version old new sound May Nothing (MeansIt new) h.leaves in
-      let same = reading_stays cases version old new sound May Nothing (MeansIt new) set h.leaves in
+      let sticks = sticks_by cases version old new sound May Grows Nothing (MeansIt new) h.leaves in
+      let same = reading_stays cases version old new sound May Grows Nothing (MeansIt new) set h.leaves in
       record {
         runs = call_weaker no_entry (causes_between (seen_by cases version sound old) (seen_by cases version sound new) no_entry.full) (no_rise sound old new) (λ x. x)
             (setting_by cases version sound) (state old) (state new) call reply
@@ -395,6 +404,14 @@ module _ (cases : Cases) (version : Version) (sound : Bool) (old new : File) (ca
       }
 
 -- ---- operations on a stream
+
+-- a reply that is served is no refusal
+no_refusal : (reply : StreamReply) → is_served reply ≡ true → (refusal : Refusal) → reply ≢ not_done refusal
+no_refusal reply is refusal e = let w : false ≡ true = sym (ap is_served e) ∙ is in cc
+
+served : (reply : StreamReply) → ((refusal : Refusal) → reply ≢ not_done refusal) → is_served reply ≡ true
+served (not_done refusal) never = absurd (never refusal refl)
+served reply never = refl
 
 sought_same : (s : StreamState) (to : SeekFrom) → streams.sought s (whence_of to) ≡ sought s to
 sought_same s (Start at) = refl
@@ -430,11 +447,13 @@ module _ (cases : Cases) (version : Version) (sound : Bool) (names : List (List 
     allowed_back o h = h
 
     failed_op : (o : StreamOp A) → StreamOnFailed (stream_call_of o) reply run_now → OpOnFailed o reply
-    failed_op op.Position h = h.1
+    failed_op op.Position h = no_refusal reply h.1
+    failed_op op.Len h = no_refusal reply h.1
     failed_op o h = h.1
 
     failed_op_back : (o : StreamOp A) → new.failed ≡ true → OpOnFailed o reply → StreamOnFailed (stream_call_of o) reply run_now
-    failed_op_back op.Position f h = (f, h)
+    failed_op_back op.Position f h = (f, served reply h)
+    failed_op_back op.Len f h = (f, served reply h)
     failed_op_back o f h = (f, h)
 
     -- what lacks where the numbers are blamed
@@ -541,13 +560,16 @@ module _ (cases : Cases) (version : Version) (sound : Bool) (names : List (List 
       its_deed = by_stream_call names s (stream_call_of o) reply t
 
       op_leaves_here : (b : Bool) → MatchBool b (Keeps cases version old its_deed new) (LeavesUnsound old new)
-          → MatchBool b (LeavesSound cases version old new At Idle Differs) (LeavesUnsound old new)
+          → MatchBool b (LeavesSound cases version old new At 0 Idle Differs) (LeavesUnsound old new)
       op_leaves_here true k = record {
         failed = k.failed;
         others = k.others;
         header = k.header;
         sound = k.sound;
         tidy = k.tidy;
+        sectors = k.sectors;
+        mini_sectors = k.mini_sectors;
+        entries = k.entries;
         stays = λ none. idle_here o k.kept_back (λ calm leaves. k.stays leaves calm) none;
         besides = k.content;
       }
@@ -606,7 +628,7 @@ module _ (cases : Cases) (version : Version) (sound : Bool) (names : List (List 
 
       op_leaves_back : (b : Bool) → (IsTrue b → reply ≡ not_done file_full → Unfailed old (short.FullFor cases version sound names s old o new))
           → MatchBool old.failed (OpOnFailed o reply) ((OpStep limits s o reply t × (new.failed ≡ false)) ⊎ OpBreaks limits s o reply t new.failed)
-          → MatchBool b (LeavesSound cases version old new At Idle Differs) (LeavesUnsound old new)
+          → MatchBool b (LeavesSound cases version old new At 0 Idle Differs) (LeavesUnsound old new)
           → MatchBool b (Keeps cases version old its_deed new) (LeavesUnsound old new)
       op_leaves_back true full runs l = record {
         failed = l.failed;
@@ -618,6 +640,9 @@ module _ (cases : Cases) (version : Version) (sound : Bool) (names : List (List 
         kept_back = left_alone runs l.stays;
         sound = l.sound;
         tidy = l.tidy;
+        sectors = l.sectors;
+        mini_sectors = l.mini_sectors;
+        entries = l.entries;
         means = λ no. absurd no;
         stays = λ none. l.stays (file_here o none);
       }
@@ -639,14 +664,14 @@ module _ (cases : Cases) (version : Version) (sound : Bool) (names : List (List 
       pub op_back : IsSet cases version sound old → OpRuns cases version sound names s old o reply t new
           → StreamCallStep (seen_by cases version sound) (kept_by cases version sound) (setting_by cases version sound) names s old (stream_call_of o) reply t new
       op_back set h =
-          let sticks = sticks_by cases version old new sound At Idle Differs h.leaves in
+          let sticks = sticks_by cases version old new sound At 0 Idle Differs h.leaves in
           record {
             runs = stream_call_weaker (lacks_of o)
                 (causes_between (seen_by cases version sound old) (seen_by cases version sound new) (LacksFor (seen_by cases version sound new) names (stream_call_of o)))
                 (no_rise sound old new) (λ x. x) limits (record { stream = s; failed = old.failed }) run_now (stream_call_of o) reply
                 (runs_op_back o sticks (λ was e. lacks_from sound o (λ is. (op_full_back o (h.full is e was)).1)) h.runs);
             stays = λ none calm. seen_as_before cases version old new sound
-                (reading_stays cases version old new sound At Idle Differs set h.leaves (file_here o none) (was_calm cases version old new sticks calm) calm) calm;
+                (reading_stays cases version old new sound At 0 Idle Differs set h.leaves (file_here o none) (was_calm cases version old new sticks calm) calm) calm;
             counted = λ none. refl;
             kept = op_leaves_back sound h.full h.runs h.leaves;
           }
@@ -711,19 +736,22 @@ module _ (cases : Cases) (version : Version) (sound : Bool) (path : List ℕ) (t
       go false e = h e
 
   closing_leaves : (b : Bool) → MatchBool b (Keeps cases version old (by_closing (names_at path) s closing) new) (LeavesUnsound old new)
-      → MatchBool b (LeavesSound cases version old new At' (s.pending ≡ false) Done) (LeavesUnsound old new)
+      → MatchBool b (LeavesSound cases version old new At' 0 (s.pending ≡ false) Done) (LeavesUnsound old new)
   closing_leaves true k = record {
     failed = k.failed;
     others = k.others;
     header = k.header;
     sound = k.sound;
     tidy = k.tidy;
+    sectors = k.sectors;
+    mini_sectors = k.mini_sectors;
+    entries = k.entries;
     stays = k.stays;
     besides = λ calm. (k.content calm, k.means tt calm);
   }
   closing_leaves false k = k
 
-  closing_leaves_back : (b : Bool) → (IsTrue b → closing ≡ Some file_full → Unfailed old (HasNoRoomForKept cases old (names_at path) s)) → MatchBool b (LeavesSound cases version old new At' (s.pending ≡ false) Done) (LeavesUnsound old new)
+  closing_leaves_back : (b : Bool) → (IsTrue b → closing ≡ Some file_full → Unfailed old (HasNoRoomForKept cases old (names_at path) s)) → MatchBool b (LeavesSound cases version old new At' 0 (s.pending ≡ false) Done) (LeavesUnsound old new)
       → MatchBool b (Keeps cases version old (by_closing (names_at path) s closing) new) (LeavesUnsound old new)
   closing_leaves_back true why l = record {
     failed = l.failed;
@@ -735,6 +763,9 @@ module _ (cases : Cases) (version : Version) (sound : Bool) (path : List ℕ) (t
     kept_back = λ no. absurd no;
     sound = l.sound;
     tidy = l.tidy;
+    sectors = l.sectors;
+    mini_sectors = l.mini_sectors;
+    entries = l.entries;
     means = λ is calm. (l.besides calm).1;
     stays = l.stays;
   }
@@ -752,13 +783,13 @@ module _ (cases : Cases) (version : Version) (sound : Bool) (path : List ℕ) (t
   pub closing_back : IsSet cases version sound old → Closing cases version sound (names_at path) tree s old closing new
       → ClosingStep (seen_by cases version sound) (kept_by cases version sound) (setting_by cases version sound) path tree s old closing new
   closing_back set h =
-      let sticks = sticks_by cases version old new sound At' (s.pending ≡ false) Done h.leaves in
+      let sticks = sticks_by cases version old new sound At' 0 (s.pending ≡ false) Done h.leaves in
       record {
         closes = closing_weaker full (causes_between (seen_by cases version sound old) (seen_by cases version sound new) full.full) (no_rise sound old new) (λ x. x) stream_then closing new.failed
             (closes_back sticks h.closes);
         closed = unless_failed_back IsClosed h.closed;
         stays = λ none calm. seen_as_before cases version old new sound
-            (reading_stays cases version old new sound At' (s.pending ≡ false) Done set h.leaves none (was_calm cases version old new sticks calm) calm) calm;
+            (reading_stays cases version old new sound At' 0 (s.pending ≡ false) Done set h.leaves none (was_calm cases version old new sticks calm) calm) calm;
         counted = λ none. refl;
         kept = closing_leaves_back sound h.full h.leaves;
       }

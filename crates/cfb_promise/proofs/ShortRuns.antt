@@ -1,67 +1,91 @@
 -- Runs of the code's commands by their own rules are runs of the rules' commands, both ways.
-use Rattle.std.proofs.Common.{◌≡◌, ℕ, List, [], ◌∷◌, Bool, true, false, refl, sym, subst}
-use Rattle.std.specs.Prelude.{IsTrue, Some, None, Result, Ok, Err, chars, map, string_bytes}
+use Rattle.std.proofs.Common.{◌≡◌, ◌∙◌, ℕ, List, [], ◌∷◌, Bool, true, false, refl, sym, ap, subst}
+use Rattle.std.specs.Prelude.{IsTrue, Option, Some, None, Result, Ok, Err, chars, map, string_bytes}
+use Rattle.std.proofs.lemmas.Option.{none-some, same_Some}
 use Rattle.cfb_format.specs.declared.error.Error.{Error}
 use Rattle.cfb_format.specs.declared.version.Version.{Version}
 use Rattle.cfb_format.specs.Names.{Cases}
 use Rattle.cfb_format.specs.Reading.{Reading, Reads}
 use Rattle.cfb_format.proofs.Unique.{Reads-unique}
-use Rattle.cfb_rules.specs.Calls.{Call, Reply, create_storage, create_storage_all, done, entry, exists, is_storage, is_stream, read_storage, refused, remove_storage, remove_storage_all, remove_stream, set_created_time, set_modified_time, set_state_bits, set_storage_clsid, touch, walk_storage}
+use Rattle.cfb_rules.specs.Calls.{Call, Reply, create_storage, create_storage_all, done, entries, entry, exists, is_storage, is_stream, flag, one_entry, read_storage, refused, remove_storage, remove_storage_all, remove_stream, set_created_time, set_modified_time, set_state_bits, set_storage_clsid, touch, walk_storage}
 use Rattle.cfb_rules.specs.Calls as calls
 use Rattle.cfb_rules.proofs.LegalRuns.{trees_legal}
-use Rattle.cfb_rules.specs.Lists.{CallStep, CommandReply, CommandRuns, IsLegal, IsLegalRun, StreamCallsRun, names_at, opening_call, replied, streamed}
-use Rattle.cfb_rules.specs.Refusal.{file_full, out_of_memory}
+use Rattle.cfb_rules.specs.Lists.{CallStep, CommandRuns, IsLegal, IsLegalRun, StreamCallStep, StreamCallsRun, names_at, opening_call}
+use Rattle.cfb_rules.specs.Refusal.{Refusal, file_full, out_of_memory}
 use Rattle.cfb_rules.specs.Runs.{opened_by_path}
-use Rattle.cfb_rules.specs.StreamCalls.{StreamReply, StreamState}
-use Rattle.cfb_commands.specs.Commands.{command_of, command_reply_of, opening_of, refusal_of_error, refusal_of_result, stream_call_of, stream_reply_of}
+use Rattle.cfb_rules.specs.StreamCalls.{StreamReply, StreamState, count, got, not_done, offset, ready}
+use Rattle.cfb_commands.specs.Commands.{call_answer, command_of, command_reply_of, opening_of, refusal_of_error, refusal_of_result, stream_answer, stream_call_of, stream_reply_of}
+use Rattle.cfb_commands.specs.Kinds.{AreOfKinds, IsOfKind, ReplyKind, StreamReplyKind, kind_of_answer, kind_of_command, kind_of_op}
+use Rattle.cfb_commands.specs.Kinds as forms
 use Rattle.cfb_commands.specs.declared.command.Command.{Command}
 use Rattle.cfb_commands.specs.declared.command.Command.TheVariants as command
 use Rattle.cfb_commands.specs.declared.command.Opening.TheVariants as how
 use Rattle.cfb_commands.specs.declared.command.Reply.{Reply as TheReply}
 use Rattle.cfb_commands.specs.declared.command.Reply.TheVariants as reply
 use Rattle.cfb_commands.specs.declared.command.StreamOp.{StreamOp}
+use Rattle.cfb_commands.specs.declared.command.StreamOp.TheVariants as op
 use Rattle.cfb_commands.specs.declared.command.StreamReply.{StreamReply as TheAnswer}
 use Rattle.cfb_commands.specs.declared.command.StreamReply.TheVariants as answer
-use Rattle.cfb_promise.specs.Errors.{answer_of, reply_of, told}
+use Rattle.cfb_promise.specs.Errors.{answer_of, told}
 use Rattle.cfb_promise.specs.Files.{File, FullByCall, HasNoEntry, HasNoEntryOnTheWay, HasSoundBytes, MemoryByCall, Stands, Unfailed}
 use Rattle.cfb_promise.specs.Given.{LeadsTo, LeadsToFailed}
 use Rattle.cfb_promise.specs.Promise.{BreaksOff, IsGivenBack, IsTold}
-use Rattle.cfb_promise.specs.Steps.{Does, OpsRun, Runs}
+use Rattle.cfb_promise.specs.Steps.{Closing, Does, OpsRun, Runs}
 use Rattle.cfb_promise.specs.Steps as short
 use Rattle.cfb_promise.proofs.ShortCalls.{Caused, IsSet, call_back, call_caused, call_here, closing_back, closing_here, kept_by, op_back, op_here, seen_by, set_next, setting_by}
 
 -- ---- replies
 
+-- a result is told in the same way
+call_told : {T : Type 0} (answer : T → Reply) (result : Result T Error) → call_answer answer result ≡ told answer refused result
+call_told answer (Ok x) = refl
+call_told answer (Err e) = refl
+
+stream_told : {T : Type 0} (answer : T → StreamReply) (result : Result T Error) → stream_answer answer result ≡ told answer not_done result
+stream_told answer (Ok x) = refl
+stream_told answer (Err e) = refl
+
+closing_told : {T : Type 0} (result : Result T Error) → refusal_of_result result ≡ told (λ _. None) Some result
+closing_told (Ok x) = refl
+closing_told (Err e) = refl
+
+-- the kinds of the operations of a stream command
+abbrev kinds_in : ReplyKind → List StreamReplyKind
+kinds_in (forms.streamed list) = list
+kinds_in kind = []
+
+abbrev first_kind : List StreamReplyKind → StreamReplyKind
+first_kind [] = forms.nothing
+first_kind (k ∷ list) = k
+
+abbrev other_kinds : List StreamReplyKind → List StreamReplyKind
+other_kinds [] = []
+other_kinds (k ∷ list) = list
+
 module _ {A : Type 0} where
-  answer_same : (a : TheAnswer A) → answer_of a ≡ stream_reply_of a
-  answer_same (answer.Bytes (Ok x)) = refl
-  answer_same (answer.Bytes (Err e)) = refl
-  answer_same (answer.Count (Ok x)) = refl
-  answer_same (answer.Count (Err e)) = refl
-  answer_same (answer.Place (Ok x)) = refl
-  answer_same (answer.Place (Err e)) = refl
-  answer_same (answer.Done (Ok x)) = refl
-  answer_same (answer.Done (Err e)) = refl
+  -- a reply of the operation's kind is its answer,
+  said : (o : StreamOp A) (a : TheAnswer A) → kind_of_answer a ≡ kind_of_op o → answer_of o a ≡ Some (stream_reply_of a)
+  said (op.Read wanted) (answer.Bytes result) e = ap Some (sym (stream_told (λ bytes. got bytes.items) result))
+  said op.ReadToEnd (answer.Bytes result) e = ap Some (sym (stream_told (λ bytes. got bytes.items) result))
+  said (op.Write bytes) (answer.Count result) e = ap Some (sym (stream_told count result))
+  said (op.Seek to) (answer.Place result) e = ap Some (sym (stream_told offset result))
+  said (op.SetLen len) (answer.Done result) e = ap Some (sym (stream_told (λ _. ready) result))
+  said op.Flush (answer.Done result) e = ap Some (sym (stream_told (λ _. ready) result))
+  said op.Position (answer.Place result) e = ap Some (sym (stream_told offset result))
+  said op.Len (answer.Place result) e = ap Some (sym (stream_told offset result))
+  said o a e = absurd (cc)
 
-  answers_same : (xs : List (TheAnswer A)) → map answer_of xs ≡ map stream_reply_of xs
-  answers_same [] = refl
-  answers_same (a ∷ xs) = λ j. answer_same a j ∷ answers_same xs j
-
-  -- a reply is told in the same way
-  pub reply_same : (r : TheReply A) → reply_of r ≡ command_reply_of r
-  reply_same (reply.Done (Ok x)) = refl
-  reply_same (reply.Done (Err e)) = refl
-  reply_same (reply.Flag b) = refl
-  reply_same (reply.Entry (Ok x)) = refl
-  reply_same (reply.Entry (Err e)) = refl
-  reply_same (reply.Entries (Ok x)) = refl
-  reply_same (reply.Entries (Err e)) = refl
-  reply_same (reply.Stream (Err e)) = refl
-  reply_same (reply.Stream (Ok works)) = go works.1
-    where
-      go : {T : Type 0} (closing : Result T Error) → streamed (map answer_of works.0.items) (told (λ _. None) Some closing) ≡ streamed (map stream_reply_of works.0.items) (refusal_of_result closing)
-      go (Ok x) = λ j. streamed (answers_same works.0.items j) None
-      go (Err e) = λ j. streamed (answers_same works.0.items j) (Some (refusal_of_error e))
+  -- and has no other one
+  unsaid : (o : StreamOp A) (a : TheAnswer A) (reply : StreamReply) → answer_of o a ≡ Some reply → stream_reply_of a ≡ reply
+  unsaid (op.Read wanted) (answer.Bytes result) reply e = stream_told (λ bytes. got bytes.items) result ∙ same_Some _ reply e
+  unsaid op.ReadToEnd (answer.Bytes result) reply e = stream_told (λ bytes. got bytes.items) result ∙ same_Some _ reply e
+  unsaid (op.Write bytes) (answer.Count result) reply e = stream_told count result ∙ same_Some _ reply e
+  unsaid (op.Seek to) (answer.Place result) reply e = stream_told offset result ∙ same_Some _ reply e
+  unsaid (op.SetLen len) (answer.Done result) reply e = stream_told (λ _. ready) result ∙ same_Some _ reply e
+  unsaid op.Flush (answer.Done result) reply e = stream_told (λ _. ready) result ∙ same_Some _ reply e
+  unsaid op.Position (answer.Place result) reply e = stream_told offset result ∙ same_Some _ reply e
+  unsaid op.Len (answer.Place result) reply e = stream_told offset result ∙ same_Some _ reply e
+  unsaid o a reply e = absurd (none-some reply e)
 
 -- ---- commands
 
@@ -167,120 +191,183 @@ module _ (cases : Cases) (version : Version) (sound : Bool) where
     call_from : (c : Command A) (old new : File) (reply : Reply) → IsSet cases version sound old → Here old c reply new → Long old (call_of c) reply new
     call_from (command.Stream how.Open path ops) old new reply set h =
         let c = command.Stream how.Open path ops in
-        call_back cases version sound old new (call_of c) reply set (caused_from c old new reply (set_next cases version old new sound _ _ _ h.0.leaves) h.1) h.0
+        call_back cases version sound old new (call_of c) reply set (caused_from c old new reply (set_next cases version old new sound _ _ _ _ h.0.leaves) h.1) h.0
     call_from (command.Stream how.Create path ops) old new reply set h =
         let c = command.Stream how.Create path ops in
-        call_back cases version sound old new (call_of c) reply set (caused_from c old new reply (set_next cases version old new sound _ _ _ h.0.leaves) h.1) h.0
+        call_back cases version sound old new (call_of c) reply set (caused_from c old new reply (set_next cases version old new sound _ _ _ _ h.0.leaves) h.1) h.0
     call_from (command.Stream how.CreateNew path ops) old new reply set h =
         let c = command.Stream how.CreateNew path ops in
-        call_back cases version sound old new (call_of c) reply set (caused_from c old new reply (set_next cases version old new sound _ _ _ h.0.leaves) h.1) h.0
+        call_back cases version sound old new (call_of c) reply set (caused_from c old new reply (set_next cases version old new sound _ _ _ _ h.0.leaves) h.1) h.0
     call_from c old new reply set h =
-        call_back cases version sound old new (call_of c) reply set (caused_from c old new reply (set_next cases version old new sound _ _ _ h.0.leaves) h.1) h.0
+        call_back cases version sound old new (call_of c) reply set (caused_from c old new reply (set_next cases version old new sound _ _ _ _ h.0.leaves) h.1) h.0
 
     -- operations one after the other
-    ops_to : (names : List (List ℕ)) (ops : List (StreamOp A)) (replies : List StreamReply) (s t : StreamState) (old new : File)
-        → StreamCallsRun (seen_by cases version sound) (kept_by cases version sound) (setting_by cases version sound) names s old (map stream_call_of ops) replies t new
-        → OpsRun cases version sound names s old ops replies t new
-    ops_to names [] [] s t old new h = h
-    ops_to names [] (reply ∷ replies) s t old new h = h
-    ops_to names (o ∷ ops) [] s t old new h = h
-    ops_to names (o ∷ ops) (reply ∷ replies) s t old new (middle, between, step, rest) =
-        (middle, between, op_here cases version sound names s middle old between reply o step, ops_to names ops replies middle t between new rest)
-
-    ops_from : (names : List (List ℕ)) (ops : List (StreamOp A)) (replies : List StreamReply) (s t : StreamState) (old new : File) → IsSet cases version sound old
-        → OpsRun cases version sound names s old ops replies t new
-        → StreamCallsRun (seen_by cases version sound) (kept_by cases version sound) (setting_by cases version sound) names s old (map stream_call_of ops) replies t new
-    ops_from names [] [] s t old new set h = h
-    ops_from names [] (reply ∷ replies) s t old new set h = h
-    ops_from names (o ∷ ops) [] s t old new set h = h
-    ops_from names (o ∷ ops) (reply ∷ replies) s t old new set (middle, between, step, rest) = (
+    ops_to : (names : List (List ℕ)) (ops : List (StreamOp A)) (answers : List (TheAnswer A)) (s t : StreamState) (old new : File)
+        → map kind_of_answer answers ≡ map kind_of_op ops
+        → StreamCallsRun (seen_by cases version sound) (kept_by cases version sound) (setting_by cases version sound) names s old (map stream_call_of ops) (map stream_reply_of answers) t new
+        → OpsRun cases version sound names s old ops answers t new
+    ops_to names [] [] s t old new same h = h
+    ops_to names [] (a ∷ answers) s t old new same h = h
+    ops_to names (o ∷ ops) [] s t old new same h = h
+    ops_to names (o ∷ ops) (a ∷ answers) s t old new same (middle, between, step, rest) = (
+      stream_reply_of a,
+      said o a (ap first_kind same),
       middle,
       between,
-      op_back cases version sound names s middle old between reply o set step,
-      ops_from names ops replies middle t between new (set_next cases version old between sound _ _ _ step.leaves) rest,
+      op_here cases version sound names s middle old between (stream_reply_of a) o step,
+      ops_to names ops answers middle t between new (ap other_kinds same) rest,
     )
 
-    ops_set : (names : List (List ℕ)) (ops : List (StreamOp A)) (replies : List StreamReply) (s t : StreamState) (old new : File) → IsSet cases version sound old
-        → OpsRun cases version sound names s old ops replies t new → IsSet cases version sound new
+    ops_from : (names : List (List ℕ)) (ops : List (StreamOp A)) (answers : List (TheAnswer A)) (s t : StreamState) (old new : File) → IsSet cases version sound old
+        → OpsRun cases version sound names s old ops answers t new
+        → StreamCallsRun (seen_by cases version sound) (kept_by cases version sound) (setting_by cases version sound) names s old (map stream_call_of ops) (map stream_reply_of answers) t new
+    ops_from names [] [] s t old new set h = h
+    ops_from names [] (a ∷ answers) s t old new set h = h
+    ops_from names (o ∷ ops) [] s t old new set h = h
+    ops_from names (o ∷ ops) (a ∷ answers) s t old new set (reply, is, middle, between, step, rest) = (
+      middle,
+      between,
+      subst (λ (x : StreamReply). StreamCallStep (seen_by cases version sound) (kept_by cases version sound) (setting_by cases version sound) names s old (stream_call_of o) x middle between)
+          (sym (unsaid o a reply is)) (op_back cases version sound names s middle old between reply o set step),
+      ops_from names ops answers middle t between new (set_next cases version old between sound _ _ _ _ step.leaves) rest,
+    )
+
+    ops_set : (names : List (List ℕ)) (ops : List (StreamOp A)) (answers : List (TheAnswer A)) (s t : StreamState) (old new : File) → IsSet cases version sound old
+        → OpsRun cases version sound names s old ops answers t new → IsSet cases version sound new
     ops_set names [] [] s t old new set h = subst (λ (f : File). IsSet cases version sound f) (sym h.1) set
-    ops_set names [] (reply ∷ replies) s t old new set h = absurd h
+    ops_set names [] (a ∷ answers) s t old new set h = absurd h
     ops_set names (o ∷ ops) [] s t old new set h = absurd h
-    ops_set names (o ∷ ops) (reply ∷ replies) s t old new set (middle, between, step, rest) =
-        ops_set names ops replies middle t between new (set_next cases version old between sound _ _ _ step.leaves) rest
+    ops_set names (o ∷ ops) (a ∷ answers) s t old new set (reply, is, middle, between, step, rest) =
+        ops_set names ops answers middle t between new (set_next cases version old between sound _ _ _ _ step.leaves) rest
+
+    -- a result of a call is told in the same way
+    result_to : {T : Type 0} (c : Command A) (answer : T → Reply) (result : Result T Error) (old new : File) → Long old (call_of c) (call_answer answer result) new
+        → Here old c (told answer refused result) new
+    result_to c answer result old new h = call_to c old new (told answer refused result) (subst (λ (x : Reply). Long old (call_of c) x new) (call_told answer result) h)
+
+    result_from : {T : Type 0} (c : Command A) (answer : T → Reply) (result : Result T Error) (old new : File) → IsSet cases version sound old → Here old c (told answer refused result) new
+        → Long old (call_of c) (call_answer answer result) new
+    result_from c answer result old new set h =
+        subst (λ (x : Reply). Long old (call_of c) x new) (sym (call_told answer result)) (call_from c old new (told answer refused result) set h)
+
+    -- a command by the rules' commands
+    abbrev LongCommand : File → Command A → TheReply A → File → Type 0
+    LongCommand old c r new = CommandRuns (seen_by cases version sound) (kept_by cases version sound) (setting_by cases version sound) old (command_of c) (command_reply_of r) new
 
     -- one command
-    command_to : (c : Command A) (r : CommandReply) (old new : File)
-        → CommandRuns (seen_by cases version sound) (kept_by cases version sound) (setting_by cases version sound) old (command_of c) r new → Does cases version sound old c r new
-    command_to (command.Stream how path ops) (streamed replies closing) old new h = record {
+    command_to : (c : Command A) (r : TheReply A) (old new : File) → IsOfKind (kind_of_command c) r → LongCommand old c r new → Does cases version sound old c r new
+    command_to (command.Stream how path ops) (reply.Stream (Ok works)) old new k h = record {
       opened = h.opened;
       opens = call_to (command.Stream how path ops) old h.opened done h.opening;
       stream = h.stream;
       worked = h.worked;
-      works = ops_to (names_at (chars (string_bytes path))) ops.items replies (opened_by_path cases h.opened.tree (chars (string_bytes path))) h.stream h.opened h.worked h.works;
-      closes = closing_here cases version sound (chars (string_bytes path)) h.opened.tree h.stream h.worked new closing h.closes;
+      works = ops_to (names_at (chars (string_bytes path))) ops.items works.0.items (opened_by_path cases h.opened.tree (chars (string_bytes path))) h.stream h.opened h.worked
+          (k.2 ∙ sym (ap kinds_in k.1)) h.works;
+      closes = subst (λ (x : Option Refusal). Closing cases version sound (names_at (chars (string_bytes path))) h.opened.tree h.stream h.worked x new) (closing_told works.1)
+          (closing_here cases version sound (chars (string_bytes path)) h.opened.tree h.stream h.worked new (refusal_of_result works.1) h.closes);
     }
-    command_to (command.Stream how path ops) (replied reply) old new h = (h.0, call_to (command.Stream how path ops) old new reply h.1)
-    command_to command.Flush (replied reply) old new h = call_to command.Flush old new reply h
-    command_to c (streamed replies closing) old new h = h
-    command_to c (replied reply) old new h = call_to c old new reply h
+    command_to (command.Stream how path ops) (reply.Stream (Err e)) old new k h = call_to (command.Stream how path ops) old new (refused (refusal_of_error e)) h.1
+    command_to (command.Stream how path ops) r old new k h = absurd (cc)
+    command_to (command.Exists path) (reply.Flag b) old new k h = (b, refl, call_to (command.Exists path) old new (flag b) h)
+    command_to (command.Exists path) (reply.Stream result) old new k h = absurd (let e = k.1 in cc)
+    command_to (command.Exists path) r old new k h = absurd (cc)
+    command_to (command.IsStream path) (reply.Flag b) old new k h = (b, refl, call_to (command.IsStream path) old new (flag b) h)
+    command_to (command.IsStream path) (reply.Stream result) old new k h = absurd (let e = k.1 in cc)
+    command_to (command.IsStream path) r old new k h = absurd (cc)
+    command_to (command.IsStorage path) (reply.Flag b) old new k h = (b, refl, call_to (command.IsStorage path) old new (flag b) h)
+    command_to (command.IsStorage path) (reply.Stream result) old new k h = absurd (let e = k.1 in cc)
+    command_to (command.IsStorage path) r old new k h = absurd (cc)
+    command_to (command.Entry path) (reply.Entry result) old new k h = (result, refl, result_to (command.Entry path) one_entry result old new h)
+    command_to (command.Entry path) (reply.Stream result) old new k h = absurd (let e = k.1 in cc)
+    command_to (command.Entry path) r old new k h = absurd (cc)
+    command_to (command.ReadStorage path) (reply.Entries result) old new k h = (result, refl, result_to (command.ReadStorage path) (λ list. entries list.items) result old new h)
+    command_to (command.ReadStorage path) (reply.Stream result) old new k h = absurd (let e = k.1 in cc)
+    command_to (command.ReadStorage path) r old new k h = absurd (cc)
+    command_to (command.WalkStorage path) (reply.Entries result) old new k h = (result, refl, result_to (command.WalkStorage path) (λ list. entries list.items) result old new h)
+    command_to (command.WalkStorage path) (reply.Stream result) old new k h = absurd (let e = k.1 in cc)
+    command_to (command.WalkStorage path) r old new k h = absurd (cc)
+    command_to command.Flush (reply.Done result) old new k h = result_to command.Flush (λ _. done) result old new h
+    command_to command.Flush (reply.Stream result) old new k h = absurd (let e = k.1 in cc)
+    command_to command.Flush r old new k h = absurd (cc)
+    command_to c (reply.Done result) old new k h = result_to c (λ _. done) result old new h
+    command_to c (reply.Stream result) old new k h = absurd (let e = k.1 in cc)
+    command_to c r old new k h = absurd (cc)
 
-    command_from : (c : Command A) (r : CommandReply) (old new : File) → IsSet cases version sound old → Does cases version sound old c r new
-        → CommandRuns (seen_by cases version sound) (kept_by cases version sound) (setting_by cases version sound) old (command_of c) r new
-    command_from (command.Stream how path ops) (streamed replies closing) old new set h =
-        let opened = set_next cases version old h.opened sound _ _ _ h.opens.0.leaves in
-        let worked = ops_set (names_at (chars (string_bytes path))) ops.items replies _ h.stream h.opened h.worked opened h.works in
+    command_from : (c : Command A) (r : TheReply A) (old new : File) → IsSet cases version sound old → Does cases version sound old c r new → LongCommand old c r new
+    command_from (command.Stream how path ops) (reply.Stream (Ok works)) old new set h =
+        let opened = set_next cases version old h.opened sound _ _ _ _ h.opens.0.leaves in
+        let worked = ops_set (names_at (chars (string_bytes path))) ops.items works.0.items _ h.stream h.opened h.worked opened h.works in
         record {
           opened = h.opened;
           opening = call_from (command.Stream how path ops) old h.opened done set h.opens;
           stream = h.stream;
           worked = h.worked;
-          works = ops_from (names_at (chars (string_bytes path))) ops.items replies (opened_by_path cases h.opened.tree (chars (string_bytes path))) h.stream h.opened h.worked opened h.works;
-          closes = closing_back cases version sound (chars (string_bytes path)) h.opened.tree h.stream h.worked new closing worked h.closes;
+          works = ops_from (names_at (chars (string_bytes path))) ops.items works.0.items (opened_by_path cases h.opened.tree (chars (string_bytes path))) h.stream h.opened h.worked opened h.works;
+          closes = closing_back cases version sound (chars (string_bytes path)) h.opened.tree h.stream h.worked new (refusal_of_result works.1) worked
+              (subst (λ (x : Option Refusal). Closing cases version sound (names_at (chars (string_bytes path))) h.opened.tree h.stream h.worked x new) (sym (closing_told works.1)) h.closes);
         }
-    command_from (command.Stream how path ops) (replied reply) old new set h = (h.0, call_from (command.Stream how path ops) old new reply set h.1)
-    command_from command.Flush (replied reply) old new set h = call_from command.Flush old new reply set h
-    command_from c (streamed replies closing) old new set h = h
-    command_from c (replied reply) old new set h = call_from c old new reply set h
+    command_from (command.Stream how path ops) (reply.Stream (Err e)) old new set h =
+        ((refusal_of_error e, refl), call_from (command.Stream how path ops) old new (refused (refusal_of_error e)) set h)
+    command_from (command.Stream how path ops) r old new set h = absurd h
+    command_from (command.Exists path) r old new set (b, is, h) =
+        subst (λ (x : TheReply A). LongCommand old (command.Exists path) x new) (sym is) (call_from (command.Exists path) old new (flag b) set h)
+    command_from (command.IsStream path) r old new set (b, is, h) =
+        subst (λ (x : TheReply A). LongCommand old (command.IsStream path) x new) (sym is) (call_from (command.IsStream path) old new (flag b) set h)
+    command_from (command.IsStorage path) r old new set (b, is, h) =
+        subst (λ (x : TheReply A). LongCommand old (command.IsStorage path) x new) (sym is) (call_from (command.IsStorage path) old new (flag b) set h)
+    command_from (command.Entry path) r old new set (result, is, h) =
+        subst (λ (x : TheReply A). LongCommand old (command.Entry path) x new) (sym is) (result_from (command.Entry path) one_entry result old new set h)
+    command_from (command.ReadStorage path) r old new set (result, is, h) =
+        subst (λ (x : TheReply A). LongCommand old (command.ReadStorage path) x new) (sym is) (result_from (command.ReadStorage path) (λ list. entries list.items) result old new set h)
+    command_from (command.WalkStorage path) r old new set (result, is, h) =
+        subst (λ (x : TheReply A). LongCommand old (command.WalkStorage path) x new) (sym is) (result_from (command.WalkStorage path) (λ list. entries list.items) result old new set h)
+    command_from command.Flush (reply.Done result) old new set h = result_from command.Flush (λ _. done) result old new set h
+    command_from command.Flush r old new set h = absurd h
+    command_from c (reply.Done result) old new set h = result_from c (λ _. done) result old new set h
+    command_from c r old new set h = absurd h
 
     call_set : (c : Command A) (reply : Reply) (old new : File) → Here old c reply new → IsSet cases version sound new
-    call_set c reply old new h = set_next cases version old new sound _ _ _ h.0.leaves
+    call_set c reply old new h = set_next cases version old new sound _ _ _ _ h.0.leaves
 
-    command_set : (c : Command A) (r : CommandReply) (old new : File) → Does cases version sound old c r new → IsSet cases version sound new
-    command_set (command.Stream how path ops) (streamed replies closing) old new h = set_next cases version h.worked new sound _ _ _ h.closes.leaves
-    command_set (command.Stream how path ops) (replied reply) old new h = call_set (command.Stream how path ops) reply old new h.1
-    command_set command.Flush (replied reply) old new h = call_set command.Flush reply old new h
-    command_set c (streamed replies closing) old new h = absurd h
-    command_set c (replied reply) old new h = call_set c reply old new h
+    command_set : (c : Command A) (r : TheReply A) (old new : File) → Does cases version sound old c r new → IsSet cases version sound new
+    command_set (command.Stream how path ops) (reply.Stream (Ok works)) old new h = set_next cases version h.worked new sound _ _ _ _ h.closes.leaves
+    command_set (command.Stream how path ops) (reply.Stream (Err e)) old new h = call_set (command.Stream how path ops) (refused (refusal_of_error e)) old new h
+    command_set (command.Stream how path ops) r old new h = absurd h
+    command_set (command.Exists path) r old new (b, is, h) = call_set (command.Exists path) (flag b) old new h
+    command_set (command.IsStream path) r old new (b, is, h) = call_set (command.IsStream path) (flag b) old new h
+    command_set (command.IsStorage path) r old new (b, is, h) = call_set (command.IsStorage path) (flag b) old new h
+    command_set (command.Entry path) r old new (result, is, h) = call_set (command.Entry path) (told one_entry refused result) old new h
+    command_set (command.ReadStorage path) r old new (result, is, h) = call_set (command.ReadStorage path) (told (λ list. entries list.items) refused result) old new h
+    command_set (command.WalkStorage path) r old new (result, is, h) = call_set (command.WalkStorage path) (told (λ list. entries list.items) refused result) old new h
+    command_set command.Flush (reply.Done result) old new h = call_set command.Flush (told (λ _. done) refused result) old new h
+    command_set command.Flush r old new h = absurd h
+    command_set c (reply.Done result) old new h = call_set c (told (λ _. done) refused result) old new h
+    command_set c r old new h = absurd h
 
     -- a list of them
-    pub run_to : (cs : List (Command A)) (rs : List (TheReply A)) (old new : File)
+    pub run_to : (cs : List (Command A)) (rs : List (TheReply A)) (old new : File) → AreOfKinds (map kind_of_command cs) rs
         → IsLegalRun (seen_by cases version sound) (kept_by cases version sound) (setting_by cases version sound) old (map command_of cs) (map command_reply_of rs) new
         → Runs cases version sound old cs rs new
-    run_to [] [] old new h = h
-    run_to [] (r ∷ rs) old new h = h
-    run_to (c ∷ cs) [] old new h = h
-    run_to (c ∷ cs) (r ∷ rs) old new (middle, step, rest) =
-        (middle, subst (λ (x : CommandReply). Does cases version sound old c x middle) (sym (reply_same r)) (command_to c (command_reply_of r) old middle step), run_to cs rs middle new rest)
+    run_to [] [] old new kinds h = h
+    run_to [] (r ∷ rs) old new kinds h = h
+    run_to (c ∷ cs) [] old new kinds h = h
+    run_to (c ∷ cs) (r ∷ rs) old new kinds (middle, step, rest) = (middle, command_to c r old middle kinds.0 step, run_to cs rs middle new kinds.1 rest)
 
     pub run_from : (cs : List (Command A)) (rs : List (TheReply A)) (old new : File) → IsSet cases version sound old → Runs cases version sound old cs rs new
         → IsLegalRun (seen_by cases version sound) (kept_by cases version sound) (setting_by cases version sound) old (map command_of cs) (map command_reply_of rs) new
     run_from [] [] old new set h = h
     run_from [] (r ∷ rs) old new set h = h
     run_from (c ∷ cs) [] old new set h = h
-    run_from (c ∷ cs) (r ∷ rs) old new set (middle, step, rest) = (
-      middle,
-      subst (λ (x : CommandReply). CommandRuns (seen_by cases version sound) (kept_by cases version sound) (setting_by cases version sound) old (command_of c) x middle) (reply_same r)
-          (command_from c (reply_of r) old middle set step),
-      run_from cs rs middle new (command_set c (reply_of r) old middle step) rest,
-    )
+    run_from (c ∷ cs) (r ∷ rs) old new set (middle, step, rest) =
+        (middle, command_from c r old middle set step, run_from cs rs middle new (command_set c r old middle step) rest)
 
 -- ---- what the contracts say, and what is said of the rules' commands
 
 module _ {A : Type 0} (cases : Cases) (version : Version) (first : File) (stands : Stands cases version first) (cs : List (Command A)) (rs : List (TheReply A)) where
-  pub led : (given : List ℕ) → IsGivenBack cases version first (map command_of cs) (map command_reply_of rs) given → LeadsTo cases version first cs rs given
-  led given h = record {
+  pub led : (given : List ℕ) → AreOfKinds (map kind_of_command cs) rs → IsGivenBack cases version first (map command_of cs) (map command_reply_of rs) given → LeadsTo cases version first cs rs given
+  led given kinds h = record {
     last = h.last;
-    runs = run_to cases version true cs rs first h.last h.runs;
+    runs = run_to cases version true cs rs first h.last kinds h.runs;
     same_bytes = h.same_bytes;
     stands = h.stands;
     accepted = h.accepted;
@@ -297,10 +384,10 @@ module _ {A : Type 0} (cases : Cases) (version : Version) (first : File) (stands
     tidy = h.tidy;
   }
 
-  pub led_failed : BreaksOff cases version first (map command_of cs) (map command_reply_of rs) → LeadsToFailed cases version first cs rs
-  led_failed h = record { last = h.last; runs = run_to cases version true cs rs first h.last h.runs; failed = h.failed }
+  pub led_failed : AreOfKinds (map kind_of_command cs) rs → BreaksOff cases version first (map command_of cs) (map command_reply_of rs) → LeadsToFailed cases version true first cs rs
+  led_failed kinds h = record { last = h.last; runs = run_to cases version true cs rs first h.last kinds h.runs; failed = h.failed }
 
-  pub led_failed_before : LeadsToFailed cases version first cs rs → IsTold (map command_reply_of rs) → BreaksOff cases version first (map command_of cs) (map command_reply_of rs)
+  pub led_failed_before : LeadsToFailed cases version true first cs rs → IsTold (map command_reply_of rs) → BreaksOff cases version first (map command_of cs) (map command_reply_of rs)
   led_failed_before h told = record { last = h.last; runs = run_from cases version true cs rs first h.last (λ _. stands.sound) h.runs; failed = h.failed; told = told }
 
 -- the replies of a run from a file to itself are legal of its tree

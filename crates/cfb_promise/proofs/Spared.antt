@@ -1,21 +1,26 @@
 -- What a step leaves alone: the bytes of the streams that it is not about, those of the header that speak of no table, and all but an open stream's content.
-use Rattle.std.proofs.Common.{◌≡◌, ◌<◌, ◌+◌, ◌/◌, ◌%◌, ◌∙◌, ℕ, suc, List, [], Bool, true, false, refl, sym, ap, subst, arith, inl, mod-lt}
+use Rattle.std.proofs.Common.{◌≡◌, ◌<◌, ◌≤◌, ◌+◌, ◌/◌, ◌%◌, ◌∙◌, ℕ, suc, List, [], Bool, true, false, refl, sym, ap, subst, arith, inl, inr, length, not, mod-lt}
 use Rattle.std.specs.Prelude.{Contains, Option, Some, None, if◌then◌else◌, option_and_then, unwrap_or}
+use Rattle.std.specs.List.{list_any}
+use Rattle.std.proofs.lemmas.List.Sums.{count_by-le-length}
 use Rattle.std.proofs.lemmas.Option.{get_or_from_slice_get, none-some, slice_get_within}
 use Rattle.cfb_format.specs.declared.error.Error.{Error}
 use Rattle.cfb_format.specs.declared.error.Error.TheVariants.{AlreadyExists, Failed, Full, InvalidData, InvalidInput, Medium, Memory, NotFound, Unsound}
 use Rattle.cfb_format.specs.Refused.{HasReason, at_every_error}
 use Rattle.cfb_rules.specs.Refusal.{IsRefusal, Refusal, file_full, out_of_memory}
 use Rattle.cfb_agreement.specs.Changes.{StaysOrFails}
-use Rattle.cfb_path_changes.specs.Answers.{ForMemory, IsRefusedBy, LacksRoomOnTheWay, StopsInTurn}
+use Rattle.cfb_path_changes.specs.Answers.{ForMemory, IsRefusedBy, LacksRoomOnTheWay, MeansTree, StopsInTurn, TakesSlots, may_make_several}
 use Rattle.cfb_format.specs.declared.medium.MediumFault.{MediumFault}
-use Rattle.cfb_format.specs.Bytes.{byte_at, sector_len, sector_start}
+use Rattle.cfb_format.specs.Bytes.{byte_at, entries_per_sector, sector_len, sector_start}
 use Rattle.cfb_format.specs.Content.{is_large, mini_chain, mini_sector_len, place_in_chain, place_in_mini_chain, place_in_stream, sector_chain}
 use Rattle.cfb_format.specs.DirectoryEntry.{Entry}
+use Rattle.cfb_format.specs.Full.{is_unallocated}
+use Rattle.cfb_format.specs.Tree.{Tree}
 use Rattle.cfb_format.proofs.Along.{next_start}
 use Rattle.cfb_rules.specs.Calls.{Call, Reply, create_storage_all, done, entries, flag, one_entry, refused, remove_storage_all, remove_stream}
+use Rattle.cfb_rules.specs.Lists.{names_at}
 use Rattle.cfb_rules.specs.StreamCalls.{not_done}
-use Rattle.cfb_rules.specs.Steps.{CallKind, asking, asking_freely, changing, creating, emptying, flushing, kind_of, opening, opening_to_read}
+use Rattle.cfb_rules.specs.Steps.{CallKind, asking, asking_freely, changing, creating, emptying, flushing, kind_of, kind_on, opening, opening_to_read}
 use Rattle.cfb_sectors.specs.Sectors.{SectorStays}
 use Rattle.cfb_sectors.specs.Words.{RangeStays}
 use Rattle.cfb_content.specs.cfb_soundness.Layout.{LiesInPieces}
@@ -24,10 +29,11 @@ use Rattle.cfb_content.proofs.cfb_soundness.Layouts.{large-lies, small-lies}
 use Rattle.cfb_content.specs.Contents.{KeepsContent, KeepsFixedHeader}
 use Rattle.cfb_content.proofs.Readable.{lies, mini-room}
 use Rattle.cfb_content.proofs.Kept.{nothing-is-moved}
-use Rattle.cfb_mini_sectors.specs.State.{HoldsMiniStream, MiniState, bytes_of, mini_place, parts_of, version_of}
+use Rattle.cfb_mini_sectors.specs.State.{HoldsMiniStream, MiniState, bytes_of, cases_of, entries_of, mini_place, parts_of, version_of}
 use Rattle.cfb_agreement.specs.Files.{FileState}
 use Rattle.cfb_path_changes.specs.Sparing.{SparesStreams}
 use Rattle.cfb_commands.specs.Promised.{CallKeeps, Changes, IsKeptBy, RefusesChange}
+use Rattle.cfb_promise.specs.Files.{most_made}
 use Rattle.cfb_commands.proofs.Before.{same_before}
 use Rattle.cfb_commands.proofs.CallSteps.{in_turn}
 use Rattle.cfb_commands.proofs.Errors.{known, reply_full}
@@ -124,6 +130,69 @@ module _ (can_give : MediumFault → Bool) (old : FileState) (call : Call) (new 
 
   pub call_leaves : (reply : Reply) → CallKeeps can_give old call reply new → LeavesAlone old call new
   call_leaves reply k = leaves_by (kind_of call) reply k
+
+-- ---- how many entries there are
+
+-- a sector of them more, or so many more
+abbrev pub AddsFew : FileState → FileState → ℕ → Type 0
+AddsFew old new more = length (entries_of new.base) ≤ length (entries_of old.base) + (entries_per_sector (version_of old.base) + more)
+
+pub no_more_entries : (old new : FileState) (more : ℕ) → length (entries_of new.base) ≡ length (entries_of old.base) → AddsFew old new more
+no_more_entries old new more same = omega (arith, same)
+
+module _ (old new : FileState) (tree : Tree) (means : MeansTree old tree) where
+  one_object : (call : Call) → may_make_several call ≡ false → TakesSlots old call new → AddsFew old new 0
+  one_object call single t = by (kind_on (cases_of old.base) tree call) refl
+    where
+      taken : kind_on (cases_of old.base) tree call ≡ creating → (b : Bool) → list_any (λ (e : Entry). is_unallocated e.obj_type) (entries_of old.base) ≡ b → AddsFew old new 0
+      taken e true free = no_more_entries old new 0 ((t.one tree means e single).free free).slots
+      taken e false full = let longer = (t.one tree means e single).full full in omega (arith, longer)
+
+      by : (k : CallKind) → kind_on (cases_of old.base) tree call ≡ k → AddsFew old new 0
+      by creating e = taken e (list_any (λ (x : Entry). is_unallocated x.obj_type) (entries_of old.base)) refl
+      by k e = no_more_entries old new 0 (t.none tree means (λ c. (let w : k ≡ creating = sym e ∙ c in cc))).slots
+
+  in_a_row : (path : List ℕ) (moment : ℕ) → TakesSlots old (create_storage_all path moment) new → AddsFew old new (length (names_at path))
+  in_a_row path moment t = by (kind_on (cases_of old.base) tree (create_storage_all path moment)) refl
+    where
+      by : (k : CallKind) → kind_on (cases_of old.base) tree (create_storage_all path moment) ≡ k → AddsFew old new (length (names_at path))
+      by creating e =
+          let s = t.several tree means e refl in
+          let named : length (names_at path) ≡ length s.1.names = ap (λ (o : Option (List (List ℕ))). length (unwrap_or o [])) s.1.named in
+          let used = count_by-le-length (λ (x : Entry). not (is_unallocated x.obj_type)) (entries_of old.base) in
+          elim s.2.needed [
+            | inl same ↦ no_more_entries old new (length (names_at path)) same
+            | inr less ↦ omega (arith, less, s.2.used, used, named, s.1.split)
+          ]
+      by k e = no_more_entries old new (length (names_at path)) (t.none tree means (λ c. (let w : k ≡ creating = sym e ∙ c in cc))).slots
+
+  pub call_adds : (call : Call) → TakesSlots old call new → AddsFew old new (most_made call)
+  call_adds (create_storage_all path moment) t = in_a_row path moment t
+  call_adds call t = one_object call refl t
+
+  module _ (can_give : MediumFault → Bool) (call : Call) (reply : Reply) (still : (refusal : Refusal) → reply ≡ refused refusal → AddsFew old new (most_made call)) where
+    change_adds : (r : Reply) → reply ≡ r → Changes can_give old call r new → AddsFew old new (most_made call)
+    change_adds done e k = call_adds call k.slots
+    change_adds (refused refusal) e k = still refusal e
+    change_adds (flag b) e k = absurd k
+    change_adds (one_entry x) e k = absurd k
+    change_adds (entries xs) e k = absurd k
+
+    same_adds : new ≡ old → AddsFew old new (most_made call)
+    same_adds same = no_more_entries old new (most_made call) (ap (λ (f : FileState). length (entries_of f.base)) same)
+
+    adds_by : (kind : CallKind) → IsKeptBy can_give kind old call reply new → AddsFew old new (most_made call)
+    adds_by creating k = change_adds reply refl k
+    adds_by emptying k = change_adds reply refl k
+    adds_by changing k = change_adds reply refl k
+    adds_by flushing k = change_adds reply refl k.changes
+    adds_by opening k = same_adds k.same
+    adds_by opening_to_read k = same_adds k.same
+    adds_by asking k = same_adds k.same
+    adds_by asking_freely k = same_adds k.same
+
+    pub step_adds : CallKeeps can_give old call reply new → AddsFew old new (most_made call)
+    step_adds k = adds_by (kind_of call) k
 
 -- ---- where numbers lack
 

@@ -1,5 +1,5 @@
 -- What the rules say of each call by path, and of the opening of a stream.
-use Rattle.std.specs.Prelude.{ℕ, ◌≡◌, List, Bool, Option, Some, None, chars, string_bytes, if◌then◌else◌, ◌++◌, ⊤}
+use Rattle.std.specs.Prelude.{ℕ, ◌≡◌, List, Bool, Option, Some, None, chars, length, string_bytes, if◌then◌else◌, ◌++◌, ⊤}
 use Rattle.cfb_format.specs.Names.{Cases}
 use Rattle.cfb_format.specs.Path.{names_of_path}
 use Rattle.cfb_format.specs.Reading.{Reading}
@@ -9,6 +9,7 @@ use Rattle.cfb_rules.specs.CallRefusals.{all_creation_refusal, always, creation_
 use Rattle.cfb_rules.specs.CallReplies.{entry_reply, has_object, path_reply, read_reply, walk_reply}
 use Rattle.cfb_rules.specs.Calls.{Reply, done, flag}
 use Rattle.cfb_rules.specs.Finding.{object_at}
+use Rattle.cfb_rules.specs.Lists.{names_at}
 use Rattle.cfb_rules.specs.Refusal.{Refusal}
 use Rattle.cfb_rules.specs.Runs.{BlamesOneOf}
 use Rattle.cfb_rules.specs.Steps.{CallKind, asking, asking_freely, changing, creating, emptying, flushing, is_there, opening, opening_to_read}
@@ -75,7 +76,8 @@ module _ (cases : Cases) (root_len : ℕ) (tree : Tree) where
         (stream_created_at cases) (chars (string_bytes path))
     rule_of (command.Stream how.CreateNew path ops) = changes creating (creation_refusal cases tree never) (stream_added_at cases) (chars (string_bytes path))
 
--- which refusals beside the rules a call can answer: only one that makes an object needs a number, a flush needs no memory, and a question no medium
+-- Which refusals beside the rules a call can answer: only one that makes an object needs a number, a flush needs no memory, and a question no medium.
+-- The opening of a stream stands in the last line: a clause of its own, not of these three functions, says that it needs no medium either
 abbrev pub CallCanBreak : CallKind → Refusal → Type 0
 CallCanBreak creating refusal = BlamesOneOf ⊤ ⊤ ⊤ refusal
 CallCanBreak flushing refusal = BlamesOneOf ⊤ ⊥ ⊥ refusal
@@ -92,3 +94,8 @@ module _ {A : Type 0} where
   MayLose cases r (command.RemoveStorageAll path) k =
       (names below : List (List ℕ)) × (names_of_path (chars (string_bytes path)) ≡ Some names) × StandsAt cases r (names ++ below) k
   MayLose cases r other k = ⊥
+
+  -- how many storages a call may make in turn
+  abbrev pub most_made : Command A → ℕ
+  most_made (command.CreateStorageAll path moment) = length (names_at (chars (string_bytes path)))
+  most_made other = 0

@@ -1,16 +1,15 @@
 -- Replies and the errors in them, as the rules see them.
-use Rattle.std.specs.Prelude.{◌≡◌, ◌++◌, List, [], ◌∷◌, Bool, true, false, None, Some, Result, Ok, Err, flat_map, map}
+use Rattle.std.specs.Prelude.{◌≡◌, ◌++◌, List, [], ◌∷◌, Bool, true, false, Option, None, Some, Result, Ok, Err, flat_map}
 use Rattle.std.specs.List.{list_all, list_any}
 use Rattle.cfb_format.specs.declared.error.Error.{Error}
 use Rattle.cfb_format.specs.declared.error.Error.TheVariants.{InvalidInput, NotFound, Medium, Memory, Full}
 use Rattle.cfb_format.specs.declared.medium.MediumFault.TheVariants as fault
-use Rattle.cfb_rules.specs.Calls.{done, entries, flag, one_entry, refused}
-use Rattle.cfb_rules.specs.Lists.{CommandReply, replied, streamed}
 use Rattle.cfb_rules.specs.Refusal.{Refusal}
-use Rattle.cfb_rules.specs.StreamCalls as streams
-use Rattle.cfb_rules.specs.StreamCalls.{count, got, not_done, offset, ready}
+use Rattle.cfb_rules.specs.StreamCalls.{StreamReply, count, got, not_done, offset, ready}
 use Rattle.cfb_commands.specs.Commands.{refusal_of_error}
-use Rattle.cfb_commands.specs.declared.command.StreamReply.{StreamReply}
+use Rattle.cfb_commands.specs.declared.command.StreamOp.{StreamOp}
+use Rattle.cfb_commands.specs.declared.command.StreamOp.TheVariants as op
+use Rattle.cfb_commands.specs.declared.command.StreamReply.{StreamReply as TheAnswer}
 use Rattle.cfb_commands.specs.declared.command.StreamReply.TheVariants as answer
 use Rattle.cfb_commands.specs.declared.command.Reply.{Reply as TheReply}
 use Rattle.cfb_commands.specs.declared.command.Reply.TheVariants as reply
@@ -26,23 +25,19 @@ error_in (Ok x) = []
 error_in (Err e) = e ∷ []
 
 module _ {A : Type 0} where
-  -- what one operation on a stream was answered
-  abbrev pub answer_of : StreamReply A → streams.StreamReply
-  answer_of (answer.Bytes result) = told (λ bytes. got bytes.items) not_done result
-  answer_of (answer.Count result) = told count not_done result
-  answer_of (answer.Place result) = told offset not_done result
-  answer_of (answer.Done result) = told (λ _. ready) not_done result
+  -- what an operation on a stream was answered; a reply of another kind is none
+  abbrev pub answer_of : StreamOp A → TheAnswer A → Option StreamReply
+  answer_of (op.Read wanted) (answer.Bytes result) = Some (told (λ bytes. got bytes.items) not_done result)
+  answer_of op.ReadToEnd (answer.Bytes result) = Some (told (λ bytes. got bytes.items) not_done result)
+  answer_of (op.Write bytes) (answer.Count result) = Some (told count not_done result)
+  answer_of (op.Seek to) (answer.Place result) = Some (told offset not_done result)
+  answer_of (op.SetLen len) (answer.Done result) = Some (told (λ _. ready) not_done result)
+  answer_of op.Flush (answer.Done result) = Some (told (λ _. ready) not_done result)
+  answer_of op.Position (answer.Place result) = Some (told offset not_done result)
+  answer_of op.Len (answer.Place result) = Some (told offset not_done result)
+  answer_of call other = None
 
-  -- what a command was answered: of a stream each operation and why closing was refused, if it was; or why none was opened
-  abbrev pub reply_of : TheReply A → CommandReply
-  reply_of (reply.Done result) = replied (told (λ _. done) refused result)
-  reply_of (reply.Flag b) = replied (flag b)
-  reply_of (reply.Entry result) = replied (told one_entry refused result)
-  reply_of (reply.Entries result) = replied (told (λ list. entries list.items) refused result)
-  reply_of (reply.Stream (Ok works)) = streamed (map answer_of works.0.items) (told (λ _. None) Some works.1)
-  reply_of (reply.Stream (Err e)) = replied (refused (refusal_of_error e))
-
-  abbrev pub errors_of_answer : StreamReply A → List Error
+  abbrev pub errors_of_answer : TheAnswer A → List Error
   errors_of_answer (answer.Bytes result) = error_in result
   errors_of_answer (answer.Count result) = error_in result
   errors_of_answer (answer.Place result) = error_in result

@@ -1,5 +1,5 @@
 -- What the functions over bytes promise.
-use Rattle.std.specs.Prelude.{ℕ, ◌+◌, ◌*◌, ◌≡◌, ◌≢◌, ◌<◌, ◌⊎◌, List, true, false, length, ⊤}
+use Rattle.std.specs.Prelude.{ℕ, ◌+◌, ◌*◌, ◌≡◌, ◌≢◌, ◌<◌, ◌⊎◌, Bool, List, true, false, count_by, length, ⊤}
 use Rattle.cfb_format.specs.declared.error.Error.{Error}
 use Rattle.cfb_format.specs.declared.error.Error.TheVariants.{Failed, Full, InvalidData, Medium, Memory}
 use Rattle.cfb_format.specs.declared.medium.MediumFault.TheVariants as fault
@@ -7,10 +7,11 @@ use Rattle.cfb_format.specs.declared.version.Version.{Version}
 use Rattle.cfb_format.specs.Bytes.{entries_per_sector, free_sector, max_regular_sector, sector_len, words_per_sector}
 use Rattle.cfb_format.specs.Chain.{value}
 use Rattle.cfb_format.specs.Content.{mini_sector_len}
-use Rattle.cfb_format.specs.Full.{HasRoom, directory_sectors_for, max_entries, max_mini_sectors, mini_sectors_for, rounded_up, sectors_for}
+use Rattle.cfb_format.specs.Full.{HasRoom, directory_sectors_for, free_count, is_unallocated, max_entries, max_mini_sectors, mini_sectors_for, rounded_up, sectors_for}
 use Rattle.cfb_format.specs.Meaning.{Means, tree_of}
 use Rattle.cfb_format.specs.Names.{Cases, default_cases}
 use Rattle.cfb_format.specs.Reading.{HasReading, Reading, Reads}
+use Rattle.cfb_format.specs.Soundness.{IsSound}
 use Rattle.cfb_format.specs.Tree.{AreWhole, Objects, Tree, nothing, storage, stream}
 use Rattle.cfb_commands.specs.declared.command.Command.{Command}
 use Rattle.cfb_commands.specs.declared.command.Reply.{Reply as TheReply}
@@ -35,9 +36,9 @@ module _ {A : Type 0} where
     pub tidy : IsTidy first.bytes first.reading → IsTidy last.bytes last.reading
 
   -- they led to a file that failed
-  pub record LeadsToFailed (cases : Cases) (version : Version) (first : File) (commands : List (Command A)) (replies : List (TheReply A)) : Type 0 where
+  pub record LeadsToFailed (cases : Cases) (version : Version) (sound : Bool) (first : File) (commands : List (Command A)) (replies : List (TheReply A)) : Type 0 where
     pub last : File
-    pub runs : Runs cases version true first commands replies last
+    pub runs : Runs cases version sound first commands replies last
     pub failed : last.failed ≡ true
 
   -- ---- from nothing
@@ -46,11 +47,12 @@ module _ {A : Type 0} where
   abbrev pub IsMade : Version → List (Command A) → List (TheReply A) → (bytes : List ℕ) → Type 0
   IsMade version commands replies bytes = (first : File) × IsNew version first × LeadsTo default_cases version first commands replies bytes
 
-  -- memory was refused at first, be it to the bytes, and so much holds; or the commands broke off, which some reply tells
+  -- memory was refused before the commands, be it to the bytes, and so much holds: then no reply is appended; or the commands broke off, which some
+  -- reply tells
   abbrev pub IsNotMade : Version → List (Command A) → List (TheReply A) → (untouched : Type 0) → Error → Type 0
   IsNotMade version commands replies untouched (Medium fault.Memory) = untouched
   IsNotMade version commands replies untouched Memory = untouched
-  IsNotMade version commands replies untouched Failed = AreTold replies × ((first : File) × IsNew version first × LeadsToFailed default_cases version first commands replies)
+  IsNotMade version commands replies untouched Failed = AreTold replies × ((first : File) × IsNew version first × LeadsToFailed default_cases version true first commands replies)
   IsNotMade version commands replies untouched e = ⊥
 
   -- ---- from bytes
@@ -65,23 +67,26 @@ module _ {A : Type 0} where
     pub same : given ≡ bytes
     pub runs : (r : Reading) → Reads cases bytes r → Runs cases r.header.version false (file_with bytes r) commands replies (file_with bytes r)
 
-  -- opening does not take the bytes, or memory was refused at first, and so much holds; or opening takes them, and the commands broke off, which some
-  -- reply tells
+  -- opening does not take the bytes, or memory was refused before the commands, and so much holds: then no reply is appended; or opening takes them,
+  -- and the commands broke off, which some reply tells: of a file that is not sound, too, they are a run by the rules
   abbrev pub IsNotChanged : Cases → List ℕ → List (Command A) → List (TheReply A) → (untouched : Type 0) → Error → Type 0
   IsNotChanged cases bytes commands replies untouched (InvalidData d) = (IsAccepted cases bytes → ⊥) × untouched
   IsNotChanged cases bytes commands replies untouched Memory = untouched
   IsNotChanged cases bytes commands replies untouched Failed = IsAccepted cases bytes × AreTold replies
-      × ((version : Version) (first : File) → first.bytes ≡ bytes → Stands cases version first → LeadsToFailed cases version first commands replies)
+      × ((version : Version) (first : File) → first.bytes ≡ bytes → Stands cases version first → LeadsToFailed cases version true first commands replies)
+      × ((r : Reading) → Reads cases bytes r → (IsSound bytes r → ⊥) → LeadsToFailed cases r.header.version false (file_with bytes r) commands replies)
   IsNotChanged cases bytes commands replies untouched e = ⊥
 
 -- ---- a copy
 
--- the copy has the same version and means the same tree, nothing is lost in it, and no sector of it is free
+-- the copy has the same version and means the same tree; it is tidy, none of its sectors and mini sectors is free, and fewer of its entries are
+-- unallocated than a sector has
 pub record IsPackedFrom (cases : Cases) (bytes copy : List ℕ) : Type 0 where
   pub same_version : (r s : Reading) → Reads cases bytes r → Reads cases copy s → s.header.version ≡ r.header.version
   pub means : (tree : Tree) → Means cases bytes tree → Means cases copy tree
   pub accepted : IsAccepted cases copy
-  pub tidy : HasReading cases copy (λ r. IsTidy copy r × ((i : ℕ) → i < length r.fat → value r.fat i ≢ free_sector))
+  pub tidy : HasReading cases copy (λ r. IsTidy copy r × ((i : ℕ) → i < length r.fat → value r.fat i ≢ free_sector) × (free_count r.minifat ≡ 0)
+      × (count_by (λ e. is_unallocated e.obj_type) r.entries < entries_per_sector r.header.version))
 
 -- a sum over the objects: this number for each storage, and one by its length for each stream
 abbrev pub total : (for_storage : ℕ) → (for_len : ℕ → ℕ) → Objects → ℕ
@@ -102,11 +107,11 @@ AreTooMany version limit objects = (HasRoom version limit 0 0 0 (sectors_for_all
     ⊎ (max_mini_sectors version < total 0 mini_sectors_for objects)
     ⊎ (max_entries < directory_sectors_for version (total 1 (λ len. 1) objects) * entries_per_sector version)
 
--- opening does not take the bytes, or some stream can't be read to its end; all can, but no file of this version has room for the tree; or memory
--- was refused
+-- opening does not take the bytes, or some stream can't be read to its end; opening takes them and all can, but no file of this version has room for
+-- the tree; or memory was refused
 abbrev pub IsNotPacked : Cases → List ℕ → Error → Type 0
 IsNotPacked cases bytes (InvalidData d) = IsAccepted cases bytes → (tree : Tree) → Means cases bytes tree → AreWhole tree.objects → ⊥
-IsNotPacked cases bytes Full = (r : Reading) → Reads cases bytes r → AreWhole (tree_of bytes r).objects × AreTooMany r.header.version max_regular_sector (tree_of bytes r).objects
+IsNotPacked cases bytes Full = IsAccepted cases bytes × ((r : Reading) → Reads cases bytes r → AreWhole (tree_of bytes r).objects × AreTooMany r.header.version max_regular_sector (tree_of bytes r).objects)
 IsNotPacked cases bytes (Medium fault.Memory) = ⊤
 IsNotPacked cases bytes Memory = ⊤
 IsNotPacked cases bytes e = ⊥

@@ -1,9 +1,9 @@
 -- Operations on an open stream: what each answers, and what it can lack.
-use Rattle.std.specs.Prelude.{ℕ, ◌+◌, ◌≡◌, ◌<◌, ◌≤◌, ◌⊎◌, [], Bool, true, false, ◌||◌, ◌&&◌, length, take, drop, nat_le, nat_lt, MatchBool, MatchOption, IsTrue, Option, is_some, option_and_then, if◌then◌else◌, ◌==◌, ⊤}
+use Rattle.std.specs.Prelude.{ℕ, ◌+◌, ◌≡◌, ◌≢◌, ◌<◌, ◌≤◌, ◌⊎◌, [], Bool, true, false, ◌||◌, ◌&&◌, length, take, drop, nat_le, nat_lt, MatchBool, MatchOption, IsTrue, Option, is_some, option_and_then, if◌then◌else◌, ◌==◌, ⊤}
 use Rattle.std.specs.declared.io.traits.SeekFrom.{SeekFrom}
 use Rattle.std.specs.declared.io.traits.SeekFrom.TheVariants.{Start, End, Current}
 use Rattle.cfb_rules.specs.Refusal.{Refusal, failed_earlier, invalid_data, invalid_input}
-use Rattle.cfb_rules.specs.Runs.{BlamesOneOf, StaysUnfailed, Work, appending, is_served, may_leave_failed, moving, no_work, overwriting, reading, resizing, writing_out}
+use Rattle.cfb_rules.specs.Runs.{BlamesOneOf, StaysUnfailed, Work, appending, may_leave_failed, moving, no_work, overwriting, reading, resizing, writing_out}
 use Rattle.cfb_rules.specs.StreamCalls.{Asks, Flush, Moves, ReadToEnd, Refuses, SetLen, StreamReply, StreamSetting, StreamState, Write, got, not_done, offset, place_from, place_within}
 use Rattle.cfb_commands.specs.declared.command.StreamOp.{StreamOp}
 use Rattle.cfb_commands.specs.declared.command.StreamOp.TheVariants as op
@@ -71,11 +71,11 @@ module _ {A : Type 0} where
 
   -- on a failed file `position` and `len` answer anything but a refusal
   abbrev pub OpOnFailed : StreamOp A → StreamReply → Type 0
-  OpOnFailed op.Position reply = is_served reply ≡ true
-  OpOnFailed op.Len reply = is_served reply ≡ true
+  OpOnFailed op.Position reply = (refusal : Refusal) → reply ≢ not_done refusal
+  OpOnFailed op.Len reply = (refusal : Refusal) → reply ≢ not_done refusal
   OpOnFailed call reply = reply ≡ not_done failed_earlier
 
-  -- whether it may write to the file: with nothing pending, a write of fewer bytes only keeps them back
+  -- whether it may write to the file: with nothing pending, a write of fewer bytes than the stream's buffer has, 65536, only keeps them back
   abbrev pub may_write : StreamState → StreamOp A → Bool
   may_write old (op.Write bytes) = may_leave_failed old.pending (work_of old (op.Write bytes)) && (old.pending || nat_le 65536 (length bytes.items))
   may_write old call = may_leave_failed old.pending (work_of old call)
