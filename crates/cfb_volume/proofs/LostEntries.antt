@@ -11,7 +11,6 @@ use Rattle.cfb_format.proofs.Members.{Contains-here, Contains-or}
 use Rattle.cfb_format.proofs.Unique.{Below-unique}
 use Rattle.cfb_volume.specs.cfb_trees.Changes.{ButFields}
 use Rattle.cfb_volume.specs.cfb_trees.Reached.{IsReached}
-use Rattle.cfb_volume.proofs.cfb_trees.Members.{reached-is-used}
 use Rattle.cfb_volume.proofs.cfb_trees.Reached.{below-reached, root-is-reached, root-or-below}
 use Rattle.cfb_volume.proofs.cfb_trees.Same.{set-fields}
 use Rattle.cfb_volume.proofs.cfb_trees.Standing.{reached-is-parent}
