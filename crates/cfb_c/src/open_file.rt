@@ -108,7 +108,7 @@ impl OpenFile {
     /// Reads bytes of the stream at this path from the place `at` on, all that there is room for,
     /// and keeps more of them where the stream is read in turn.
     #[tactic(auto, using(crate::proofs::Ahead::behind_ahead))]
-    pub fn read(
+    pub(crate) fn read(
         &mut self,
         alloc: Global,
         path: &str,

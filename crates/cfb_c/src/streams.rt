@@ -190,7 +190,7 @@ fn read(
 /// Reads from the place `at` on of the stream at this path, until there is no more room or the
 /// stream ends. The medium is memory, which can be read at each time.
 #[tactic(auto, using(crate::proofs::Pieces::reads_piece, crate::proofs::Pieces::piece_not_read))]
-pub fn read_piece<F: ReadMedium>(
+pub(crate) fn read_piece<F: ReadMedium>(
     file: &mut CompoundFile<F>,
     path: &str,
     at: u64,
