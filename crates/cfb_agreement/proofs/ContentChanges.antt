@@ -30,6 +30,7 @@ use Rattle.cfb_content.specs.Contents.{IsStreamOf, KeepsOthers, MovesContent, di
 use Rattle.cfb_content.proofs.Apart.{content-is}
 use Rattle.cfb_content.proofs.Outlines.{moved-at, moved-is-outline, no-root-stream, stream-is-no-root, stream-stays}
 use Rattle.cfb_content.proofs.Readable.{kept-is-readable}
+use Rattle.cfb_agreement.specs.Changes.{LosesNoEntry}
 use Rattle.cfb_agreement.specs.Files.{EmptyStartAtEnd, FileState, Holds, IsCounted, SameSetting}
 use Rattle.cfb_agreement.specs.Laws.{ContentBecomesTree, ContentKeepsParts, ContentKeepsStream}
 use Rattle.cfb_agreement.proofs.HeldBytes.{tree-is}
@@ -131,6 +132,13 @@ moved-starts-at-end old new i limits moves at own all k now empty = elim (cases_
       ap (λ (e : Entry). e.start_sector) same ∙ all k there (sym (ap (λ (e : Entry). e.stream_len) same) ∙ empty)
 ]
 
+-- and no entry is lost: each keeps its kind, and the outline stays
+pub moved-loses-no-entry : (old new : MiniState) (i : ℕ) → KeepsLimits old new → MovesContent old new i → LosesNoEntry old new
+moved-loses-no-entry old new i limits moves k lost = (
+  λ free. lost.0 (ap (λ (x : Entry). x.obj_type) (moved-at old new i k moves) ∙ free),
+  λ o is there. lost.1 o (moved-is-outline old new i o limits.cases moves is) there,
+)
+
 -- the header counts the directory's sectors still where it has those that it had
 pub same-counted : (old new : MiniState) → KeepsLimits old new → new.directory.sectors ≡ old.directory.sectors → dir_count_of new ≡ dir_count_of old
     → IsCounted old → IsCounted new
@@ -143,6 +151,7 @@ content-keeps-parts i old new moves stream strict tidy used exact snug snug_mini
   counted = same-counted old new moves.limits moves.directory tidy.counted;
   ended = λ ended. moved-starts-at-end old new i moves.limits moves.entries stream (empty (ended i stream)) ended;
   used = used;
+  entries = moved-loses-no-entry old new i moves.limits moves.entries;
   exact = exact;
   snug = snug;
   snug_mini = snug_mini;

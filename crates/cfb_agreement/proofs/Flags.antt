@@ -69,6 +69,7 @@ module _ (s : MiniState) (a : AllocatorState) (measured : a.file.len ≡ length 
       ended = λ k at. m.tidy.ended k (record { outline = at.outline; is = at.is; reached = at.reached });
     };
     used = record { sectors = m.used.sectors; mini_sectors = m.used.mini_sectors };
+    reached = m.reached;
     exact = record { fats = m.exact.fats; difats = m.exact.difats };
     snug = λ k at.
         let fits = m.snug k (record { outline = at.outline; is = at.is; reached = at.reached }) in
@@ -105,6 +106,7 @@ module _ (s : MiniState) (n : ℕ) (b : Bool) where
     counted = λ counted. counted;
     ended = λ ended k at. ended k (record { outline = at.outline; is = at.is; reached = at.reached });
     used = λ after is. (after, is, record { sectors = λ i busy out. (busy, out); mini_sectors = λ i busy out. (busy, out) });
+    entries = λ k lost. lost;
     exact = λ exact. record { fats = exact.fats; difats = exact.difats };
     snug = λ snug k at.
         let fits = snug k (record { outline = at.outline; is = at.is; reached = at.reached }) in

@@ -17,6 +17,7 @@ parts-keep-made old new p made = record {
   changeable = p.strict made.changeable;
   tidy = record { whole = p.whole made.tidy.whole; counted = p.counted made.tidy.counted; ended = p.ended made.tidy.ended };
   used = all-used-kept old new p.used made.used;
+  reached = λ k lost. made.reached k (p.entries k lost);
   exact = p.exact made.exact;
   snug = p.snug made.snug;
   snug_mini = p.snug_mini made.snug_mini;
@@ -40,6 +41,7 @@ parts-then old mid new p q = record {
   counted = λ c. q.counted (p.counted c);
   ended = λ e. q.ended (p.ended e);
   used = none-lost-then old mid new p.used q.used;
+  entries = λ k lost. p.entries k (q.entries k lost);
   exact = λ e. q.exact (p.exact e);
   snug = λ s. q.snug (p.snug s);
   snug_mini = λ s. q.snug_mini (p.snug_mini s);

@@ -16,19 +16,25 @@ use Rattle.cfb_agreement.specs.cfb_mini_sectors.Steps.{IsSnugMini}
 use Rattle.cfb_agreement.specs.cfb_mini_changes.MiniSectors.{IsOfWholeSectors}
 use Rattle.cfb_content.specs.Changed.{FreesMini}
 use Rattle.cfb_content.specs.Contents.{AreSnug, IsSnug, KeepsContent, KeepsFixedHeader, KeepsOthers, LosesNone, MovesContent, len_of}
-use Rattle.cfb_agreement.specs.Files.{EmptyStartAtEnd, FileState, IsAsBefore, IsCounted, GrowsTightly, SameSetting, StartsAtEndIfEmpty, is_failed}
+use Rattle.cfb_agreement.specs.Files.{EmptyStartAtEnd, FileState, IsAsBefore, IsCounted, IsLostEntry, GrowsTightly, SameSetting, StartsAtEndIfEmpty, is_failed}
 
 -- ---- files that were made here or elsewhere
 
+-- no entry is lost, in use and not in the tree, that was not lost before
+abbrev pub LosesNoEntry : MiniState → MiniState → Type 0
+LosesNoEntry old new = (k : ℕ) → IsLostEntry new k → IsLostEntry old k
+
 -- of what makes a file as made each part that it had it has again, also where it lacks the others: what strict opening takes, whole sectors, the
--- count of the directory's sectors, empty streams that start at END, exact tables, chains as long as they need to be, balance. Nothing is
--- lost that was not lost before, and where a mini sector came free the MiniFAT and the mini stream have given back what they don't need
+-- count of the directory's sectors, empty streams that start at END, exact tables, chains as long as they need to be, balance. No sector,
+-- no mini sector and no entry is lost that was not lost before, and where a mini sector came free the MiniFAT and the mini stream have given back
+-- what they don't need
 pub record KeepsParts (old new : MiniState) : Type 0 where
   pub strict : IsChangeable Strict old → IsChangeable Strict new
   pub whole : IsOfWholeSectors (table_of old) → IsOfWholeSectors (table_of new)
   pub counted : IsCounted old → IsCounted new
   pub ended : EmptyStartAtEnd old → EmptyStartAtEnd new
   pub used : LosesNone old new
+  pub entries : LosesNoEntry old new
   pub exact : AreExactTables (tables_in old) → AreExactTables (tables_in new)
   pub snug : AreSnug old → AreSnug new
   pub snug_mini : IsSnugMini old → IsSnugMini new

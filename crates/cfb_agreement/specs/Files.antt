@@ -1,17 +1,19 @@
 -- What a file keeps in memory, and when that is what its bytes say.
-use Rattle.std.specs.Prelude.{ℕ, ◌≡◌, ◌<◌, ◌≤◌, List, Bool, true, false, length}
+use Rattle.std.specs.Prelude.{ℕ, ◌≡◌, ◌≢◌, ◌<◌, ◌≤◌, List, Bool, true, false, length}
 use Rattle.cfb_format.specs.declared.header.Header.{Header}
+use Rattle.cfb_format.specs.declared.objtype.ObjType.TheVariants.{Unallocated}
 use Rattle.cfb_format.specs.declared.validate.Validation.TheVariants.{Permissive, Strict}
 use Rattle.cfb_format.specs.declared.version.Version.TheVariants.{V4}
 use Rattle.cfb_format.specs.Bytes.{end_of_chain}
 use Rattle.cfb_format.specs.Full.{IsFull}
 use Rattle.cfb_format.specs.Names.{Cases}
-use Rattle.cfb_format.specs.Reading.{Outline, Reads}
+use Rattle.cfb_format.specs.Reading.{IsOutline, Outline, Reads}
 use Rattle.cfb_format.specs.Siblings.{entry_at}
 use Rattle.cfb_format.specs.Soundness.{IsSound}
 use Rattle.cfb_agreement.specs.cfb_tables.Changes.{NoneFree}
 use Rattle.cfb_agreement.specs.cfb_tables.Tables.{AreExactTables}
 use Rattle.cfb_agreement.specs.cfb_trees.Balance.{AreAllBalanced}
+use Rattle.cfb_agreement.specs.cfb_trees.Reached.{IsReached}
 use Rattle.cfb_agreement.specs.cfb_mini_sectors.State.{IsChangeable, MiniState, bytes_of, cases_of, entries_of, parts_of, reading_of, table_of, tables_in, version_of}
 use Rattle.cfb_agreement.specs.cfb_mini_sectors.Steps.{IsSnugMini, KeepsLimits}
 use Rattle.cfb_agreement.specs.cfb_mini_changes.MiniSectors.{IsStill, IsOfWholeSectors}
@@ -69,13 +71,23 @@ pub record IsTidy (s : MiniState) : Type 0 where
   pub counted : IsCounted s
   pub ended : EmptyStartAtEnd s
 
+-- the entry is in use, and it is neither the root nor in the tree below it
+abbrev pub IsLostEntry : MiniState → ℕ → Type 0
+IsLostEntry s k = ((entry_at (entries_of s) k).obj_type ≢ Unallocated) × ((o : Outline) → IsOutline (cases_of s) (entries_of s) o → IsReached o k → ⊥)
+
+-- each entry is unallocated, or the root, or in the tree below it
+abbrev pub AreAllReached : MiniState → Type 0
+AreAllReached s = (k : ℕ) → IsLostEntry s k → ⊥
+
 -- what creation gives and each success keeps: the bytes are sound, and such as strict opening takes, and tidy; each sector and each mini sector is
--- free or has an owner; the tables are as long as the file needs, and each stream's chain as long as its length needs, and so are the chains
--- of the MiniFAT and of the mini stream for the mini sectors that there are; and the siblings of each storage are in balance
+-- free or has an owner, and each entry is unallocated or in the tree; the tables are as long as the file needs, and each stream's chain as long as
+-- its length needs, and so are the chains of the MiniFAT and of the mini stream for the mini sectors that there are; and the siblings of each
+-- storage are in balance
 pub record IsAsMade (s : MiniState) : Type 0 where
   pub changeable : IsChangeable Strict s
   pub tidy : IsTidy s
   pub used : AreAllUsed s
+  pub reached : AreAllReached s
   pub exact : AreExactTables (tables_in s)
   pub snug : AreSnug s
   pub snug_mini : IsSnugMini s

@@ -26,7 +26,7 @@ use Rattle.cfb_mini_sectors.specs.Laws.{SoundMiniIsHeld}
 use Rattle.cfb_mini_sectors.specs.State.{HoldsMini, IsChangeable, MiniState, reading_of, table_of, tables_in}
 use Rattle.cfb_mini_sectors.specs.Steps.{IsSnugMini}
 use Rattle.cfb_creating.specs.cfb_content.Contents.{parts_with}
-use Rattle.cfb_agreement.specs.Files.{Holds, IsAsMade}
+use Rattle.cfb_agreement.specs.Files.{AreAllReached, Holds, IsAsMade}
 use Rattle.cfb_creating.proofs.Parts.{created_sizes}
 use Rattle.cfb_creating.specs.State.{created_state, created_tables, created_fat}
 use Rattle.cfb_format.proofs.Members.{Contains-nil}
@@ -137,6 +137,11 @@ module _ (one_header : AtMostOneHeader) (one_outline : AtMostOneOutline) (v : Ve
       unsound = λ e. cc;
     }
 
+    -- the root alone is in use
+    all_reached : AreAllReached s
+    all_reached zero lost = lost.1 no_more (reads cases v).outline (0, lit< tt, refl)
+    all_reached (suc k) lost = lost.0 (ap (λ (e : Entry). e.obj_type) (past-is-unallocated (entries_per_sector v - 1) k))
+
     pub made : IsAsMade s
     made = record {
       changeable = changeable Strict;
@@ -149,6 +154,7 @@ module _ (one_header : AtMostOneHeader) (one_outline : AtMostOneOutline) (v : Ve
         sectors = λ o is. subst (λ (p : Outline). AllUsed created_fat (used_sectors (parts_with s p))) (the_outline o is) all_used;
         mini_sectors = λ o is m used. absurd (used refl);
       };
+      reached = all_reached;
       exact = exact_tables v limit;
       -- there is no stream
       snug = λ k at. absurd (Contains-nil k (subst (λ (p : Outline). Contains (stream_numbers p) k) (sym (the_outline at.outline at.is)) at.reached));

@@ -331,6 +331,7 @@ module _ (cases : Cases) (version : Version) (sound : Bool) (old new : File) (ca
     tidy = k.tidy;
     sectors = k.sectors;
     mini_sectors = k.mini_sectors;
+    reached = k.reached;
     entries = k.entries;
     stays = λ none. k.stays (nothing_back none);
     besides = k.means tt;
@@ -356,6 +357,7 @@ module _ (cases : Cases) (version : Version) (sound : Bool) (old new : File) (ca
     tidy = l.tidy;
     sectors = l.sectors;
     mini_sectors = l.mini_sectors;
+    reached = l.reached;
     entries = l.entries;
     means = λ is. l.besides;
     stays = λ none. l.stays (nothing_here none);
@@ -569,6 +571,7 @@ module _ (cases : Cases) (version : Version) (sound : Bool) (names : List (List 
         tidy = k.tidy;
         sectors = k.sectors;
         mini_sectors = k.mini_sectors;
+        reached = k.reached;
         entries = k.entries;
         stays = λ none. idle_here o k.kept_back (λ calm leaves. k.stays leaves calm) none;
         besides = k.content;
@@ -642,6 +645,7 @@ module _ (cases : Cases) (version : Version) (sound : Bool) (names : List (List 
         tidy = l.tidy;
         sectors = l.sectors;
         mini_sectors = l.mini_sectors;
+        reached = l.reached;
         entries = l.entries;
         means = λ no. absurd no;
         stays = λ none. l.stays (file_here o none);
@@ -745,6 +749,7 @@ module _ (cases : Cases) (version : Version) (sound : Bool) (path : List ℕ) (t
     tidy = k.tidy;
     sectors = k.sectors;
     mini_sectors = k.mini_sectors;
+    reached = k.reached;
     entries = k.entries;
     stays = k.stays;
     besides = λ calm. (k.content calm, k.means tt calm);
@@ -765,6 +770,7 @@ module _ (cases : Cases) (version : Version) (sound : Bool) (path : List ℕ) (t
     tidy = l.tidy;
     sectors = l.sectors;
     mini_sectors = l.mini_sectors;
+    reached = l.reached;
     entries = l.entries;
     means = λ is calm. (l.besides calm).1;
     stays = l.stays;

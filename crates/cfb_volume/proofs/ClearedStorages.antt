@@ -27,6 +27,7 @@ use Rattle.cfb_entry_changes.specs.Clearing.{ClearsStorage, WritesClearing}
 use Rattle.cfb_entry_changes.proofs.Emptied.{cleared-empties-tree, cleared-has-outline, cleared-is-balanced, cleared-is-changeable, cleared-is-snug, cleared-is-snug-mini, cleared-loses-none}
 use Rattle.cfb_volume.specs.Clearing.{emptied_at}
 use Rattle.cfb_volume.proofs.EmptyStreams.{cleared-at-end}
+use Rattle.cfb_volume.proofs.LostEntries.{cleared-loses-no-entry}
 use Rattle.cfb_volume.proofs.InsertedObjects.{ended, file_with, parts-ended}
 use Rattle.cfb_volume.proofs.Tidy.{slots-keep-parts}
 
@@ -83,6 +84,7 @@ module _ (old : FileState) (mid : MiniState) (top : ℕ) (t : ClearsStorage old.
       (λ strict. cleared-is-changeable Strict old.base mid top (writes Strict strict (held Strict strict)))
       (cleared-at-end old.base mid top t)
       (cleared-loses-none Permissive old.base mid top all)
+      (cleared-loses-no-entry old.base mid top t)
       (cleared-is-snug Permissive old.base mid top all)
       (cleared-is-snug-mini old.base mid top t)
       (all-stay-balanced (cases_of old.base) (cases_of mid) (entries_of old.base) (entries_of mid) t.storage.outline t.storage.is (cleared-is-balanced old.base mid top t)))

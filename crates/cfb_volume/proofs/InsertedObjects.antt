@@ -36,6 +36,7 @@ use Rattle.cfb_agreement.proofs.Flags.{flags-not-read, parts-flagged}
 use Rattle.cfb_agreement.proofs.HeldBytes.{changeable-is-held}
 use Rattle.cfb_agreement.proofs.Parts.{none-freed, parts-then}
 use Rattle.cfb_volume.proofs.EmptyStreams.{put-at-end}
+use Rattle.cfb_volume.proofs.LostEntries.{put-loses-no-entry}
 use Rattle.cfb_volume.proofs.Tidy.{put-whole}
 use Rattle.cfb_volume.proofs.cfb_tables.Refusals.{refused-as}
 
@@ -109,6 +110,7 @@ module _ (old : FileState) (mid : MiniState) (parent n : ℕ) (name : List ℕ) 
         counted = counted;
         ended = put-at-end old.base mid parent n name kind moment put;
         used = put-loses-none Permissive old.base mid parent n name kind moment all;
+        entries = put-loses-no-entry old.base mid parent n name kind moment put;
         exact = put-is-exact old.base mid parent n name kind moment put;
         snug = put-is-snug Permissive old.base mid parent n name kind moment all;
         snug_mini = put-is-snug-mini old.base mid parent n name kind moment put;

@@ -15,6 +15,7 @@ pub use Rattle.cfb_sequences.proofs as cfb_sequences
 pub use Rattle.cfb_entry_changes.proofs as cfb_entry_changes
 pub mod Settings
 pub mod EmptyStreams
+pub mod LostEntries
 pub mod Tidy
 pub mod InsertedObjects
 pub mod ContentSteps

@@ -32,6 +32,7 @@ use Rattle.cfb_entry_changes.specs.Kept.{AllStayBalanced, FindsTheSame}
 use Rattle.cfb_entry_changes.specs.Marking.{GivesFields, MarksEntry, WritesFields}
 use Rattle.cfb_entry_changes.proofs.Marked.{marked-changes-tree, marked-has-outline, marked-is-balanced, marked-is-changeable, marked-is-found, marked-is-snug, marked-is-snug-mini, marked-keeps-root, marked-loses-none}
 use Rattle.cfb_volume.proofs.EmptyStreams.{marked-at-end}
+use Rattle.cfb_volume.proofs.LostEntries.{marked-loses-no-entry}
 use Rattle.cfb_volume.proofs.InsertedObjects.{ended, file_with, parts-ended}
 use Rattle.cfb_volume.proofs.Tidy.{slots-keep-parts}
 
@@ -79,6 +80,7 @@ module _ {tells : Bool} {old : FileState} {mid : MiniState} {i : ℕ} {Are : Fie
         (λ strict. marked-is-changeable Strict old.base mid i m.fields m.outline m.is (writes Strict strict))
         (marked-at-end old.base mid i m.fields m.marks m.outline m.is)
         (marked-loses-none Permissive old.base mid i m.fields m.outline m.is all)
+        (marked-loses-no-entry old.base mid i m.fields m.marks)
         (marked-is-snug Permissive old.base mid i m.fields m.outline m.is all)
         (marked-is-snug-mini old.base mid i m.fields m.marks)
         (all-stay-balanced (cases_of old.base) (cases_of mid) (entries_of old.base) (entries_of mid) m.outline m.is (marked-is-balanced old.base mid i m.fields m.marks)))

@@ -56,6 +56,7 @@ use Rattle.cfb_format.specs.Refused.{IsBreak}
 use Rattle.cfb_volume.specs.Removing.{WasEmptied}
 use Rattle.cfb_volume.proofs.Balances.{all-but-balanced}
 use Rattle.cfb_volume.proofs.EmptyStreams.{taken-at-end}
+use Rattle.cfb_volume.proofs.LostEntries.{taken-loses-no-entry}
 use Rattle.cfb_volume.proofs.InsertedObjects.{ended, file_with, parts-ended, refused-stays}
 use Rattle.cfb_volume.proofs.Tidy.{slots-keep-parts}
 use Rattle.cfb_volume.proofs.cfb_siblings.PathWalk.{is-stream-or}
@@ -259,6 +260,7 @@ module _ {old : FileState} {mid new : MiniState} {parent child : ℕ} {name : Li
       (λ strict. taken-is-changeable Strict mid new parent name (takes Strict strict))
       (taken-at-end mid new parent name r.taken)
       (taken-loses-none Permissive mid new parent name all)
+      (taken-loses-no-entry mid new parent name r.taken)
       (taken-is-snug Permissive mid new parent name all)
       (taken-is-snug-mini mid new parent name r.taken)
       (all-but-balanced mid new r.taken.entry.number o is (taken-is-balanced mid new parent name r.taken))

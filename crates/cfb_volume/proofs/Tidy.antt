@@ -20,7 +20,7 @@ use Rattle.cfb_volume.specs.cfb_content.Contents.{AreSnug, LosesNone}
 use Rattle.cfb_volume.proofs.cfb_content.DirCount.{count-stays}
 use Rattle.cfb_entry_changes.specs.Standing.{KeepsAllButEntries}
 use Rattle.cfb_entry_changes.proofs.Entries.{either}
-use Rattle.cfb_agreement.specs.Changes.{KeepsParts}
+use Rattle.cfb_agreement.specs.Changes.{KeepsParts, LosesNoEntry}
 use Rattle.cfb_agreement.specs.Files.{EmptyStartAtEnd, IsCounted}
 use Rattle.cfb_agreement.proofs.ContentChanges.{same-counted}
 use Rattle.cfb_agreement.proofs.Parts.{none-freed}
@@ -36,15 +36,16 @@ tables-whole v old new held tables longer whole =
 -- where slots alone were written each part of a file that was made here is kept, if those are that hang on the entries
 pub slots-keep-parts : (v : Validation) (old new : MiniState) → HoldsMini v old → HoldsMini v new → KeepsAllButEntries old new
     → KeepsWholeHeader old.directory new.directory → Spares old.directory.sectors (table_of old) (table_of new)
-    → (IsChangeable Strict old → IsChangeable Strict new) → (EmptyStartAtEnd old → EmptyStartAtEnd new) → LosesNone old new
+    → (IsChangeable Strict old → IsChangeable Strict new) → (EmptyStartAtEnd old → EmptyStartAtEnd new) → LosesNone old new → LosesNoEntry old new
     → (AreSnug old → AreSnug new) → (IsSnugMini old → IsSnugMini new)
     → (AreAllBalanced (cases_of old) (entries_of old) → AreAllBalanced (cases_of new) (entries_of new)) → KeepsParts old new
-slots-keep-parts v old new before after kept header spares strict ended used snug snug_mini balanced = record {
+slots-keep-parts v old new before after kept header spares strict ended used entries snug snug_mini balanced = record {
   strict = strict;
   whole = tables-whole v old new after kept.tables spares.no_shorter;
   counted = same-counted old new kept.limits kept.sectors (count-stays v old new before (header-whole old new header));
   ended = ended;
   used = used;
+  entries = entries;
   exact = λ exact. subst (λ (u : TableState). AreExactTables u) (sym kept.tables) exact;
   snug = snug;
   snug_mini = snug_mini;
