@@ -113,22 +113,30 @@ const FOLDER: &[Found<'static>] = &[
     ("/%u202egnp.exe", Some(5)),
 ];
 
+/// Whether the whole tree, a storage and a stream each give what stands in them.
+fn gives_parts(alloc: Global, file: &mut CompoundFile<MemoryMedium>) -> Result<bool, Fail> {
+    let inner = [("/%05SummaryInformation", Some(200))];
+    let stream = [("/100%25", Some(3))];
+    Ok(gives(alloc, file, "/", FOLDER)?
+        && gives(alloc, file, "a/B", &inner)?
+        && gives(alloc, file, "/100%", &stream)?)
+}
+
+fn tree_gives_parts(alloc: Global) -> Result<bool, Fail> {
+    let mut file = made(alloc, TREE)?;
+    gives_parts(alloc, &mut file)
+}
+
+fn empty_gives_nothing(alloc: Global) -> Result<bool, Fail> {
+    let mut file = made(alloc, &[])?;
+    gives(alloc, &mut file, "/", &[])
+}
+
 #[test]
 fn trees_are_extracted(rt: HostRuntime) -> Result<(), Fail> {
     let alloc = rt.alloc();
-    let mut file = made(alloc, TREE)?;
-    assert!(rt; gives(alloc, &mut file, "/", FOLDER)?);
-    assert!(rt;
-        gives(
-            alloc,
-            &mut file,
-            "a/B",
-            &[("/%05SummaryInformation", Some(200))]
-        )?
-    );
-    assert!(rt; gives(alloc, &mut file, "/100%", &[("/100%25", Some(3))])?);
-    let mut empty = made(alloc, &[])?;
-    assert!(rt; gives(alloc, &mut empty, "/", &[])?);
+    assert!(rt; tree_gives_parts(alloc)?);
+    assert!(rt; empty_gives_nothing(alloc)?);
     Ok(())
 }
 
