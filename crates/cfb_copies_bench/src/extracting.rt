@@ -117,9 +117,11 @@ const FOLDER: &[Found<'static>] = &[
 fn gives_parts(alloc: Global, file: &mut CompoundFile<MemoryMedium>) -> Result<bool, Fail> {
     let inner = [("/%05SummaryInformation", Some(200))];
     let stream = [("/100%25", Some(3))];
-    Ok(gives(alloc, file, "/", FOLDER)?
-        && gives(alloc, file, "a/B", &inner)?
-        && gives(alloc, file, "/100%", &stream)?)
+    Ok(
+        gives(alloc, file, "/", FOLDER)?
+            && gives(alloc, file, "a/B", &inner)?
+            && gives(alloc, file, "/100%", &stream)?,
+    )
 }
 
 fn tree_gives_parts(alloc: Global) -> Result<bool, Fail> {

@@ -181,16 +181,16 @@ module _ (cases : Cases) (version : Version) (old new : File) where
   reading_stays : (b : Bool) (may : ℕ → Type 0) (grows : ℕ) (nothing besides : Type 0) → IsSet cases version b old
       → MatchBool b (LeavesSound cases version old new may grows nothing besides) (LeavesUnsound old new)
       → nothing → old.failed ≡ false → new.failed ≡ false → new.reading ≡ old.reading
-  reading_stays true may grows nothing besides set l none was calm = same_reading cases version old new (set was) (l.sound calm) (l.stays none calm)
+  reading_stays true may grows nothing besides set l none was calm = same_reading cases version old new (set was) (l.order.sound calm) (l.order.stays none calm)
   reading_stays false may grows nothing besides set l none was calm = (l.1 calm).1
 
   sticks_by : (b : Bool) (may : ℕ → Type 0) (grows : ℕ) (nothing besides : Type 0) → MatchBool b (LeavesSound cases version old new may grows nothing besides) (LeavesUnsound old new)
       → old.failed ≡ true → new.failed ≡ true
-  sticks_by true may grows nothing besides l = l.failed
+  sticks_by true may grows nothing besides l = l.order.failed
   sticks_by false may grows nothing besides l = l.0
 
   pub set_next : (b : Bool) (may : ℕ → Type 0) (grows : ℕ) (nothing besides : Type 0) → MatchBool b (LeavesSound cases version old new may grows nothing besides) (LeavesUnsound old new) → IsSet cases version b new
-  set_next true may grows nothing besides l = l.sound
+  set_next true may grows nothing besides l = l.order.sound
   set_next false may grows nothing besides l = λ calm. tt
 
   was_calm : (old.failed ≡ true → new.failed ≡ true) → new.failed ≡ false → old.failed ≡ false
@@ -324,16 +324,16 @@ module _ (cases : Cases) (version : Version) (sound : Bool) (old new : File) (ca
   leaves_here : (b : Bool) → MatchBool b (Keeps cases version old (by_call call reply) new) (LeavesUnsound old new)
       → MatchBool b (LeavesSound cases version old new May Grows Nothing (MeansIt new)) (LeavesUnsound old new)
   leaves_here true k = record {
-    failed = k.failed;
-    others = k.others;
-    header = k.header;
-    sound = k.sound;
-    tidy = k.tidy;
-    sectors = k.sectors;
-    mini_sectors = k.mini_sectors;
-    reached = k.reached;
-    entries = k.entries;
-    stays = λ none. k.stays (nothing_back none);
+    order = record {
+      failed = k.order.failed;
+      others = k.order.others;
+      header = k.order.header;
+      sound = k.order.sound;
+      tidy = k.order.tidy;
+      lost = k.order.lost;
+      entries = k.order.entries;
+      stays = λ none. k.order.stays (nothing_back none);
+    };
     besides = k.means tt;
   }
   leaves_here false k = k
@@ -346,21 +346,21 @@ module _ (cases : Cases) (version : Version) (sound : Bool) (old new : File) (ca
   leaves_back : (b : Bool) → (IsTrue b → Caused) → MatchBool b (LeavesSound cases version old new May Grows Nothing (MeansIt new)) (LeavesUnsound old new)
       → MatchBool b (Keeps cases version old (by_call call reply) new) (LeavesUnsound old new)
   leaves_back true caused l = record {
-    failed = l.failed;
-    others = l.others;
-    header = l.header;
+    order = record {
+      failed = l.order.failed;
+      others = l.order.others;
+      header = l.order.header;
+      sound = l.order.sound;
+      tidy = l.order.tidy;
+      lost = l.order.lost;
+      entries = l.order.entries;
+      stays = λ none. l.order.stays (nothing_here none);
+    };
     content = λ calm. tt;
+    means = λ is. l.besides;
     full = λ e calm. ((caused refl calm).0 e).0;
     memory = λ e calm. (caused refl calm).1 e;
     kept_back = λ no. absurd no;
-    sound = l.sound;
-    tidy = l.tidy;
-    sectors = l.sectors;
-    mini_sectors = l.mini_sectors;
-    reached = l.reached;
-    entries = l.entries;
-    means = λ is. l.besides;
-    stays = λ none. l.stays (nothing_here none);
   }
   leaves_back false caused l = l
 
@@ -564,16 +564,16 @@ module _ (cases : Cases) (version : Version) (sound : Bool) (names : List (List 
       op_leaves_here : (b : Bool) → MatchBool b (Keeps cases version old its_deed new) (LeavesUnsound old new)
           → MatchBool b (LeavesSound cases version old new At 0 Idle Differs) (LeavesUnsound old new)
       op_leaves_here true k = record {
-        failed = k.failed;
-        others = k.others;
-        header = k.header;
-        sound = k.sound;
-        tidy = k.tidy;
-        sectors = k.sectors;
-        mini_sectors = k.mini_sectors;
-        reached = k.reached;
-        entries = k.entries;
-        stays = λ none. idle_here o k.kept_back (λ calm leaves. k.stays leaves calm) none;
+        order = record {
+          failed = k.order.failed;
+          others = k.order.others;
+          header = k.order.header;
+          sound = k.order.sound;
+          tidy = k.order.tidy;
+          lost = k.order.lost;
+          entries = k.order.entries;
+          stays = λ none. idle_here o k.kept_back (λ calm leaves. k.order.stays leaves calm) none;
+        };
         besides = k.content;
       }
       op_leaves_here false k = k
@@ -634,21 +634,21 @@ module _ (cases : Cases) (version : Version) (sound : Bool) (names : List (List 
           → MatchBool b (LeavesSound cases version old new At 0 Idle Differs) (LeavesUnsound old new)
           → MatchBool b (Keeps cases version old its_deed new) (LeavesUnsound old new)
       op_leaves_back true full runs l = record {
-        failed = l.failed;
-        others = l.others;
-        header = l.header;
+        order = record {
+          failed = l.order.failed;
+          others = l.order.others;
+          header = l.order.header;
+          sound = l.order.sound;
+          tidy = l.order.tidy;
+          lost = l.order.lost;
+          entries = l.order.entries;
+          stays = λ none. l.order.stays (file_here o none);
+        };
         content = l.besides;
+        means = λ no. absurd no;
         full = λ e calm. (op_full_back o (full refl e calm)).0;
         memory = tt;
-        kept_back = left_alone runs l.stays;
-        sound = l.sound;
-        tidy = l.tidy;
-        sectors = l.sectors;
-        mini_sectors = l.mini_sectors;
-        reached = l.reached;
-        entries = l.entries;
-        means = λ no. absurd no;
-        stays = λ none. l.stays (file_here o none);
+        kept_back = left_alone runs l.order.stays;
       }
       op_leaves_back false full runs l = l
 
@@ -741,39 +741,18 @@ module _ (cases : Cases) (version : Version) (sound : Bool) (path : List ℕ) (t
 
   closing_leaves : (b : Bool) → MatchBool b (Keeps cases version old (by_closing (names_at path) s closing) new) (LeavesUnsound old new)
       → MatchBool b (LeavesSound cases version old new At' 0 (s.pending ≡ false) Done) (LeavesUnsound old new)
-  closing_leaves true k = record {
-    failed = k.failed;
-    others = k.others;
-    header = k.header;
-    sound = k.sound;
-    tidy = k.tidy;
-    sectors = k.sectors;
-    mini_sectors = k.mini_sectors;
-    reached = k.reached;
-    entries = k.entries;
-    stays = k.stays;
-    besides = λ calm. (k.content calm, k.means tt calm);
-  }
+  closing_leaves true k = record { order = k.order; besides = λ calm. (k.content calm, k.means tt calm) }
   closing_leaves false k = k
 
   closing_leaves_back : (b : Bool) → (IsTrue b → closing ≡ Some file_full → Unfailed old (HasNoRoomForKept cases old (names_at path) s)) → MatchBool b (LeavesSound cases version old new At' 0 (s.pending ≡ false) Done) (LeavesUnsound old new)
       → MatchBool b (Keeps cases version old (by_closing (names_at path) s closing) new) (LeavesUnsound old new)
   closing_leaves_back true why l = record {
-    failed = l.failed;
-    others = l.others;
-    header = l.header;
+    order = l.order;
     content = λ calm. (l.besides calm).0;
+    means = λ is calm. (l.besides calm).1;
     full = why refl;
     memory = tt;
     kept_back = λ no. absurd no;
-    sound = l.sound;
-    tidy = l.tidy;
-    sectors = l.sectors;
-    mini_sectors = l.mini_sectors;
-    reached = l.reached;
-    entries = l.entries;
-    means = λ is calm. (l.besides calm).1;
-    stays = l.stays;
   }
   closing_leaves_back false why l = l
 

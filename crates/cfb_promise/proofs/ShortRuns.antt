@@ -119,7 +119,7 @@ module _ (cases : Cases) (version : Version) (sound : Bool) where
   none_left : (old new : File) (path : List ℕ) (moment : ℕ) → Unfailed new (HasSoundBytes cases version new) → HasNoEntryOnTheWay cases version old path moment new → Unfailed new (HasNoEntry new.reading)
   none_left old new path moment sound_now x calm =
       let between = x.2 in
-      let there : HasSoundBytes cases version between = x.9.sound x.6 in
+      let there : HasSoundBytes cases version between = x.9.order.sound x.6 in
       subst (λ (r : Reading). HasNoEntry r) (Reads-unique cases new.bytes between.reading new.reading
       (subst (λ (b : List ℕ). Reads cases b between.reading) (sym x.5) there.reads) (sound_now calm).reads) x.7
 

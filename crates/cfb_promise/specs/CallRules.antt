@@ -91,8 +91,7 @@ module _ {A : Type 0} where
   abbrev pub MayLose : Cases → Reading → Command A → (k : ℕ) → Type 0
   MayLose cases r (command.Stream how.Create path ops) k = IsAtPath cases r (chars (string_bytes path)) k
   MayLose cases r (command.RemoveStream path) k = IsAtPath cases r (chars (string_bytes path)) k
-  MayLose cases r (command.RemoveStorageAll path) k =
-      (names below : List (List ℕ)) × (names_of_path (chars (string_bytes path)) ≡ Some names) × StandsAt cases r (names ++ below) k
+  MayLose cases r (command.RemoveStorageAll path) k = (names below : List (List ℕ)) × (names_of_path (chars (string_bytes path)) ≡ Some names) × StandsAt cases r (names ++ below) k
   MayLose cases r other k = ⊥
 
   -- how many storages a call may make in turn

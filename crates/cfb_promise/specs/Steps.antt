@@ -126,8 +126,7 @@ module _ (cases : Cases) (version : Version) (sound : Bool) where
     abbrev pub MemoryCall : File → Command A → File → Type 0
     MemoryCall old (CreateStorageAll path moment) new = ⊤
     MemoryCall old (RemoveStorageAll path) new = ⊤
-    MemoryCall old (RemoveStream path) new =
-        (new.failed ≡ false) ⊎ ((k : ℕ) × IsAtPath cases old.reading (chars (string_bytes path)) k × (0 < (entry_at old.reading.entries k).stream_len))
+    MemoryCall old (RemoveStream path) new = (new.failed ≡ false) ⊎ ((k : ℕ) × IsAtPath cases old.reading (chars (string_bytes path)) k × (0 < (entry_at old.reading.entries k).stream_len))
     MemoryCall old other new = new.failed ≡ false
 
     -- the call of a command, or of the opening of its stream
