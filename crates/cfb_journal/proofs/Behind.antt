@@ -197,7 +197,7 @@ module _ {T U : Type 0} (len : ℕ) (body : List ℕ) (done : T) (old mid next :
       goes_on {a = old} {b = next} {c = new} (Restores (take len old.seen.file)) (stage_then_sync (Ok also) fits first) second.looks.time
       (λ c now. let from = put.crash c (first.looks.crash c (second.looks.crash c now)) in staging len fits old.seen.file c from.0 (changing.durable from.0 from.1) from.2)
 
-journal_more : (len stamp : ℕ) (body : List ℕ) → journal_of len stamp 0 1 [] ++ body ≡ journal_of len stamp 0 1 body
+pub journal_more : (len stamp : ℕ) (body : List ℕ) → journal_of len stamp 0 1 [] ++ body ≡ journal_of len stamp 0 1 body
 unfolding journal_of
 journal_more len stamp body = refl
 
