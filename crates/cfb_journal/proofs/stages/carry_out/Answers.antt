@@ -1,4 +1,4 @@
-use Rattle.std.proofs.Common.{◌∙◌, inl, inr, refl, ap, subst, take}
+use Rattle.std.proofs.Common.{◌∙◌, inr, refl, ap, subst, take}
 use Rattle.cfb_journal.specs.Disk.{Image}
 use Rattle.cfb_journal.specs.Journal.{Restores, RestoresEither, applied}
 use Rattle.cfb_journal.specs.Overlay.{contents, frames_from}

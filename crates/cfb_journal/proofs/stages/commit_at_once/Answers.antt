@@ -1,4 +1,4 @@
-use Rattle.std.proofs.Common.{◌≡◌, ◌∙◌, ◌≤◌, ap, arith, inl, length, subst, sym, take, List, ℕ, OnOk}
+use Rattle.std.proofs.Common.{◌≡◌, ◌≤◌, arith, inl, length, subst, sym, take, List, ℕ, OnOk}
 use Rattle.cfb_journal.specs.Disk.{Image}
 use Rattle.cfb_journal.specs.Journal.{Agree, Restores, RestoresEither, applied, body_bytes, journal_of}
 use Rattle.cfb_journal.specs.Overlay.{contents, frames_from}
