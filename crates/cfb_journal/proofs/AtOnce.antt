@@ -2,13 +2,13 @@
 use Rattle.std.proofs.Common.{◌≡◌, ℕ, ◌^◌, ◌<◌, List, [], ◌∷◌, ◌++◌, length, sym, ◌∙◌, ap, Result, Ok, Err, OnOk}
 use Rattle.cfb_format.specs.Medium.{written}
 use Rattle.cfb_format.specs.declared.medium.MediumFault.{MediumFault}
-use Rattle.cfb_journal.specs.Disk.{Image, View, Torn, InJournal, IsWritten, SameJournal, After, Changes, Syncs}
+use Rattle.cfb_journal.specs.Disk.{View, Torn, InJournal, IsWritten, After, Changes}
 use Rattle.cfb_journal.specs.Journal.{head_of, journal_of, Restores}
 use Rattle.cfb_journal.specs.Stamp.{stamp_of}
 use Rattle.cfb_journal.specs.States.{KeepsGates, Leaves, Meanwhile, IsOn, PutsBehind}
 use Rattle.cfb_journal.proofs.Beginning.{HasHead, head-gate, head_kept, head_torn, on_head, restores_head}
 use Rattle.cfb_journal.proofs.Behind.{journal_more}
-use Rattle.cfb_journal.proofs.Clock.{goes_on, joined, once, weaker}
+use Rattle.cfb_journal.proofs.Clock.{joined, once, weaker}
 
 module _ {T : Type 0} (len : ℕ) (fits : len < 2 ^ 64) (file : List ℕ) (is : len ≡ length file) (one two : View) (same : one.seen.file ≡ file) (is_on : IsOn (head_of len (stamp_of file)) one) where
   gate_leaves : (result : Result T MediumFault) → Changes (InJournal (Torn 17 1)) (InJournal (IsWritten 17 (1 ∷ []))) result one two → Leaves two (HasHead len file)
@@ -30,19 +30,12 @@ module _ {T : Type 0} (len : ℕ) (fits : len < 2 ^ 64) (file : List ℕ) (is : 
         (weaker {a = two} {b = three} (After (InJournal KeepsGates) two.may_leave) (Restores file)
         (λ c from. restores_head len fits file is c (head_kept len file c from.0 (gate_leaves (Ok done) call from.0 from.1) from.2)) put.run)
 
-    module _ {V : Type 0} (also : U) (put : PutsBehind body (Ok also) two three) (four : View) where
-      pub at_once_run : (result : Result V MediumFault) → Syncs SameJournal result three four → Meanwhile one four (Restores file)
-      at_once_run result sync =
-          goes_on {a = one} {b = three} {c = four} (Restores file) (body_put_run (Ok also) put) sync.looks.time
-          (λ c now. restores_head len fits file is c (body_leaves (Ok also) put c (sync.looks.crash c now)))
-
-      pub staged_at_once : (result : Result V MediumFault) → Syncs SameJournal result three four → OnOk result (IsOn (journal_of len (stamp_of file) 0 1 body) four)
-      staged_at_once (Ok last) sync =
-          let here = put.seen ∙ ap (λ (j : List ℕ). j ++ body) (gate_put done call) ∙ journal_more len (stamp_of file) body in
-          let stays = ap (λ (i : Image). i.file) sync.looks.seen ∙ put.file ∙ call.seen.file ∙ same in
-          record {
-            seen = ap (λ (i : Image). i.journal) sync.looks.seen ∙ here;
-            file = λ c now. (body_leaves (Ok also) put c (sync.looks.crash c now)).file_is ∙ sym stays;
-            journal_is = λ c now. sync.durable c now ∙ here;
-          }
-      staged_at_once (Err e) sync = tt
+    pub staged_at_once : (result : Result U MediumFault) → PutsBehind body result two three → OnOk result (Leaves three (λ c. c.journal ≡ three.seen.journal)) → OnOk result (IsOn (journal_of len (stamp_of file) 0 1 body) three)
+    staged_at_once (Ok also) put durable =
+        let here = put.seen ∙ ap (λ (j : List ℕ). j ++ body) (gate_put done call) ∙ journal_more len (stamp_of file) body in
+        record {
+          seen = here;
+          file = λ c now. (body_leaves (Ok also) put c now).file_is ∙ sym (put.file ∙ call.seen.file ∙ same);
+          journal_is = λ c now. durable c now ∙ here;
+        }
+    staged_at_once (Err e) put durable = tt
