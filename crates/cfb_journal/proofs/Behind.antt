@@ -6,11 +6,11 @@ use Rattle.std.specs.declared.alloc.Global.{Global}
 use Rattle.cfb_format.specs.Medium.{written}
 use Rattle.cfb_format.specs.declared.medium.MediumFault.{MediumFault}
 use Rattle.cfb_format.proofs.ByteLemmas.{written_inside}
-use Rattle.cfb_journal.specs.Disk.{Image, View, Torn, InJournal, IsWritten, SameFile, SameJournal, After, Follows, Changes, Syncs}
+use Rattle.cfb_journal.specs.Disk.{Image, View, Torn, InJournal, IsWritten, SameFile, After, Follows, Changes, Syncs}
 use Rattle.cfb_journal.specs.Journal.{encoded, journal_of, Restores}
 use Rattle.cfb_journal.specs.Overlay.{contents, frames_from}
 use Rattle.cfb_journal.specs.Stamp.{stamp_of}
-use Rattle.cfb_journal.specs.States.{Meanwhile, IsChanging, IsOn, KeepsFirst, KeepsGates, PutsBehind}
+use Rattle.cfb_journal.specs.States.{Leaves, Meanwhile, IsChanging, IsOn, KeepsFirst, KeepsGates, PutsBehind}
 use Rattle.cfb_journal.proofs.Clock.{started, weaker, joined, goes_on, once}
 use Rattle.cfb_journal.proofs.Contents.{encoded_none_alone}
 use Rattle.cfb_journal.proofs.Files.{journal-change, journal-commit, journal-length}
@@ -186,28 +186,23 @@ stage_run len old new fits changing run =
     weaker {a = old} {b = new} (After (InJournal KeepsGates) old.may_leave) (Restores (take len old.seen.file))
     (λ c from. staging len fits old.seen.file c from.0 (changing.durable from.0 from.1) from.2) run
 
-module _ {T U : Type 0} (len : ℕ) (body : List ℕ) (done : T) (old mid next : View) (changing : IsChanging len old) (put : PutsBehind body (Ok done) old mid) where
-  pub stage_then_sync : (result : Result U MediumFault) → len < 2 ^ 64 → Syncs SameJournal result mid next → Meanwhile old next (Restores (take len old.seen.file))
-  stage_then_sync result fits sync =
-      goes_on {a = old} {b = mid} {c = next} (Restores (take len old.seen.file)) (stage_run len old mid fits changing put.run) sync.looks.time
-      (λ c now. let from = put.crash c (sync.looks.crash c now) in staging len fits old.seen.file c from.0 (changing.durable from.0 from.1) from.2)
+pub stage_to_end : {T U : Type 0} (len : ℕ) (body : List ℕ) (done : T) (result : Result U MediumFault) (old mid new : View) → len < 2 ^ 64 → IsChanging len old → PutsBehind body (Ok done) old mid → Syncs SameFile result mid new
+    → Meanwhile old new (Restores (take len old.seen.file))
+stage_to_end len body done result old mid new fits changing put sync =
+    goes_on {a = old} {b = mid} {c = new} (Restores (take len old.seen.file)) (stage_run len old mid fits changing put.run) sync.looks.time
+    (λ c now. let from = put.crash c (sync.looks.crash c now) in staging len fits old.seen.file c from.0 (changing.durable from.0 from.1) from.2)
 
-  pub stage_to_end : {V : Type 0} (also : U) (result : Result V MediumFault) (new : View) → len < 2 ^ 64 → Syncs SameJournal (Ok also) mid next → Syncs SameFile result next new → Meanwhile old new (Restores (take len old.seen.file))
-  stage_to_end also result new fits first second =
-      goes_on {a = old} {b = next} {c = new} (Restores (take len old.seen.file)) (stage_then_sync (Ok also) fits first) second.looks.time
-      (λ c now. let from = put.crash c (first.looks.crash c (second.looks.crash c now)) in staging len fits old.seen.file c from.0 (changing.durable from.0 from.1) from.2)
-
-journal_more : (len stamp : ℕ) (body : List ℕ) → journal_of len stamp 0 1 [] ++ body ≡ journal_of len stamp 0 1 body
+pub journal_more : (len stamp : ℕ) (body : List ℕ) → journal_of len stamp 0 1 [] ++ body ≡ journal_of len stamp 0 1 body
 unfolding journal_of
 journal_more len stamp body = refl
 
-pub staged : {T U V : Type 0} (len : ℕ) (body : List ℕ) (done : T) (also : U) (result : Result V MediumFault) (old mid next new : View) → IsChanging len old → PutsBehind body (Ok done) old mid → Syncs SameJournal (Ok also) mid next → Syncs SameFile result next new
+pub staged : {T U : Type 0} (len : ℕ) (body : List ℕ) (done : T) (result : Result U MediumFault) (old mid new : View) → IsChanging len old → PutsBehind body (Ok done) old mid → Leaves mid (λ c. c.journal ≡ mid.seen.journal) → Syncs SameFile result mid new
     → OnOk result (IsOn (journal_of len (stamp_of (take len old.seen.file)) 0 1 body) new)
-staged len body done also (Ok last) old mid next new changing put first second =
+staged len body done (Ok last) old mid new changing put durable sync =
     let is = put.seen ∙ ap (λ (j : List ℕ). j ++ body) changing.journal ∙ journal_more len (stamp_of (take len old.seen.file)) body in
     record {
-      seen = ap (λ (i : Image). i.journal) second.looks.seen ∙ ap (λ (i : Image). i.journal) first.looks.seen ∙ is;
-      file = λ c now. second.durable c now ∙ ap (λ (i : Image). i.file) (sym second.looks.seen);
-      journal_is = λ c now. first.durable c (second.looks.crash c now) ∙ is;
+      seen = ap (λ (i : Image). i.journal) sync.looks.seen ∙ is;
+      file = λ c now. sync.durable c now ∙ ap (λ (i : Image). i.file) (sym sync.looks.seen);
+      journal_is = λ c now. durable c (sync.looks.crash c now) ∙ is;
     }
-staged len body done also (Err e) old mid next new changing put first second = tt
+staged len body done (Err e) old mid new changing put durable sync = tt
