@@ -1,13 +1,14 @@
 -- Calls by path and on streams by the rules of the code's commands are those by the rules of calls, both ways.
-use Rattle.std.proofs.Common.{◌≡◌, ◌+◌, ◌∙◌, ◌^◌, ◌-◌, ◌<◌, ◌⊎◌, ℕ, List, Bool, true, false, refl, sym, ap, arith, length, nat_le, subst, inl, inr}
+use Rattle.std.proofs.Common.{◌≡◌, ◌∙◌, ◌^◌, ◌-◌, ◌<◌, ◌⊎◌, ℕ, List, Bool, true, false, refl, sym, ap, arith, length, nat_le, subst, inl, inr}
 use Rattle.std.proofs.lemmas.Bool.Decides.{nat_tests}
 use Rattle.std.specs.Prelude.{⊤, ◌≢◌, ◌&&◌, ◌||◌, MatchBool, MatchOption, IsTrue, Option, Some, None, is_some, if◌then◌else◌}
 use Rattle.std.specs.Option.{option_map_or}
 use Rattle.std.specs.declared.io.traits.SeekFrom.{SeekFrom}
 use Rattle.std.specs.declared.io.traits.SeekFrom.TheVariants.{Start, End, Current}
 use Rattle.cfb_format.specs.declared.version.Version.{Version}
-use Rattle.cfb_format.specs.Bytes.{entries_per_sector, max_regular_sector, max_stream_len}
+use Rattle.cfb_format.specs.Bytes.{max_regular_sector, max_stream_len}
 use Rattle.cfb_format.specs.Full.{IsFull}
+use Rattle.cfb_format.specs.Meaning.{tree_of}
 use Rattle.cfb_format.specs.Medium.{Rises}
 use Rattle.cfb_format.specs.Names.{Cases}
 use Rattle.cfb_format.specs.Reading.{Reading, root_entry}
@@ -30,11 +31,11 @@ use Rattle.cfb_commands.specs.cfb_stream_window.Windows.{whence_of}
 use Rattle.cfb_commands.specs.declared.command.StreamOp.{StreamOp}
 use Rattle.cfb_commands.specs.declared.command.StreamOp.TheVariants as op
 use Rattle.cfb_promise.specs.CallRules.{Rule}
-use Rattle.cfb_promise.specs.Files.{DiffersInContent, File, FullBy, FullByCall, FullCause, HasNoEntry, HasNoRoomFor, HasNoRoomForKept, HasSoundBytes, Keeps, KeepsBack, LeavesAlone, LeavesSound, MeansIt, MemoryByCall, MemoryCause, StandsAt, Unfailed}
+use Rattle.cfb_promise.specs.Files.{DiffersInContent, File, FullBy, FullByCall, FullCause, GrowsTightly, HasNoEntry, HasNoRoomFor, HasNoRoomForKept, HasSoundBytes, IsOneChange, Keeps, KeepsBack, LeavesAlone, LeavesSound, MeansIt, MemoryByCall, MemoryCause, StandsAt, Unfailed, slots_for}
 use Rattle.cfb_promise.specs.Files as files
 use Rattle.cfb_promise.specs.Steps.{Breaks, Closing, FollowsRule, IsLeft, LeavesUnsound, OnFailed, OpRuns, refusal_in}
 use Rattle.cfb_promise.specs.Steps as short
-use Rattle.cfb_promise.specs.StreamRules.{CanBreak, IsAllowed, IsLeftBy, OpBreaks, OpLeavesFile, OpOnFailed, OpStep, may_write, sought, work_of}
+use Rattle.cfb_promise.specs.StreamRules.{CanBreak, IsAllowed, IsLeftBy, OpBreaks, OpLeavesFile, OpOnFailed, OpStep, is_second, may_write, sought, work_of}
 use Rattle.cfb_promise.proofs.Blaming.{blames, can_break, can_work, may_break, may_work, stream_is_full}
 use Rattle.cfb_promise.proofs.Views.{at_top, same_reading}
 
@@ -143,6 +144,10 @@ and_last : (a b : Bool) → b ≡ false → (a && b) ≡ false
 and_last true b e = e
 and_last false b e = refl
 
+and_true : (a : Bool) → (a && true) ≡ false → a ≡ false
+and_true true e = absurd (let w : true ≡ false = e in cc)
+and_true false e = refl
+
 and_rest : (a b : Bool) → a ≡ true → (a && b) ≡ false → b ≡ false
 and_rest true b e x = x
 and_rest false b e x = absurd (let w : false ≡ true = e in cc)
@@ -229,7 +234,10 @@ module _ (cases : Cases) (version : Version) (sound : Bool) (old new : File) (ca
   Nothing = ((refusal : Refusal) × (reply ≡ refused refusal)) ⊎ (is_changing its_rule.kind ≡ false)
 
   abbrev Grows : ℕ
-  Grows = entries_per_sector version + files.most_made call
+  Grows = slots_for version (kind_on cases (tree_of old.bytes old.reading) call) (files.most_made call)
+
+  abbrev Besides : Type 0
+  Besides = GrowsTightly old new × MeansIt new
 
   abbrev May : ℕ → Type 0
   May k = files.MayLose cases old.reading call k
@@ -322,19 +330,19 @@ module _ (cases : Cases) (version : Version) (sound : Bool) (old new : File) (ca
   nothing_back (inr e) = inr (changing_same cases old.tree call ∙ e)
 
   leaves_here : (b : Bool) → MatchBool b (Keeps cases version old (by_call call reply) new) (LeavesUnsound old new)
-      → MatchBool b (LeavesSound cases version old new May Grows Nothing (MeansIt new)) (LeavesUnsound old new)
+      → MatchBool b (LeavesSound cases version old new May Grows Nothing Besides) (LeavesUnsound old new)
   leaves_here true k = record {
     order = record {
       failed = k.order.failed;
       others = k.order.others;
       header = k.order.header;
       sound = k.order.sound;
-      tidy = k.order.tidy;
+      parts = k.order.parts;
       lost = k.order.lost;
       entries = k.order.entries;
       stays = λ none. k.order.stays (nothing_back none);
     };
-    besides = k.means tt;
+    besides = λ calm. (k.tight tt calm, k.means tt calm);
   }
   leaves_here false k = k
 
@@ -343,7 +351,7 @@ module _ (cases : Cases) (version : Version) (sound : Bool) (old new : File) (ca
   Caused = old.failed ≡ false → (reply ≡ refused file_full → FullByCall cases version old call new × Unfailed new (HasNoEntry new.reading))
       × (reply ≡ refused out_of_memory → MemoryByCall cases old call new)
 
-  leaves_back : (b : Bool) → (IsTrue b → Caused) → MatchBool b (LeavesSound cases version old new May Grows Nothing (MeansIt new)) (LeavesUnsound old new)
+  leaves_back : (b : Bool) → (IsTrue b → Caused) → MatchBool b (LeavesSound cases version old new May Grows Nothing Besides) (LeavesUnsound old new)
       → MatchBool b (Keeps cases version old (by_call call reply) new) (LeavesUnsound old new)
   leaves_back true caused l = record {
     order = record {
@@ -351,13 +359,14 @@ module _ (cases : Cases) (version : Version) (sound : Bool) (old new : File) (ca
       others = l.order.others;
       header = l.order.header;
       sound = l.order.sound;
-      tidy = l.order.tidy;
+      parts = l.order.parts;
       lost = l.order.lost;
       entries = l.order.entries;
       stays = λ none. l.order.stays (nothing_here none);
     };
+    tight = λ one calm. (l.besides calm).0;
     content = λ calm. tt;
-    means = λ is. l.besides;
+    means = λ is calm. (l.besides calm).1;
     full = λ e calm. ((caused refl calm).0 e).0;
     memory = λ e calm. (caused refl calm).1 e;
     kept_back = λ no. absurd no;
@@ -393,8 +402,8 @@ module _ (cases : Cases) (version : Version) (sound : Bool) (old new : File) (ca
 
   pub call_back : IsSet cases version sound old → (IsTrue sound → Caused) → ShortCall → LongCall
   call_back set caused h =
-      let sticks = sticks_by cases version old new sound May Grows Nothing (MeansIt new) h.leaves in
-      let same = reading_stays cases version old new sound May Grows Nothing (MeansIt new) set h.leaves in
+      let sticks = sticks_by cases version old new sound May Grows Nothing Besides h.leaves in
+      let same = reading_stays cases version old new sound May Grows Nothing Besides set h.leaves in
       record {
         runs = call_weaker no_entry (causes_between (seen_by cases version sound old) (seen_by cases version sound new) no_entry.full) (no_rise sound old new) (λ x. x)
             (setting_by cases version sound) (state old) (state new) call reply
@@ -548,6 +557,17 @@ module _ (cases : Cases) (version : Version) (sound : Bool) (names : List (List 
     file_here (op.Write bytes) (inr e) = inr (and_none _ _ e)
     file_here o (inr e) = inr (ap (may_leave_failed s.pending) (sym (work_same o)) ∙ e)
 
+    -- whether it is one change
+    one_here : (o : StreamOp A) → is_second s o ≡ false → IsOneChange (by_stream_call names s (stream_call_of o) reply t)
+    one_here (op.Write bytes) e = e
+    one_here (op.SetLen len) e = and_none s.pending true e
+    one_here o e = and_last s.pending false refl
+
+    one_back : (o : StreamOp A) → IsOneChange (by_stream_call names s (stream_call_of o) reply t) → is_second s o ≡ false
+    one_back (op.Write bytes) e = e
+    one_back (op.SetLen len) e = and_true s.pending e
+    one_back o e = refl
+
     module _ (o : StreamOp A) where
       abbrev At : ℕ → Type 0
       At k = StandsAt cases old.reading names k
@@ -556,7 +576,7 @@ module _ (cases : Cases) (version : Version) (sound : Bool) (names : List (List 
       Idle = OpLeavesFile s o reply
 
       abbrev Differs : Type 0
-      Differs = DiffersInContent cases names old new
+      Differs = (is_second s o ≡ false → GrowsTightly old new) × DiffersInContent cases names old new
 
       abbrev its_deed : Deed
       its_deed = by_stream_call names s (stream_call_of o) reply t
@@ -569,12 +589,12 @@ module _ (cases : Cases) (version : Version) (sound : Bool) (names : List (List 
           others = k.order.others;
           header = k.order.header;
           sound = k.order.sound;
-          tidy = k.order.tidy;
+          parts = k.order.parts;
           lost = k.order.lost;
           entries = k.order.entries;
           stays = λ none. idle_here o k.kept_back (λ calm leaves. k.order.stays leaves calm) none;
         };
-        besides = k.content;
+        besides = λ calm. (λ one. k.tight (one_here o one) calm, k.content calm);
       }
       op_leaves_here false k = k
 
@@ -639,12 +659,13 @@ module _ (cases : Cases) (version : Version) (sound : Bool) (names : List (List 
           others = l.order.others;
           header = l.order.header;
           sound = l.order.sound;
-          tidy = l.order.tidy;
+          parts = l.order.parts;
           lost = l.order.lost;
           entries = l.order.entries;
           stays = λ none. l.order.stays (file_here o none);
         };
-        content = l.besides;
+        tight = λ one calm. (l.besides calm).0 (one_back o one);
+        content = λ calm. (l.besides calm).1;
         means = λ no. absurd no;
         full = λ e calm. (op_full_back o (full refl e calm)).0;
         memory = tt;
@@ -687,7 +708,7 @@ module _ (cases : Cases) (version : Version) (sound : Bool) (path : List ℕ) (t
   At' k = StandsAt cases old.reading (names_at path) k
 
   abbrev Done : Type 0
-  Done = DiffersInContent cases (names_at path) old new × MeansIt new
+  Done = GrowsTightly old new × DiffersInContent cases (names_at path) old new × MeansIt new
 
   abbrev full : Causes
   full = lacking sound new (IsFull max_regular_sector new.reading)
@@ -741,15 +762,16 @@ module _ (cases : Cases) (version : Version) (sound : Bool) (path : List ℕ) (t
 
   closing_leaves : (b : Bool) → MatchBool b (Keeps cases version old (by_closing (names_at path) s closing) new) (LeavesUnsound old new)
       → MatchBool b (LeavesSound cases version old new At' 0 (s.pending ≡ false) Done) (LeavesUnsound old new)
-  closing_leaves true k = record { order = k.order; besides = λ calm. (k.content calm, k.means tt calm) }
+  closing_leaves true k = record { order = k.order; besides = λ calm. (k.tight tt calm, k.content calm, k.means tt calm) }
   closing_leaves false k = k
 
   closing_leaves_back : (b : Bool) → (IsTrue b → closing ≡ Some file_full → Unfailed old (HasNoRoomForKept cases old (names_at path) s)) → MatchBool b (LeavesSound cases version old new At' 0 (s.pending ≡ false) Done) (LeavesUnsound old new)
       → MatchBool b (Keeps cases version old (by_closing (names_at path) s closing) new) (LeavesUnsound old new)
   closing_leaves_back true why l = record {
     order = l.order;
-    content = λ calm. (l.besides calm).0;
-    means = λ is calm. (l.besides calm).1;
+    tight = λ one calm. (l.besides calm).0;
+    content = λ calm. (l.besides calm).1;
+    means = λ is calm. (l.besides calm).2;
     full = why refl;
     memory = tt;
     kept_back = λ no. absurd no;

@@ -385,10 +385,10 @@ module _ {A : Type 0} (cases : Cases) (version : Version) (first : File) (stands
   }
 
   pub led_failed : AreOfKinds (map kind_of_command cs) rs → BreaksOff cases version first (map command_of cs) (map command_reply_of rs) → LeadsToFailed cases version true first cs rs
-  led_failed kinds h = record { last = h.last; runs = run_to cases version true cs rs first h.last kinds h.runs; failed = h.failed }
+  led_failed kinds h = (h.last, run_to cases version true cs rs first h.last kinds h.runs, h.failed)
 
   pub led_failed_before : LeadsToFailed cases version true first cs rs → IsTold (map command_reply_of rs) → BreaksOff cases version first (map command_of cs) (map command_reply_of rs)
-  led_failed_before h told = record { last = h.last; runs = run_from cases version true cs rs first h.last (λ _. stands.sound) h.runs; failed = h.failed; told = told }
+  led_failed_before h told = record { last = h.0; runs = run_from cases version true cs rs first h.0 (λ _. stands.sound) h.1; failed = h.2; told = told }
 
 -- the replies of a run from a file to itself are legal of its tree
 pub legal_before : {A : Type 0} (cases : Cases) (version : Version) (first : File) (cs : List (Command A)) (rs : List (TheReply A)) → Runs cases version false first cs rs first

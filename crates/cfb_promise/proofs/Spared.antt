@@ -11,6 +11,7 @@ use Rattle.cfb_rules.specs.Refusal.{IsRefusal, Refusal, file_full, out_of_memory
 use Rattle.cfb_agreement.specs.Changes.{StaysOrFails}
 use Rattle.cfb_path_changes.specs.Answers.{ForMemory, IsRefusedBy, LacksRoomOnTheWay, MeansTree, StopsInTurn, TakesSlots, may_make_several}
 use Rattle.cfb_format.specs.declared.medium.MediumFault.{MediumFault}
+use Rattle.cfb_format.specs.declared.version.Version.{Version}
 use Rattle.cfb_format.specs.Bytes.{byte_at, entries_per_sector, sector_len, sector_start}
 use Rattle.cfb_format.specs.Content.{is_large, mini_chain, mini_sector_len, place_in_chain, place_in_mini_chain, place_in_stream, sector_chain}
 use Rattle.cfb_format.specs.DirectoryEntry.{Entry}
@@ -30,10 +31,10 @@ use Rattle.cfb_content.specs.Contents.{KeepsContent, KeepsFixedHeader}
 use Rattle.cfb_content.proofs.Readable.{lies, mini-room}
 use Rattle.cfb_content.proofs.Kept.{nothing-is-moved}
 use Rattle.cfb_mini_sectors.specs.State.{HoldsMiniStream, MiniState, bytes_of, cases_of, entries_of, mini_place, parts_of, version_of}
-use Rattle.cfb_agreement.specs.Files.{FileState}
+use Rattle.cfb_agreement.specs.Files.{FileState, GrowsTightly, is_failed}
 use Rattle.cfb_path_changes.specs.Sparing.{SparesStreams}
 use Rattle.cfb_commands.specs.Promised.{CallKeeps, Changes, IsKeptBy, RefusesChange}
-use Rattle.cfb_promise.specs.Files.{most_made}
+use Rattle.cfb_promise.specs.Files.{most_made, slots_for}
 use Rattle.cfb_commands.proofs.Before.{same_before}
 use Rattle.cfb_commands.proofs.CallSteps.{in_turn}
 use Rattle.cfb_commands.proofs.Errors.{known, reply_full}
@@ -96,15 +97,17 @@ module _ (old new : MiniState) (e : Entry) (held : HoldsMiniStream old) (keeps :
 
 -- ---- calls by path
 
--- what each call by path leaves alone, whether it was done or refused
+-- what each call by path leaves alone, whether it was done or refused; and where it appended sectors none is free, unless it failed
 pub record LeavesAlone (old : FileState) (call : Call) (new : FileState) : Type 0 where
   pub spares : SparesStreams old call new
   pub header : KeepsFixedHeader old.base new.base
+  pub grows : is_failed new ≡ false → GrowsTightly old.base new.base
 
 nothing_changed : (file : FileState) (call : Call) → LeavesAlone file call file
 nothing_changed file call = record {
   spares = λ o is k m out. nothing-is-moved (suc k) file.base o is k m (λ e. omega (arith, e));
   header = record { no_shorter = omega arith; bytes = λ i lt fixed. refl };
+  grows = λ calm longer. absurd (omega (arith, longer));
 }
 
 module _ (can_give : MediumFault → Bool) (old : FileState) (call : Call) (new : FileState) where
@@ -112,8 +115,8 @@ module _ (can_give : MediumFault → Bool) (old : FileState) (call : Call) (new 
   same_leaves same = subst (λ (f : FileState). LeavesAlone old call f) (sym same) (nothing_changed old call)
 
   change_leaves : (reply : Reply) → Changes can_give old call reply new → LeavesAlone old call new
-  change_leaves done k = record { spares = k.spares; header = k.order.header }
-  change_leaves (refused refusal) (e, is, why) = let k = in_turn can_give old call new e why in record { spares = k.spares; header = k.order.header }
+  change_leaves done k = record { spares = k.spares; header = k.order.header; grows = k.order.grows }
+  change_leaves (refused refusal) (e, is, why) = let k = in_turn can_give old call new e why in record { spares = k.spares; header = k.order.header; grows = k.order.grows }
   change_leaves (flag b) k = absurd k
   change_leaves (one_entry e) k = absurd k
   change_leaves (entries es) k = absurd k
@@ -133,55 +136,70 @@ module _ (can_give : MediumFault → Bool) (old : FileState) (call : Call) (new 
 
 -- ---- how many entries there are
 
--- a sector of them more, or so many more
+-- so many more at most
 abbrev pub AddsFew : FileState → FileState → ℕ → Type 0
-AddsFew old new more = length (entries_of new.base) ≤ length (entries_of old.base) + (entries_per_sector (version_of old.base) + more)
+AddsFew old new more = length (entries_of new.base) ≤ length (entries_of old.base) + more
 
 pub no_more_entries : (old new : FileState) (more : ℕ) → length (entries_of new.base) ≡ length (entries_of old.base) → AddsFew old new more
 no_more_entries old new more same = omega (arith, same)
 
+-- whatever its kind a call adds at most a sector of them and those of the storages that it makes in turn
+pub slots_most : (version : Version) (kind : CallKind) (in_turn : ℕ) → slots_for version kind in_turn ≤ entries_per_sector version + in_turn
+slots_most version creating in_turn = omega arith
+slots_most version kind in_turn = omega arith
+
 module _ (old new : FileState) (tree : Tree) (means : MeansTree old tree) where
-  one_object : (call : Call) → may_make_several call ≡ false → TakesSlots old call new → AddsFew old new 0
+  -- as many as a call of this kind may add
+  abbrev pub AddsFor : Call → CallKind → Type 0
+  AddsFor call kind = AddsFew old new (slots_for (version_of old.base) kind (most_made call))
+
+  one_object : (call : Call) → may_make_several call ≡ false → TakesSlots old call new → AddsFor call (kind_on (cases_of old.base) tree call)
   one_object call single t = by (kind_on (cases_of old.base) tree call) refl
     where
-      taken : kind_on (cases_of old.base) tree call ≡ creating → (b : Bool) → list_any (λ (e : Entry). is_unallocated e.obj_type) (entries_of old.base) ≡ b → AddsFew old new 0
-      taken e true free = no_more_entries old new 0 ((t.one tree means e single).free free).slots
+      taken : kind_on (cases_of old.base) tree call ≡ creating → (b : Bool) → list_any (λ (e : Entry). is_unallocated e.obj_type) (entries_of old.base) ≡ b → AddsFor call creating
+      taken e true free = no_more_entries old new (entries_per_sector (version_of old.base) + most_made call) ((t.one tree means e single).free free).slots
       taken e false full = let longer = (t.one tree means e single).full full in omega (arith, longer)
 
-      by : (k : CallKind) → kind_on (cases_of old.base) tree call ≡ k → AddsFew old new 0
+      by : (k : CallKind) → kind_on (cases_of old.base) tree call ≡ k → AddsFor call k
       by creating e = taken e (list_any (λ (x : Entry). is_unallocated x.obj_type) (entries_of old.base)) refl
-      by k e = no_more_entries old new 0 (t.none tree means (λ c. (let w : k ≡ creating = sym e ∙ c in cc))).slots
+      by k e = no_more_entries old new (slots_for (version_of old.base) k (most_made call)) (t.none tree means (λ c. (let w : k ≡ creating = sym e ∙ c in cc))).slots
 
-  in_a_row : (path : List ℕ) (moment : ℕ) → TakesSlots old (create_storage_all path moment) new → AddsFew old new (length (names_at path))
+  in_a_row : (path : List ℕ) (moment : ℕ) → TakesSlots old (create_storage_all path moment) new
+      → AddsFor (create_storage_all path moment) (kind_on (cases_of old.base) tree (create_storage_all path moment))
   in_a_row path moment t = by (kind_on (cases_of old.base) tree (create_storage_all path moment)) refl
     where
-      by : (k : CallKind) → kind_on (cases_of old.base) tree (create_storage_all path moment) ≡ k → AddsFew old new (length (names_at path))
+      by : (k : CallKind) → kind_on (cases_of old.base) tree (create_storage_all path moment) ≡ k → AddsFor (create_storage_all path moment) k
       by creating e =
           let s = t.several tree means e refl in
           let named : length (names_at path) ≡ length s.1.names = ap (λ (o : Option (List (List ℕ))). length (unwrap_or o [])) s.1.named in
           let used = count_by-le-length (λ (x : Entry). not (is_unallocated x.obj_type)) (entries_of old.base) in
           elim s.2.needed [
-            | inl same ↦ no_more_entries old new (length (names_at path)) same
+            | inl same ↦ no_more_entries old new (entries_per_sector (version_of old.base) + length (names_at path)) same
             | inr less ↦ omega (arith, less, s.2.used, used, named, s.1.split)
           ]
-      by k e = no_more_entries old new (length (names_at path)) (t.none tree means (λ c. (let w : k ≡ creating = sym e ∙ c in cc))).slots
+      by k e = no_more_entries old new (slots_for (version_of old.base) k (length (names_at path))) (t.none tree means (λ c. (let w : k ≡ creating = sym e ∙ c in cc))).slots
 
-  pub call_adds : (call : Call) → TakesSlots old call new → AddsFew old new (most_made call)
+  -- as many as a call of its kind on this tree may add
+  abbrev pub Adds : Call → Type 0
+  Adds call = AddsFor call (kind_on (cases_of old.base) tree call)
+
+  pub call_adds : (call : Call) → TakesSlots old call new → Adds call
   call_adds (create_storage_all path moment) t = in_a_row path moment t
   call_adds call t = one_object call refl t
 
-  module _ (can_give : MediumFault → Bool) (call : Call) (reply : Reply) (still : (refusal : Refusal) → reply ≡ refused refusal → AddsFew old new (most_made call)) where
-    change_adds : (r : Reply) → reply ≡ r → Changes can_give old call r new → AddsFew old new (most_made call)
+  module _ (can_give : MediumFault → Bool) (call : Call) (reply : Reply) (still : (refusal : Refusal) → reply ≡ refused refusal → Adds call) where
+    change_adds : (r : Reply) → reply ≡ r → Changes can_give old call r new → Adds call
     change_adds done e k = call_adds call k.slots
     change_adds (refused refusal) e k = still refusal e
     change_adds (flag b) e k = absurd k
     change_adds (one_entry x) e k = absurd k
     change_adds (entries xs) e k = absurd k
 
-    same_adds : new ≡ old → AddsFew old new (most_made call)
-    same_adds same = no_more_entries old new (most_made call) (ap (λ (f : FileState). length (entries_of f.base)) same)
+    same_adds : new ≡ old → Adds call
+    same_adds same = no_more_entries old new (slots_for (version_of old.base) (kind_on (cases_of old.base) tree call) (most_made call))
+        (ap (λ (f : FileState). length (entries_of f.base)) same)
 
-    adds_by : (kind : CallKind) → IsKeptBy can_give kind old call reply new → AddsFew old new (most_made call)
+    adds_by : (kind : CallKind) → IsKeptBy can_give kind old call reply new → Adds call
     adds_by creating k = change_adds reply refl k
     adds_by emptying k = change_adds reply refl k
     adds_by changing k = change_adds reply refl k
@@ -191,7 +209,7 @@ module _ (old new : FileState) (tree : Tree) (means : MeansTree old tree) where
     adds_by asking k = same_adds k.same
     adds_by asking_freely k = same_adds k.same
 
-    pub step_adds : CallKeeps can_give old call reply new → AddsFew old new (most_made call)
+    pub step_adds : CallKeeps can_give old call reply new → Adds call
     step_adds k = adds_by (kind_of call) k
 
 -- ---- where numbers lack

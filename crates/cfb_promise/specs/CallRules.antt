@@ -45,10 +45,6 @@ module _ (cases : Cases) (root_len : ℕ) (tree : Tree) where
   abbrev pub asks : (List (List ℕ) → Option Refusal) → (List (List ℕ) → Reply) → (path : List ℕ) → Rule
   asks refusal_at reply_at path = rule asking (path_refusal refusal_at path) (path_reply reply_at path) tree
 
-  -- a call that tests it
-  abbrev pub tests : (Object → Bool) → (path : List ℕ) → Rule
-  tests test path = rule asking_freely None (flag (has_object cases tree test path)) tree
-
   module _ {A : Type 0} where
     -- one row a command: of what is there `create_stream` takes the bytes away, and `create_storage_all` makes nothing
     abbrev pub rule_of : Command A → Rule
@@ -64,16 +60,15 @@ module _ (cases : Cases) (root_len : ℕ) (tree : Tree) where
     rule_of (command.SetModifiedTime path moment) = sets always (λ info. record info { modified = moment }) same_stream (chars (string_bytes path))
     rule_of (command.Touch path moment) = changes changing (there always) (touched_at cases moment) (chars (string_bytes path))
     rule_of command.Flush = rule flushing None done tree
-    rule_of (command.Exists path) = tests always (chars (string_bytes path))
-    rule_of (command.IsStream path) = tests is_a_stream (chars (string_bytes path))
-    rule_of (command.IsStorage path) = tests is_a_storage (chars (string_bytes path))
+    rule_of (command.Exists path) = rule asking_freely None (flag (has_object cases tree always (chars (string_bytes path)))) tree
+    rule_of (command.IsStream path) = rule asking_freely None (flag (has_object cases tree is_a_stream (chars (string_bytes path)))) tree
+    rule_of (command.IsStorage path) = rule asking_freely None (flag (has_object cases tree is_a_storage (chars (string_bytes path)))) tree
     rule_of (command.Entry path) = asks (there always) (entry_reply cases root_len tree) (chars (string_bytes path))
     rule_of (command.ReadStorage path) = asks (there is_a_storage) (read_reply cases tree) (chars (string_bytes path))
     rule_of (command.WalkStorage path) = asks (there always) (walk_reply cases root_len tree) (chars (string_bytes path))
     rule_of (command.Stream how.Open path ops) = rule opening (path_refusal (there is_a_stream) (chars (string_bytes path))) done tree
-    rule_of (command.Stream how.Create path ops) =
-        changes (if is_there cases tree (chars (string_bytes path)) then emptying else creating) (creation_refusal cases tree is_a_stream)
-        (stream_created_at cases) (chars (string_bytes path))
+    rule_of (command.Stream how.Create path ops) = changes (if is_there cases tree (chars (string_bytes path)) then emptying else creating)
+        (creation_refusal cases tree is_a_stream) (stream_created_at cases) (chars (string_bytes path))
     rule_of (command.Stream how.CreateNew path ops) = changes creating (creation_refusal cases tree never) (stream_added_at cases) (chars (string_bytes path))
 
 -- Which refusals beside the rules a call can answer: only one that makes an object needs a number, a flush needs no memory, and a question no medium.

@@ -36,10 +36,8 @@ module _ {A : Type 0} where
     pub tidy : IsTidy first.bytes first.reading → IsTidy last.bytes last.reading
 
   -- they led to a file that failed
-  pub record LeadsToFailed (cases : Cases) (version : Version) (sound : Bool) (first : File) (commands : List (Command A)) (replies : List (TheReply A)) : Type 0 where
-    pub last : File
-    pub runs : Runs cases version sound first commands replies last
-    pub failed : last.failed ≡ true
+  abbrev pub LeadsToFailed : Cases → Version → (sound : Bool) → (first : File) → List (Command A) → List (TheReply A) → Type 0
+  LeadsToFailed cases version sound first commands replies = (last : File) × Runs cases version sound first commands replies last × (last.failed ≡ true)
 
   -- ---- from nothing
 
@@ -59,8 +57,7 @@ module _ {A : Type 0} where
 
   -- from every file that stands and has these bytes, the commands led to those that are given back
   abbrev pub IsChanged : Cases → List ℕ → List (Command A) → List (TheReply A) → (given : List ℕ) → Type 0
-  IsChanged cases bytes commands replies given = (version : Version) (first : File) → first.bytes ≡ bytes → Stands cases version first
-      → LeadsTo cases version first commands replies given
+  IsChanged cases bytes commands replies given = (v : Version) (first : File) → first.bytes ≡ bytes → Stands cases v first → LeadsTo cases v first commands replies given
 
   -- bytes that are not sound are given back as they came, and the commands led from the file that they are to itself: a change is refused
   pub record IsLeftAlone (cases : Cases) (bytes : List ℕ) (commands : List (Command A)) (replies : List (TheReply A)) (given : List ℕ) : Type 0 where
@@ -96,15 +93,12 @@ total for_storage for_len (stream name info rest) = for_len info.len + total for
 
 -- all sectors of a file that has these objects and nothing else, its FAT and DIFAT aside
 abbrev pub sectors_for_all : Version → Objects → ℕ
-sectors_for_all version objects = total 0 (sectors_for version) objects
-    + rounded_up (total 0 mini_sectors_for objects * mini_sector_len) (sector_len version)
-    + rounded_up (total 0 mini_sectors_for objects) (words_per_sector version)
-    + directory_sectors_for version (total 1 (λ len. 1) objects)
+sectors_for_all version objects = total 0 (sectors_for version) objects + rounded_up (total 0 mini_sectors_for objects * mini_sector_len) (sector_len version)
+    + rounded_up (total 0 mini_sectors_for objects) (words_per_sector version) + directory_sectors_for version (total 1 (λ len. 1) objects)
 
 -- no file of this version has room for them
 abbrev pub AreTooMany : Version → (limit : ℕ) → Objects → Type 0
-AreTooMany version limit objects = (HasRoom version limit 0 0 0 (sectors_for_all version objects) → ⊥)
-    ⊎ (max_mini_sectors version < total 0 mini_sectors_for objects)
+AreTooMany version limit objects = (HasRoom version limit 0 0 0 (sectors_for_all version objects) → ⊥) ⊎ (max_mini_sectors version < total 0 mini_sectors_for objects)
     ⊎ (max_entries < directory_sectors_for version (total 1 (λ len. 1) objects) * entries_per_sector version)
 
 -- opening does not take the bytes, or some stream can't be read to its end; opening takes them and all can, but no file of this version has room for

@@ -1,9 +1,9 @@
 -- Commands on a file that is known by its bytes: each by the rules, from a file to the one that it leaves.
-use Rattle.std.specs.Prelude.{ℕ, ◌+◌, ◌≡◌, ◌<◌, ◌≤◌, ◌⊎◌, List, [], ◌∷◌, Bool, true, false, length, IsTrue, MatchBool, MatchOption, Option, Some, None, Result, Ok, Err, Vec, if◌then◌else◌, chars, string_bytes, ⊤}
+use Rattle.std.specs.Prelude.{ℕ, ◌≡◌, ◌<◌, ◌≤◌, ◌⊎◌, List, [], ◌∷◌, Bool, true, false, length, IsTrue, MatchBool, MatchOption, Option, Some, None, Result, Ok, Err, Vec, if◌then◌else◌, chars, string_bytes, ⊤}
 use Rattle.std.specs.Option.{option_map_or}
 use Rattle.cfb_format.specs.declared.error.Error.{Error}
 use Rattle.cfb_format.specs.declared.version.Version.{Version}
-use Rattle.cfb_format.specs.Bytes.{entries_per_sector, max_regular_sector, max_stream_len}
+use Rattle.cfb_format.specs.Bytes.{max_regular_sector, max_stream_len}
 use Rattle.cfb_format.specs.Full.{IsFull}
 use Rattle.cfb_format.specs.Names.{Cases}
 use Rattle.cfb_format.specs.Meaning.{tree_of}
@@ -28,8 +28,8 @@ use Rattle.cfb_commands.specs.declared.command.StreamReply.{StreamReply as TheAn
 use Rattle.cfb_commands.specs.Commands.{refusal_of_error}
 use Rattle.cfb_promise.specs.CallRules.{CallCanBreak, MayLose, Rule, most_made, rule_of}
 use Rattle.cfb_promise.specs.Errors.{answer_of, told}
-use Rattle.cfb_promise.specs.Files.{DiffersInContent, File, HasNoEntry, HasNoEntryOnTheWay, HasNoRoomBehind, HasNoRoomFor, HasNoRoomForKept, IsAtPath, LeavesSound, StandsAt, Unfailed}
-use Rattle.cfb_promise.specs.StreamRules.{OpBreaks, OpOnFailed, OpStep, may_write}
+use Rattle.cfb_promise.specs.Files.{DiffersInContent, File, GrowsTightly, HasNoEntry, HasNoEntryOnTheWay, HasNoRoomBehind, HasNoRoomFor, HasNoRoomForKept, IsAtPath, LeavesSound, StandsAt, Unfailed, slots_for}
+use Rattle.cfb_promise.specs.StreamRules.{OpBreaks, OpOnFailed, OpStep, is_second, may_write}
 
 -- ---- what each step leaves of the file, done or refused
 
@@ -75,7 +75,7 @@ module _ (cases : Cases) (version : Version) (sound : Bool) where
   -- one call by path
   pub record CallStep (old : File) (r : Rule) (may_lose : ℕ → Type 0) (grows : ℕ) (reply : Reply) (new : File) : Type 0 where
     pub runs : MatchBool old.failed (OnFailed r.kind reply) (FollowsRule old r reply new ⊎ Breaks old r reply new)
-    pub leaves : Leaves old new may_lose grows (((refusal : Refusal) × (reply ≡ refused refusal)) ⊎ (is_changing r.kind ≡ false)) (new.tree ≡ tree_of new.bytes new.reading)
+    pub leaves : Leaves old new may_lose grows (((refusal : Refusal) × (reply ≡ refused refusal)) ⊎ (is_changing r.kind ≡ false)) (GrowsTightly old new × (new.tree ≡ tree_of new.bytes new.reading))
 
   -- ---- calls on a stream
 
@@ -95,7 +95,8 @@ module _ (cases : Cases) (version : Version) (sound : Bool) where
     -- one operation on the stream at these names
     pub record OpRuns (names : List (List ℕ)) (s : StreamState) (old : File) (op : StreamOp A) (reply : StreamReply) (t : StreamState) (new : File) : Type 0 where
       pub runs : MatchBool old.failed (OpOnFailed op reply) ((OpStep setting s op reply t × (new.failed ≡ false)) ⊎ OpBreaks setting s op reply t new.failed)
-      pub leaves : Leaves old new (StandsAt cases old.reading names) 0 (((refusal : Refusal) × (reply ≡ not_done refusal)) ⊎ (may_write s op ≡ false)) (DiffersInContent cases names old new)
+      pub leaves : Leaves old new (StandsAt cases old.reading names) 0 (((refusal : Refusal) × (reply ≡ not_done refusal)) ⊎ (may_write s op ≡ false))
+          ((is_second s op ≡ false → GrowsTightly old new) × DiffersInContent cases names old new)
       pub full : IsTrue sound → reply ≡ not_done file_full → Unfailed old (FullFor names s old op new)
 
     -- one after the other, each with a reply of its kind
@@ -107,10 +108,9 @@ module _ (cases : Cases) (version : Version) (sound : Bool) where
 
   -- Closing writes out what is pending; only that can be refused, and the file is failed then. Else a sound file has the stream's list
   pub record Closing (names : List (List ℕ)) (tree : Tree) (s : StreamState) (old : File) (closing : Option Refusal) (new : File) : Type 0 where
-    pub closes : MatchBool old.failed (closing ≡ Some failed_earlier)
-        (MatchOption closing (new.failed ≡ false) (λ refusal. IsTrue s.pending × BlamesOneOf ⊤ ⊤ ⊤ refusal × (new.failed ≡ true)))
+    pub closes : MatchBool old.failed (closing ≡ Some failed_earlier) (MatchOption closing (new.failed ≡ false) (λ r. IsTrue s.pending × BlamesOneOf ⊤ ⊤ ⊤ r × (new.failed ≡ true)))
     pub closed : Unfailed new (new.tree ≡ (if sound then content_changed_at cases s.content names tree else tree))
-    pub leaves : Leaves old new (StandsAt cases old.reading names) 0 (s.pending ≡ false) (DiffersInContent cases names old new × (new.tree ≡ tree_of new.bytes new.reading))
+    pub leaves : Leaves old new (StandsAt cases old.reading names) 0 (s.pending ≡ false) (GrowsTightly old new × DiffersInContent cases names old new × (new.tree ≡ tree_of new.bytes new.reading))
     pub full : IsTrue sound → closing ≡ Some file_full → Unfailed old (HasNoRoomForKept cases old names s)
 
   -- ---- commands
@@ -131,7 +131,8 @@ module _ (cases : Cases) (version : Version) (sound : Bool) where
 
     -- the call of a command, or of the opening of its stream
     abbrev pub CallRuns : File → Command A → Reply → File → Type 0
-    CallRuns old command reply new = CallStep old (rule_of cases (root_entry old.reading).stream_len old.tree command) (MayLose cases old.reading command) (entries_per_sector version + most_made command) reply new
+    CallRuns old command reply new = CallStep old (rule_of cases (root_entry old.reading).stream_len old.tree command) (MayLose cases old.reading command)
+        (slots_for version (rule_of cases 0 (tree_of old.bytes old.reading) command).kind (most_made command)) reply new
         × (IsTrue sound → Unfailed old ((reply ≡ refused file_full → FullCall old command new) × (reply ≡ refused out_of_memory → MemoryCall old command new)))
 
     -- an opening that succeeds, the operations in their order, refused or not, and the closing

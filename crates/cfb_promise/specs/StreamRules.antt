@@ -10,11 +10,8 @@ use Rattle.cfb_commands.specs.declared.command.StreamOp.TheVariants as op
 
 -- at most so many bytes from the position on: none at the end, and some before it, if they can be read
 abbrev pub Read : ℕ → StreamState → StreamReply → StreamState → Type 0
-Read wanted old reply new = MatchBool (wanted == 0 || old.position == old.len)
-    ((reply ≡ got []) × Moves old new old.position 0)
-    (MatchBool (nat_lt old.position (length old.content))
-    ((n : ℕ) × (1 ≤ n) × (n ≤ wanted) × (old.position + n ≤ length old.content)
-    × (reply ≡ got (take n (drop old.position old.content))) × Moves old new (old.position + n) 0)
+Read wanted old reply new = MatchBool (wanted == 0 || old.position == old.len) ((reply ≡ got []) × Moves old new old.position 0) (MatchBool (nat_lt old.position (length old.content))
+    ((n : ℕ) × (1 ≤ n) × (n ≤ wanted) × (old.position + n ≤ length old.content) × (reply ≡ got (take n (drop old.position old.content))) × Moves old new (old.position + n) 0)
     (Refuses invalid_data old reply new))
 
 -- the place that is sought, if it lies in the stream
@@ -25,9 +22,7 @@ sought s (Current distance) = option_and_then (place_within s.len) (place_from s
 
 -- goes there, or stays
 abbrev pub Seek : SeekFrom → StreamState → StreamReply → StreamState → Type 0
-Seek to old reply new = MatchOption (sought old to)
-    (Refuses invalid_input old reply new)
-    (λ at. (reply ≡ offset at) × Moves old new at 0)
+Seek to old reply new = MatchOption (sought old to) (Refuses invalid_input old reply new) (λ at. (reply ≡ offset at) × Moves old new at 0)
 
 -- which refusals beside the rules an operation can answer. With nothing pending only bytes at the end and a change of the length need numbers, and
 -- neither moving nor flushing needs memory; pending bytes may have to be written out first
@@ -80,15 +75,19 @@ module _ {A : Type 0} where
   may_write old (op.Write bytes) = may_leave_failed old.pending (work_of old (op.Write bytes)) && (old.pending || nat_le 65536 (length bytes.items))
   may_write old call = may_leave_failed old.pending (work_of old call)
 
+  -- whether it may change the file twice: what is pending is written out first, and then a long write or another length is a change of its own
+  abbrev pub is_second : StreamState → StreamOp A → Bool
+  is_second old (op.Write bytes) = old.pending && nat_le 65536 (length bytes.items)
+  is_second old (op.SetLen len) = old.pending
+  is_second old call = false
+
   -- all but what was lent stays, and the file isn't failed; or it is, where it may have been written to
   abbrev pub IsLeftBy : StreamState → StreamOp A → Refusal → StreamState → (failed : Bool) → Type 0
-  IsLeftBy old call refusal new failed = (StaysUnfailed old.pending (work_of old call) refusal × (new ≡ record old { ahead = 0 }) × (failed ≡ false))
-      ⊎ (IsTrue (may_write old call) × (failed ≡ true))
+  IsLeftBy s op r t failed = (StaysUnfailed s.pending (work_of s op) r × (t ≡ record s { ahead = 0 }) × (failed ≡ false)) ⊎ (IsTrue (may_write s op) × (failed ≡ true))
 
   -- it broke off, and the rules have no refusal of their own
   abbrev pub OpBreaks : StreamSetting → StreamState → StreamOp A → StreamReply → StreamState → (failed : Bool) → Type 0
-  OpBreaks setting old call reply new failed = (refusal : Refusal) × CanBreak old.pending (work_of old call) refusal
-      × (reply ≡ not_done refusal) × IsLeftBy old call refusal new failed × IsAllowed setting old call
+  OpBreaks setting s op reply t failed = (r : Refusal) × CanBreak s.pending (work_of s op) r × (reply ≡ not_done r) × IsLeftBy s op r t failed × IsAllowed setting s op
 
   -- it was refused, or had nothing to write
   abbrev pub OpLeavesFile : StreamState → StreamOp A → StreamReply → Type 0
