@@ -1,5 +1,7 @@
 //! The allocator of sectors: chains are begun, extended, cut and freed (MS-CFB 2.3 and 2.5).
 ghost use Rattle.std.specs.Prelude.{◌≡◌, ◌≢◌, ◌↔◌, ℕ, List, [], ◌∷◌, max, min, length, true, false, IsTrue, IfOk, IfErr, IfSome, OnOk, OnErr, take, drop, ◌++◌, ◌⊎◌, ◌+◌, ◌-◌, ◌*◌, ◌<◌, ◌≤◌, Contains, IsErrAnd, MatchResult, vec_len};
+ghost use Rattle.cfb_alloc.specs.cfb_sectors.Writing.{WritesOnlyUntil, WritesBeganUntil, PutsBytes};
+ghost use Rattle.cfb_alloc.specs.cfb_sectors.Reading.{ReadsBytesFrom, RefusedBehind};
 ghost use Rattle.cfb_format.specs.declared.validate.Validation.{Validation};
 ghost use Rattle.cfb_format.specs.Bytes.{sector_len, max_regular_sector, end_of_chain};
 ghost use Rattle.cfb_format.specs.Chain.{IsChain, value};
@@ -970,15 +972,13 @@ impl<F: ReadMedium, A: Heap> Allocator<F, A> {
           bytes = self.new.file.bytes;
           failures = self.new.file.failures;
         } }
-        ensures count { IfOk result (λ n. n ≡ min (length into.old) (self.old.file.len
-            - place_in_sector self.old.file sector offset)) }
-        ensures ok { IsTrue F.tells → IfOk result (λ n. take n into.new
-            ≡ part self.old.file.bytes (place_in_sector self.old.file sector offset) n) }
-        ensures rest { IfOk result (λ n. drop n into.new ≡ drop n into.old) }
-        ensures past { sectors_end self.old.file < place_in_sector self.old.file sector offset
-            + length into.old → IsErrAnd result IsInvalidData × (self.new ≡ self.old) }
-        ensures inside { place_in_sector self.old.file sector offset + length into.old
-            ≤ sectors_end self.old.file → IfErr result IsMediumError }
+        ensures part { ReadsBytesFrom F.tells (place_in_sector self.old.file sector offset) into.old
+            into.new self.old.file.bytes
+            (min (length into.old) (self.old.file.len - place_in_sector self.old.file sector
+            offset)) result }
+        ensures error { RefusedBehind self.old self.new
+            (place_in_sector self.old.file sector offset + length into.old)
+            (sectors_end self.old.file) result }
         ensures same { IsTrue F.tells → OnOk result (self.new ≡ self.old) }
         ensures bytes { IsTrue F.tells → self.new.file.bytes ≡ self.old.file.bytes }
         ensures counts { IsTrue F.tells
@@ -996,30 +996,17 @@ impl<F: Medium, A: Heap> Allocator<F, A> {
         requires within { offset ≤ sector_len self.old.tables.version }
         requires some { 0 < length from.now }
         ensures tables { self.new.tables ≡ self.old.tables }
-        ensures ok { IsTrue F.tells → OnOk result (self.new.file ≡ record self.old.file {
-          bytes
-              = written self.old.file.bytes (place_in_sector self.old.file sector offset) from.now;
-          len = max self.old.file.len (place_in_sector self.old.file sector offset
-              + length from.now);
-          begun = true;
-        }) }
-        ensures kept { self.new.file ≡ record self.old.file {
-          len = self.new.file.len;
-          bytes = self.new.file.bytes;
-          failures = self.new.file.failures;
-          begun = self.new.file.begun;
-        } }
-        ensures len { MatchResult result (λ _. self.new.file.len
-            ≡ max self.old.file.len (place_in_sector self.old.file sector offset
-            + length from.now)) (λ _. self.new.file.len ≡ self.old.file.len) }
+        ensures put { PutsBytes F.tells F.write_faults (place_in_sector self.old.file sector offset)
+            from.now self.old.file self.new.file
+            (place_in_sector self.old.file sector offset + length from.now) (length from.now) result
+            }
+        ensures kept { WritesOnlyUntil self.old.file self.new.file
+            (place_in_sector self.old.file sector offset + length from.now) result }
         ensures past { sectors_end self.old.file < place_in_sector self.old.file sector offset
             + length from.now → IsErrAnd result IsInvalidData × (self.new ≡ self.old) }
         ensures inside { place_in_sector self.old.file sector offset + length from.now
             ≤ sectors_end self.old.file
             → IfErr result IsMediumError × (self.new.file.begun ≡ true) }
-        ensures others { IsTrue F.tells
-            → ChangesOnlyBytes (place_in_sector self.old.file sector offset)
-            (length from.now) self.old.file.bytes self.new.file.bytes }
         ensures sectors { IsTrue F.tells
             → OtherSectorsStay self.old.file.version (place_in_sector self.old.file sector offset)
             (length from.now) self.old.file.bytes self.new.file.bytes }
@@ -1030,8 +1017,6 @@ impl<F: Medium, A: Heap> Allocator<F, A> {
             → LieOutside (table_sectors self.old.tables) self.old.tables.version
             (place_in_sector self.old.file sector offset) (length from.now)
             → OnOk result (HoldsTables validation self.new) }
-        ensures counts { IsTrue F.tells
-            → CountsFailure F.write_faults result self.old.file.failures self.new.file.failures }
     {
         self.sectors.write_contiguous(sector, offset, from)
     }
@@ -1063,10 +1048,8 @@ impl<F: ReadMedium, A: Heap> Allocator<F, A> {
           bytes = self.new.file.bytes;
           failures = self.new.file.failures;
         } }
-        ensures count { IfOk result (λ n. n ≡ min (length into.old) (self.old.file.len - at)) }
-        ensures ok { IsTrue F.tells
-            → IfOk result (λ n. take n into.new ≡ part self.old.file.bytes at n) }
-        ensures rest { IfOk result (λ n. drop n into.new ≡ drop n into.old) }
+        ensures part { ReadsBytesFrom F.tells at into.old into.new self.old.file.bytes
+            (min (length into.old) (self.old.file.len - at)) result }
         ensures err { IfErr result IsMediumError }
         ensures same { IsTrue F.tells → OnOk result (self.new ≡ self.old) }
         ensures bytes { IsTrue F.tells → self.new.file.bytes ≡ self.old.file.bytes }
@@ -1083,24 +1066,9 @@ impl<F: Medium, A: Heap> Allocator<F, A> {
         requires some { 0 < length from.now }
         requires inside { at + length from.now ≤ sectors_end self.old.file }
         ensures tables { self.new.tables ≡ self.old.tables }
-        ensures ok { IsTrue F.tells → OnOk result (self.new.file ≡ record self.old.file {
-          bytes = written self.old.file.bytes at from.now;
-          len = max self.old.file.len (at + length from.now);
-          begun = true;
-        }) }
-        ensures kept { self.new.file ≡ record self.old.file {
-          len = self.new.file.len;
-          bytes = self.new.file.bytes;
-          failures = self.new.file.failures;
-          begun = true;
-        } }
-        ensures len { MatchResult result
-            (λ _. self.new.file.len ≡ max self.old.file.len (at + length from.now))
-            (λ e. IsMediumError e × (self.new.file.len ≡ self.old.file.len)) }
-        ensures others { IsTrue F.tells
-            → ChangesOnlyBytes at (length from.now) self.old.file.bytes self.new.file.bytes }
-        ensures counts { IsTrue F.tells
-            → CountsFailure F.write_faults result self.old.file.failures self.new.file.failures }
+        ensures put { PutsBytes F.tells F.write_faults at from.now self.old.file self.new.file
+            (at + length from.now) (length from.now) result }
+        ensures kept { WritesBeganUntil self.old.file self.new.file (at + length from.now) result }
     {
         self.sectors.write_at(at, from)
     }

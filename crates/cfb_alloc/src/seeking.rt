@@ -1,5 +1,7 @@
 //! Stretches of a file that are lent with its allocator: the header, a sector or a part of one (MS-CFB 2.1 and 2.2).
 ghost use Rattle.std.specs.Prelude.{◌≡◌, ℕ, ◌+◌, ◌-◌, ◌*◌, ◌^◌, ◌<◌, ◌≤◌, max, min, [], ◌∷◌, length, true, take, drop, IsTrue, IfOk, IfErr, OnOk, MatchResult, Ok};
+ghost use Rattle.cfb_alloc.specs.cfb_sectors.Lending.{IsLentSector};
+ghost use Rattle.cfb_alloc.specs.cfb_sectors.Reading.{ReadsBytesFrom};
 ghost use Rattle.cfb_format.specs.declared.validate.Validation.{Validation};
 ghost use Rattle.cfb_format.specs.Bytes.{sector_len, sector_start};
 ghost use Rattle.cfb_format.specs.Medium.{ChangesOnlyBytes, part, written};
@@ -60,8 +62,7 @@ impl<F: ReadMedium, A: Heap> Allocator<F, A> {
             × (len_of s ≡ sector_len self.old.tables.version) × (offset_of s ≡ 0)) }
         ensures lies { IfOk result (λ s.
             LiesIn self.old.tables.version sector (start_of s) (len_of s)) }
-        ensures known { IfOk result (λ s. sector < length self.old.tables.fat) }
-        ensures past { IfErr result (λ e. IsInvalidData e × (length self.old.tables.fat ≤ sector)) }
+        ensures sector { IsLentSector sector (length self.old.tables.fat) result }
     {
         self.seek_within_sector(sector, 0)
     }
@@ -82,8 +83,7 @@ impl<F: ReadMedium, A: Heap> Allocator<F, A> {
             × (len_of s ≡ sector_len self.old.tables.version) × (offset_of s ≡ offset)) }
         ensures lies { IfOk result (λ s.
             LiesIn self.old.tables.version sector (start_of s) (len_of s)) }
-        ensures known { IfOk result (λ s. sector < length self.old.tables.fat) }
-        ensures past { IfErr result (λ e. IsInvalidData e × (length self.old.tables.fat ≤ sector)) }
+        ensures sector { IsLentSector sector (length self.old.tables.fat) result }
     {
         let start = self.sector_place(sector)?;
         let len = self.sector_len();
@@ -115,8 +115,7 @@ impl<F: ReadMedium, A: Heap> Allocator<F, A> {
             + index * len) × (len_of s ≡ len) × (offset_of s ≡ offset)) }
         ensures lies { IfOk result (λ s.
             LiesIn self.old.tables.version sector (start_of s) (len_of s)) }
-        ensures known { IfOk result (λ s. sector < length self.old.tables.fat) }
-        ensures past { IfErr result (λ e. IsInvalidData e × (length self.old.tables.fat ≤ sector)) }
+        ensures sector { IsLentSector sector (length self.old.tables.fat) result }
     {
         let whole = self.sector_len();
         let _fact = whole;
@@ -226,14 +225,12 @@ impl<'a, F: ReadMedium, A: Heap> AllocatedSector<'a, F, A> {
           bytes = (allocator_of self.new).now.file.bytes;
           failures = (allocator_of self.new).now.file.failures;
         } }
-        ensures count { IfOk result (λ n. n
-            ≡ min (min (length into.old) (room_of self.old)) ((allocator_of self.old).now.file.len
-            - place_of self.old)) }
+        ensures part { ReadsBytesFrom F.tells (place_of self.old) into.old into.new
+            (allocator_of self.old).now.file.bytes
+            (min (min (length into.old) (room_of self.old)) ((allocator_of
+            self.old).now.file.len - place_of self.old)) result }
         ensures offset { MatchResult result (λ n. offset_of self.new
             ≡ offset_of self.old + n) (λ _. offset_of self.new ≡ offset_of self.old) }
-        ensures ok { IsTrue F.tells → IfOk result (λ n. take n into.new
-            ≡ part (allocator_of self.old).now.file.bytes (place_of self.old) n) }
-        ensures rest { IfOk result (λ n. drop n into.new ≡ drop n into.old) }
         ensures err { IfErr result IsMediumError }
         ensures same { IsTrue F.tells
             → OnOk result ((allocator_of self.new).now ≡ (allocator_of self.old).now) }

@@ -1,6 +1,8 @@
 //! The allocator of mini sectors (MS-CFB 2.4): mini chains are begun, extended, cut and freed, in the MiniFAT, in the mini stream and in
 //! the root's entry.
 ghost use Rattle.std.specs.Prelude.{◌≡◌, ◌≢◌, ◌↔◌, ◌⊎◌, ℕ, ◌+◌, ◌-◌, ◌/◌, ◌%◌, ◌^◌, ◌<◌, ◌≤◌, ◌∷◌, ◌++◌, List, [], Option, length, map, max, min, chars, take, drop, true, false, Contains, IsTrue, MatchOption, vec_len, option_map, unwrap_or, IfOk, IfErr, IfSome, IsErrAnd, OnOk, OnErr};
+ghost use Rattle.cfb_sectors.specs.Writing.{PutsBytes};
+ghost use Rattle.cfb_sectors.specs.Reading.{ReadsBytesFrom};
 ghost use Rattle.cfb_format.specs.declared.objtype.ObjType.TheVariants.{Root};
 ghost use Rattle.cfb_format.specs.declared.validate.Validation.{Validation};
 ghost use Rattle.cfb_format.specs.Bytes.{end_of_chain, max_regular_sector, no_stream, sector_len, word_at};
@@ -444,11 +446,13 @@ impl<F: ReadMedium, A: Heap> MiniAllocator<F, A> {
     pub fn read_mini(&mut self, mini: u32, offset: usize, into: &mut [u8]) -> Result<usize, Error>
         requires { offset ≤ mini_sector_len }
         ensures kept { IsStill self.old self.new }
-        ensures count { IfOk result (λ n. n ≡ min (min (length into.old) (mini_sector_len
-            - offset)) ((table_of self.old).file.len - (mini_place self.old mini + offset))) }
-        ensures ok { IsTrue F.tells → IfOk result (λ n. take n into.new
-            ≡ part (bytes_of self.old) (mini_place self.old mini + offset) n) }
-        ensures rest { IfOk result (λ n. drop n into.new ≡ drop n into.old) }
+        ensures part { ReadsBytesFrom F.tells
+            (mini_start self.old.directory.table.tables.version (mini_stream_of self.old) mini +
+            offset) into.old into.new (bytes_of self.old)
+            (min (min (length into.old) (mini_sector_len - offset))
+            (self.old.directory.table.file.len - (mini_start
+            self.old.directory.table.tables.version (mini_stream_of self.old) mini + offset)))
+            result }
         ensures there { IfOk result (λ n. 0 < n → HasMiniByte self.old mini offset) }
         ensures cut { 0 < min (length into.old) (mini_sector_len - offset)
             → (HasMiniByte self.old mini offset → ⊥) → IsErrAnd result IsInvalidData }
@@ -485,21 +489,16 @@ impl<F: Medium, A: Heap> MiniAllocator<F, A> {
         requires some { 0 < length from.now }
         requires within { offset + length from.now ≤ mini_sector_len }
         ensures kept { ChangesFileOnly self.old self.new }
-        ensures ok { IsTrue F.tells → OnOk result ((table_of self.new).file ≡ record
-            (table_of self.old).file {
-              bytes = written (bytes_of self.old) (mini_place self.old mini
-                  + offset) from.now;
-              len = max (table_of self.old).file.len (mini_place self.old mini
-                  + offset + length from.now);
-              begun = true;
-            }) }
+        ensures put { PutsBytes F.tells F.write_faults
+            (mini_start self.old.directory.table.tables.version (mini_stream_of self.old) mini +
+            offset) from.now (table_of self.old).file (table_of self.new).file
+            (mini_start self.old.directory.table.tables.version (mini_stream_of self.old) mini +
+            offset + length from.now) (length from.now) result }
         ensures there { OnOk result (HasMiniSector self.old mini) }
         ensures cut { (HasMiniSector self.old mini → ⊥)
             → IsErrAnd result IsInvalidData × (self.new ≡ self.old) }
         ensures err { HasMiniSector self.old mini
             → IfErr result IsMediumError × ((table_of self.new).file.begun ≡ true) }
-        ensures others { IsTrue F.tells → ChangesOnlyBytes (mini_place self.old mini
-            + offset) (length from.now) (bytes_of self.old) (bytes_of self.new) }
         ensures spares { IsTrue F.tells
             → Spares (mini_stream_of self.old) (table_of self.old) (table_of self.new) }
         ensures mini_spares { IsTrue F.tells → (validation : Validation)
@@ -507,8 +506,6 @@ impl<F: Medium, A: Heap> MiniAllocator<F, A> {
         ensures holds { IsTrue F.tells → (validation : Validation)
             → HoldsMini validation self.old → OnOk result (HoldsMini validation self.new) }
         ensures refused { IfErr result (StopsShort self.old self.new) }
-        ensures counts { IsTrue F.tells → CountsFailure F.write_faults result
-            (table_of self.old).file.failures (table_of self.new).file.failures }
     {
         let Some(stream) = &self.mini_stream else {
             return Err(no_mini_stream());

@@ -1,5 +1,6 @@
 //! A mini chain as one list of bytes with a position (MS-CFB 2.4).
 ghost use Rattle.std.specs.Prelude.{◌≡◌, ◌≢◌, ℕ, List, [], ◌∷◌, ◌++◌, ◌+◌, ◌-◌, ◌*◌, ◌/◌, ◌%◌, ◌<◌, ◌≤◌, max, min, length, replicate, true, take, drop, slice_index, ◌⊎◌, Contains, Some, IsTrue, IfOk, IfErr, IsErrAnd, OnOk, OnErr, MatchResult, vec_len};
+ghost use Rattle.cfb_mini_chains.specs.cfb_sectors.Writing.{PutsBytes};
 ghost use Rattle.cfb_format.specs.declared.validate.Validation.{Validation};
 ghost use Rattle.cfb_format.specs.Bytes.{max_regular_sector, word_at};
 ghost use Rattle.cfb_format.specs.Chain.{IsChain, chain_from};
@@ -906,20 +907,16 @@ fn write_mini_sector<F: Medium, A: Heap>(
     requires some { 0 < length from.now }
     requires within { offset + length from.now ≤ mini_sector_len }
     ensures kept { ChangesFileOnly minialloc.old minialloc.new }
-    ensures ok { IsTrue F.tells → OnOk result ((table_of minialloc.new).file
-        ≡ record (table_of minialloc.old).file {
-          bytes = written
-              (bytes_of minialloc.old) (mini_place minialloc.old mini + offset) from.now;
-          len = max (table_of minialloc.old).file.len (mini_place minialloc.old mini
-              + offset + length from.now);
-          begun = true;
-        }) }
+        ensures put { PutsBytes F.tells F.write_faults
+            (mini_start minialloc.old.directory.table.tables.version (mini_stream_of
+            minialloc.old) mini + offset) from.now (table_of minialloc.old).file
+            (table_of minialloc.new).file
+            (mini_start minialloc.old.directory.table.tables.version (mini_stream_of
+            minialloc.old) mini + offset + length from.now) (length from.now) result }
     ensures there { OnOk result (HasMiniSector minialloc.old mini) }
     ensures begun { OnOk result ((table_of minialloc.new).file.begun ≡ true) }
     ensures cut { (HasMiniSector minialloc.old mini → ⊥) → IsErrAnd result IsInvalidData }
     ensures err { IfErr result (ChangeRefused (HasMiniSector minialloc.old mini → ⊥) ⊥ ⊥ Unit) }
-    ensures others { IsTrue F.tells → ChangesOnlyBytes (mini_place minialloc.old mini
-        + offset) (length from.now) (bytes_of minialloc.old) (bytes_of minialloc.new) }
     ensures spares { IsTrue F.tells
         → Spares (mini_stream_of minialloc.old) (table_of minialloc.old) (table_of minialloc.new) }
     ensures mini_spares { IsTrue F.tells → (validation : Validation)
@@ -927,8 +924,6 @@ fn write_mini_sector<F: Medium, A: Heap>(
     ensures holds { IsTrue F.tells → (validation : Validation)
         → HoldsMini validation minialloc.old → OnOk result (HoldsMini validation minialloc.new) }
     ensures refused { IfErr result (StopsShort minialloc.old minialloc.new) }
-    ensures counts { IsTrue F.tells → CountsFailure F.write_faults result
-        (table_of minialloc.old).file.failures (table_of minialloc.new).file.failures }
 {
     minialloc.write_mini(mini, offset, from)
 }

@@ -1,5 +1,7 @@
 //! Words of the MiniFAT and mini sectors, by their places in sectors of the file (MS-CFB 2.4).
 ghost use Rattle.std.specs.Prelude.{◌≡◌, ◌↔◌, ℕ, ◌+◌, ◌-◌, ◌*◌, ◌/◌, ◌%◌, ◌^◌, ◌<◌, ◌≤◌, max, min, true, length, nat_eq, slice_index, take, drop, Contains, IsTrue, IsErrAnd, IfSome, IfNone, IfOk, IfErr, OnOk, OnErr};
+ghost use Rattle.cfb_sectors.specs.Writing.{PutsBytes};
+ghost use Rattle.cfb_sectors.specs.Reading.{ReadsBytesFrom};
 ghost use Rattle.std.specs.List.{IsDistinct};
 ghost use Rattle.cfb_format.specs.declared.validate.Validation.{Validation};
 ghost use Rattle.cfb_format.specs.Bytes.{sector_len, sector_start, word_bytes, words_per_sector};
@@ -154,19 +156,11 @@ fn write_listed<F: Medium, A: Heap>(
       failures = allocator.new.file.failures;
       begun = allocator.new.file.begun;
     } }
-    ensures ok { IsTrue F.tells → OnOk result (allocator.new.file
-        ≡ record allocator.old.file {
-          bytes = written allocator.old.file.bytes
-              (sector_start allocator.old.tables.version (slice_index sectors.now index)
-              + offset) from.now;
-          len = max allocator.old.file.len
-              (sector_start allocator.old.tables.version (slice_index sectors.now index)
-              + offset + length from.now);
-          begun = true;
-        }) }
-    ensures others { IsTrue F.tells → ChangesOnlyBytes
-        (sector_start allocator.old.tables.version (slice_index sectors.now index)
-        + offset) (length from.now) allocator.old.file.bytes allocator.new.file.bytes }
+        ensures put { PutsBytes F.tells F.write_faults
+            (sector_start allocator.old.tables.version (slice_index sectors.now index) + offset)
+            from.now allocator.old.file allocator.new.file
+            (sector_start allocator.old.tables.version (slice_index sectors.now index) + offset
+            + length from.now) (length from.now) result }
     ensures among { IsTrue F.tells → WritesAmong sectors.now allocator.old allocator.new }
     ensures holds { IsTrue F.tells
         → (validation : Validation) → HoldsTables validation allocator.old
@@ -174,8 +168,6 @@ fn write_listed<F: Medium, A: Heap>(
         → OnOk result (HoldsTables validation allocator.new) }
     ensures begun { allocator.new.file.begun ≡ true }
     ensures err { IfErr result IsMediumError }
-    ensures counts { IsTrue F.tells → CountsFailure
-        F.write_faults result allocator.old.file.failures allocator.new.file.failures }
 {
     let len = allocator.file_len();
     let _fact = len;
@@ -312,13 +304,11 @@ pub fn read_piece<F: ReadMedium, A: Heap>(
           bytes = allocator.new.file.bytes;
           failures = allocator.new.file.failures;
         } }
-    ensures count { IfOk result (λ n. n ≡ min (length into.old) (allocator.old.file.len
-        - (mini_start allocator.old.tables.version stream.now mini + offset))) }
+        ensures part { ReadsBytesFrom F.tells
+            (mini_start allocator.old.tables.version stream.now mini + offset) into.old into.new
+            allocator.old.file.bytes (min (length into.old) (allocator.old.file.len - (mini_start
+            allocator.old.tables.version stream.now mini + offset))) result }
     ensures some { IfOk result (λ n. 0 < n) }
-    ensures ok { IsTrue F.tells → IfOk result (λ n. take n into.new
-        ≡ part allocator.old.file.bytes (mini_start allocator.old.tables.version stream.now mini
-        + offset) n) }
-    ensures rest { IfOk result (λ n. drop n into.new ≡ drop n into.old) }
     ensures missing { (HasMini allocator.old.tables.version stream.now
         (length allocator.old.tables.fat) mini → ⊥) → IsErrAnd result IsInvalidData }
     ensures cut { allocator.old.file.len ≤ mini_start allocator.old.tables.version stream.now mini
@@ -361,23 +351,17 @@ pub fn write_piece<F: Medium, A: Heap>(
       failures = allocator.new.file.failures;
       begun = allocator.new.file.begun;
     } }
-    ensures ok { IsTrue F.tells → OnOk result (allocator.new.file
-        ≡ record allocator.old.file {
-          bytes = written allocator.old.file.bytes
-              (mini_start allocator.old.tables.version stream.now mini + offset) from.now;
-          len = max allocator.old.file.len (mini_start allocator.old.tables.version stream.now mini
-              + offset + length from.now);
-          begun = true;
-        }) }
+        ensures put { PutsBytes F.tells F.write_faults
+            (mini_start allocator.old.tables.version stream.now mini + offset) from.now
+            allocator.old.file allocator.new.file
+            (mini_start allocator.old.tables.version stream.now mini + offset + length from.now)
+            (length from.now) result }
     ensures missing { (HasMini allocator.old.tables.version stream.now
         (length allocator.old.tables.fat) mini → ⊥)
         → IsErrAnd result IsInvalidData × (allocator.new ≡ allocator.old) }
     ensures there { HasMini allocator.old.tables.version stream.now
         (length allocator.old.tables.fat) mini
         → IfErr result IsMediumError × (allocator.new.file.begun ≡ true) }
-    ensures others { IsTrue F.tells
-        → ChangesOnlyBytes (mini_start allocator.old.tables.version stream.now mini
-        + offset) (length from.now) allocator.old.file.bytes allocator.new.file.bytes }
     ensures sectors { IsTrue F.tells → (i : ℕ) → (Contains stream.now i → ⊥) → SectorStays
         allocator.old.tables.version i allocator.old.file.bytes allocator.new.file.bytes }
     ensures header { IsTrue F.tells → (i : ℕ)
@@ -388,8 +372,6 @@ pub fn write_piece<F: Medium, A: Heap>(
         → (validation : Validation) → HoldsTables validation allocator.old
         → ((i : ℕ) → Contains stream.now i → IsNoTableSector allocator.old.tables i)
         → OnOk result (HoldsTables validation allocator.new) }
-    ensures counts { IsTrue F.tells → CountsFailure
-        F.write_faults result allocator.old.file.failures allocator.new.file.failures }
 {
     if sector_of_mini(allocator, stream, mini).is_none() {
         return Err(no_mini(mini));

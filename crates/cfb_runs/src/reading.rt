@@ -1,5 +1,6 @@
 //! Reading along a list of sectors (MS-CFB 2.3).
 ghost use Rattle.std.specs.Prelude.{◌≡◌, ℕ, ◌+◌, ◌/◌, ◌^◌, ◌<◌, ◌≤◌, length, take, drop, slice_index, IsTrue, IfOk, IfErr, IsErrAnd, OnOk};
+ghost use Rattle.cfb_runs.specs.cfb_sectors.Reading.{ReadsBytesFrom};
 ghost use Rattle.cfb_format.specs.Bytes.{sector_len};
 ghost use Rattle.cfb_format.specs.Medium.{part};
 ghost use Rattle.cfb_format.specs.Refused.{CountsFailure, IsInvalidData};
@@ -41,10 +42,8 @@ fn read_listed<F: ReadMedium, A: Heap>(
     requires listed { IsListed allocator.old ids.now at }
     requires there { place_in allocator.old ids.now at + length into.old ≤ allocator.old.file.len }
     ensures kept { OnlyReads allocator.old allocator.new }
-    ensures count { IfOk result (λ n. n ≡ length into.old) }
-    ensures ok { IsTrue F.tells → IfOk result (λ n.
-        take n into.new ≡ part allocator.old.file.bytes (place_in allocator.old ids.now at) n) }
-    ensures rest { IfOk result (λ n. drop n into.new ≡ drop n into.old) }
+        ensures part { ReadsBytesFrom F.tells (place_in allocator.old ids.now at) into.old into.new
+            allocator.old.file.bytes (length into.old) result }
     ensures err { IfErr result IsMediumError }
     ensures same { IsTrue F.tells → OnOk result (allocator.new ≡ allocator.old) }
     ensures bytes { IsTrue F.tells → allocator.new.file.bytes ≡ allocator.old.file.bytes }

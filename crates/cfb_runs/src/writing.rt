@@ -1,5 +1,6 @@
 //! Writing along a list of sectors (MS-CFB 2.3).
 ghost use Rattle.std.specs.Prelude.{◌≡◌, ℕ, ◌+◌, ◌-◌, ◌*◌, ◌/◌, ◌<◌, ◌≤◌, length, max, take, replicate, true, nat_eq, slice_index, IsTrue, IfOk, IfErr, MatchResult, OnOk, OnErr};
+ghost use Rattle.cfb_runs.specs.cfb_sectors.Writing.{PutsBytes};
 ghost use Rattle.std.specs.List.{IsDistinct};
 ghost use Rattle.cfb_format.specs.declared.validate.Validation.{Validation};
 ghost use Rattle.cfb_format.specs.Bytes.{sector_len};
@@ -46,19 +47,14 @@ fn put_run<F: Medium, A: Heap>(
     requires known { (k : ℕ) → k < length from.now
         → IsKnown allocator.old ids.now (byte_in allocator.old index offset + k) }
     ensures kept { OnlyWrites allocator.old allocator.new }
-    ensures ok { IsTrue F.tells → OnOk result (allocator.new.file ≡ record allocator.old.file {
-      bytes = written allocator.old.file.bytes
-          (place_in allocator.old ids.now (byte_in allocator.old index offset)) from.now;
-      len = max allocator.old.file.len
-          (place_in allocator.old ids.now (byte_in allocator.old index offset) + length from.now);
-      begun = true;
-    }) }
+        ensures put { PutsBytes F.tells F.write_faults
+            (place_in allocator.old ids.now (byte_in allocator.old index offset)) from.now
+            allocator.old.file allocator.new.file
+            (place_in allocator.old ids.now (byte_in allocator.old index offset) + length from.now)
+            (length from.now) result }
     ensures len { MatchResult result (λ _. allocator.new.file.len ≡ max allocator.old.file.len
         (place_in allocator.old ids.now (byte_in allocator.old index offset) + length from.now))
         (λ _. allocator.new.file.len ≡ allocator.old.file.len) }
-    ensures others { IsTrue F.tells
-        → ChangesOnlyBytes (place_in allocator.old ids.now (byte_in allocator.old index offset))
-        (length from.now) allocator.old.file.bytes allocator.new.file.bytes }
     ensures spares { IsTrue F.tells → Spares ids.now allocator.old allocator.new }
     ensures holds { IsTrue F.tells
         → (validation : Validation) → HoldsTables validation allocator.old
@@ -66,8 +62,6 @@ fn put_run<F: Medium, A: Heap>(
         → OnOk result (HoldsTables validation allocator.new) }
     ensures begun { allocator.new.file.begun ≡ true }
     ensures err { IfErr result IsMediumError }
-    ensures counts { IsTrue F.tells → CountsFailure F.write_faults result
-        allocator.old.file.failures allocator.new.file.failures }
 {
     let len = allocator.file_len();
     let _fact = len;

@@ -30,7 +30,7 @@ returns-clause-among g c told =
     let within = c.requires.within in
     let listed = Contains-get_or sectors c.args.index 0 c.requires.listed in
     let same = c.file_len-len.ensures.placed.same_version in
-    let change = c.write_contiguous.ensures.others told in
+    let change = c.write_contiguous.ensures.put.others told in
     let others = subst (λ (v : Version). ChangesOnlyBytes (sector_start v sector + c.args.offset) (length c.args.from.now) a.file.bytes b.file.bytes) same change in
     record {
       others = λ i out. other_sector _ sector i c.args.offset _ _ _ _ (ap (λ v. sector_start v sector + c.args.offset) same) change within

@@ -19,7 +19,7 @@ returns-clause-ok g c told =
     on_ok _ _ c.write_listed.result
     (λ is. ap (λ (f : SectorFile). f.bytes) is
     ∙ (λ j. written a.file.bytes (sector_start a.tables.version (slice_index c.args.sectors.now (index j)) + offset j) (bytes j)))
-    (c.write_listed.ensures.ok told)
+    (c.write_listed.ensures.put.done told)
 
 pub returns-clause-others : goal.returns-clause-others
 returns-clause-others g c told =
@@ -37,4 +37,4 @@ returns-clause-others g c told =
     ap (λ (l : List ℕ). length l) c.put_words-end.ensures.before ∙ length-word_bytes words in
     subst (λ p. ChangesOnlyBytes p (4 * length words) a.file.bytes b.file.bytes) home
     (subst (λ n. ChangesOnlyBytes (sector_start a.tables.version (slice_index sectors place.result.0) + place.result.1) n a.file.bytes b.file.bytes) size
-    (c.write_listed.ensures.others told))
+    (c.write_listed.ensures.put.others told))

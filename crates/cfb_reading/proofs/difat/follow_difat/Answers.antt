@@ -67,8 +67,8 @@ loop-buffer-preserved g c =
     let more : length new.difat_sectors.items ≡ length old.difat_sectors.items + 1 = length-more new.difat_sectors.items old.difat_sectors.items old.next c.in_ok-advance.ensures.own in
     let same_version : c.loop-buffer.sectors.version ≡ file.version = ap (λ (f : SectorFile). f.version) c.loop-buffer.invariant.kept in
     record {
-      kept = read-then file c.loop-buffer.sectors c.advance.new.sectors c.loop-buffer.invariant.kept c.in_ok-advance.ensures.kept;
-      same = λ told. c.in_ok-advance.ensures.same told ∙ c.loop-buffer.invariant.same told;
+      kept = read-then file c.loop-buffer.sectors c.advance.new.sectors c.loop-buffer.invariant.kept c.in_ok-advance.ensures.reads.kept;
+      same = λ told. c.in_ok-advance.ensures.reads.same told ∙ c.loop-buffer.invariant.same told;
       met = met-then g c;
       count = count-more header_difat_len (words_per_sector file.version - 1) old.difat_sectors.len new.difat_sectors.len old.entries.len new.entries.len
           c.loop-buffer.invariant.count (omega (arith, more, old.difat_sectors.ok.0, new.difat_sectors.ok.0))

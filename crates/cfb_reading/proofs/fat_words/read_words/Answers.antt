@@ -25,8 +25,8 @@ loop-sector-preserved g c =
     let there = e.there (subst (λ (f : SectorFile). AreThere f l.taking.checked.items) (sym l.invariant.kept) l.invariant.checked) in
     let whole : has_sector file x ≡ true = sym (same-sector file l.sectors l.invariant.kept x) ∙ there.0 in
     record {
-      kept = read-then file l.sectors c.take_sector.new.sectors l.invariant.kept e.kept;
-      same = λ told. e.same told ∙ l.invariant.same told;
+      kept = read-then file l.sectors c.take_sector.new.sectors l.invariant.kept e.reads.kept;
+      same = λ told. e.reads.same told ∙ l.invariant.same told;
       len = e.len ∙ l.invariant.len;
       few = e.few;
       there = list_all_more (has_sector file) list l.sector-index 0 lt ∙ (λ j. l.invariant.there j && whole j);

@@ -21,5 +21,5 @@ returns-clause-count g c =
     record {
       wanted = c.run_of-run.result;
       longest = subst (λ (u : Version). IsLongestRun u ids at (length c.args.into.now) c.run_of-run.result) c.version-version.ensures c.run_of-run.ensures.longest;
-      there = omega (arith, start, taken, c.in_ok-count.ensures.count, c.min-room.ensures, c.file_len-len.ensures.len, c.run_of-run.ensures.some);
+      there = omega (arith, start, taken, c.in_ok-count.ensures.part.count, c.min-room.ensures, c.file_len-len.ensures.len, c.run_of-run.ensures.some);
     }

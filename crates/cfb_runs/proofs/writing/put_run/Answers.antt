@@ -1,4 +1,5 @@
-use Rattle.std.proofs.Common.{◌≡◌, ◌≤◌, ◌+◌, ◌*◌, ℕ, length, max, subst, sym}
+use Rattle.std.proofs.lemmas.Grind.{common_steps}
+use Rattle.std.proofs.Common.{◌≡◌, ◌≤◌, ◌+◌, ◌*◌, ℕ, length, max, subst, sym, rules, arith}
 use Rattle.std.specs.Prelude.{MatchResult, OnOk, true}
 use Rattle.cfb_format.specs.Bytes.{sector_len}
 use Rattle.cfb_format.specs.Medium.{ChangesOnlyBytes, written}
@@ -7,29 +8,32 @@ use Rattle.cfb_runs.specs.cfb_sectors.Sectors.{sectors_end}
 use Rattle.cfb_runs.proofs.Runs.{placed_at, run_among, run_inside, run_outside}
 use Rattle.cfb_runs.proofs.writing.put_run.Goals as goal
 
-pub returns-clause-ok : goal.returns-clause-ok
-returns-clause-ok g c told =
-    let a = c.args.allocator.now in
-    let here = placed_at a.tables.version a.file.version c.file_len-len.ensures.placed.same_version c.args.ids.now c.args.index c.args.offset c.requires.short in
-    let from = c.args.from.now in
-    subst (λ (p : ℕ). OnOk c.write_contiguous.result (c.write_contiguous.new.self.file ≡ record a.file {
-      bytes = written a.file.bytes p from;
-      len = max a.file.len (p + length from);
-      begun = true;
-    })) here (c.write_contiguous.ensures.ok told)
+pub returns-clause-put : goal.returns-clause-put
+returns-clause-put g c = record {
+  done = λ told. (
+      let a = c.args.allocator.now in
+      let here = placed_at a.tables.version a.file.version c.file_len-len.ensures.placed.same_version c.args.ids.now c.args.index c.args.offset c.requires.short in
+      let from = c.args.from.now in
+      subst (λ (p : ℕ). OnOk c.write_contiguous.result (c.write_contiguous.new.self.file ≡ record a.file {
+        bytes = written a.file.bytes p from;
+        len = max a.file.len (p + length from);
+        begun = true;
+      })) here (c.write_contiguous.ensures.put.done told)
+  );
+  others = λ told. (
+      let a = c.args.allocator.now in
+      let here = placed_at a.tables.version a.file.version c.file_len-len.ensures.placed.same_version c.args.ids.now c.args.index c.args.offset c.requires.short in
+      subst (λ (p : ℕ). ChangesOnlyBytes p (length c.args.from.now) a.file.bytes c.write_contiguous.new.self.file.bytes) here (c.write_contiguous.ensures.put.others told)
+  );
+  counts = first_of (search rules, grind (arith, common_steps));
+}
 
 pub returns-clause-len : goal.returns-clause-len
 returns-clause-len g c =
     let a = c.args.allocator.now in
     let here = placed_at a.tables.version a.file.version c.file_len-len.ensures.placed.same_version c.args.ids.now c.args.index c.args.offset c.requires.short in
     let new = c.write_contiguous.new.self in
-    subst (λ (p : ℕ). MatchResult c.write_contiguous.result (λ n. new.file.len ≡ max a.file.len (p + length c.args.from.now)) (λ e. new.file.len ≡ a.file.len)) here c.write_contiguous.ensures.len
-
-pub returns-clause-others : goal.returns-clause-others
-returns-clause-others g c told =
-    let a = c.args.allocator.now in
-    let here = placed_at a.tables.version a.file.version c.file_len-len.ensures.placed.same_version c.args.ids.now c.args.index c.args.offset c.requires.short in
-    subst (λ (p : ℕ). ChangesOnlyBytes p (length c.args.from.now) a.file.bytes c.write_contiguous.new.self.file.bytes) here (c.write_contiguous.ensures.others told)
+    subst (λ (p : ℕ). MatchResult c.write_contiguous.result (λ n. new.file.len ≡ max a.file.len (p + length c.args.from.now)) (λ e. new.file.len ≡ a.file.len)) here c.write_contiguous.ensures.kept.len
 
 pub returns-clause-spares : goal.returns-clause-spares
 returns-clause-spares g c told =

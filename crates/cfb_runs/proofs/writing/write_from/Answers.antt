@@ -53,7 +53,7 @@ returns-clause-ok g c told =
       bytes = written a.file.bytes p (take run from);
       len = max a.file.len (p + n);
       begun = true;
-    }) (omega (arith, size, few.1)) (c.in_ok-put_run.ensures.ok told)
+    }) (omega (arith, size, few.1)) (c.in_ok-put_run.ensures.put.done told)
 
 pub returns-clause-len : goal.returns-clause-len
 returns-clause-len g c =
@@ -77,7 +77,7 @@ returns-in_err-put_run-clause-others g c told =
       run = run;
       longest = longest;
       change = subst (λ (n : ℕ). ChangesOnlyBytes (place_along v ids (c.args.index * sector_len v + c.args.offset)) n a.file.bytes c.put_run.new.allocator.file.bytes)
-          (omega (arith, size, longest.few)) (c.put_run.ensures.others told);
+          (omega (arith, size, longest.few)) (c.put_run.ensures.put.others told);
     }
 
 pub returns-clause-others : goal.returns-clause-others
@@ -93,5 +93,5 @@ returns-clause-others g c told =
       run = run;
       longest = longest;
       change = subst (λ (n : ℕ). ChangesOnlyBytes (place_along v ids (c.args.index * sector_len v + c.args.offset)) n a.file.bytes c.put_run.new.allocator.file.bytes)
-          (omega (arith, size, longest.few)) (c.put_run.ensures.others told);
+          (omega (arith, size, longest.few)) (c.put_run.ensures.put.others told);
     }

@@ -37,7 +37,7 @@ pub returns-clause-ok : goal.returns-clause-ok
 returns-clause-ok g c told =
     let old = c.args.sectors.now in
     let here = here_place old.version c.args.numbers.now c.args.index c.args.offset c.requires.short in
-    ap (λ (f : SectorFile). f.bytes) (c.in_ok-write_at.ensures.ok told)
+    ap (λ (f : SectorFile). f.bytes) (c.in_ok-write_at.ensures.put.done told)
     ∙ (λ j. written old.bytes ((slice_index c.args.numbers.now c.args.index + 1) * c.sector_len.ensures j + c.args.offset) (take c.run_from-run.result c.args.from.now))
     ∙ ap (λ p. written old.bytes p (take c.run_from-run.result c.args.from.now)) (sym here)
 
@@ -45,7 +45,7 @@ pub returns-clause-measured : goal.returns-clause-measured
 returns-clause-measured g c told measured =
     let old = c.args.sectors.now in
     let new = c.write_at.new.self in
-    let is = c.in_ok-write_at.ensures.ok told in
+    let is = c.in_ok-write_at.ensures.put.done told in
     measured_put _ old.len new.len old.bytes new.bytes (take c.run_from-run.result c.args.from.now) measured (ap (λ (f : SectorFile). f.len) is) (ap (λ (f : SectorFile). f.bytes) is)
 
 pub returns-clause-changes : goal.returns-clause-changes
@@ -57,7 +57,7 @@ returns-clause-changes g c told =
     let new = c.write_at.new.self in
     let longest = subst (λ (u : Version). IsLongestRun u ids (c.args.index * sector_len u + c.args.offset) (length from) run) c.version.ensures c.run_from-run.ensures.longest in
     put_changes old.version ids c.args.index c.args.offset run from old.bytes new.bytes c.requires.short c.run_from-run.ensures.some.0 longest
-    (subst (λ m. ChangesOnlyBytes ((slice_index ids c.args.index + 1) * m + c.args.offset) (length (take run from)) old.bytes new.bytes) c.sector_len.ensures (c.write_at.ensures.others told))
+    (subst (λ m. ChangesOnlyBytes ((slice_index ids c.args.index + 1) * m + c.args.offset) (length (take run from)) old.bytes new.bytes) c.sector_len.ensures (c.write_at.ensures.put.others told))
 
 pub returns-clause-front : goal.returns-clause-front
 returns-clause-front g c told =
@@ -65,7 +65,7 @@ returns-clause-front g c told =
     let new = c.write_at.new.self in
     let n = length (take c.run_from-run.result c.args.from.now) in
     put_front old.version (slice_index c.args.numbers.now c.args.index) c.args.offset n old.bytes new.bytes
-    (subst (λ m. ChangesOnlyBytes ((slice_index c.args.numbers.now c.args.index + 1) * m + c.args.offset) n old.bytes new.bytes) c.sector_len.ensures (c.write_at.ensures.others told))
+    (subst (λ m. ChangesOnlyBytes ((slice_index c.args.numbers.now c.args.index + 1) * m + c.args.offset) n old.bytes new.bytes) c.sector_len.ensures (c.write_at.ensures.put.others told))
 
 pub returns-in_err-write_at-clause-changes : goal.returns-in_err-write_at-clause-changes
 returns-in_err-write_at-clause-changes g c told =
@@ -76,7 +76,7 @@ returns-in_err-write_at-clause-changes g c told =
     let new = c.write_at.new.self in
     let longest = subst (λ (u : Version). IsLongestRun u ids (c.args.index * sector_len u + c.args.offset) (length from) run) c.version.ensures c.run_from-run.ensures.longest in
     put_changes old.version ids c.args.index c.args.offset run from old.bytes new.bytes c.requires.short c.run_from-run.ensures.some.0 longest
-    (subst (λ m. ChangesOnlyBytes ((slice_index ids c.args.index + 1) * m + c.args.offset) (length (take run from)) old.bytes new.bytes) c.sector_len.ensures (c.write_at.ensures.others told))
+    (subst (λ m. ChangesOnlyBytes ((slice_index ids c.args.index + 1) * m + c.args.offset) (length (take run from)) old.bytes new.bytes) c.sector_len.ensures (c.write_at.ensures.put.others told))
 
 pub returns-in_err-write_at-clause-front : goal.returns-in_err-write_at-clause-front
 returns-in_err-write_at-clause-front g c told =
@@ -84,4 +84,4 @@ returns-in_err-write_at-clause-front g c told =
     let new = c.write_at.new.self in
     let n = length (take c.run_from-run.result c.args.from.now) in
     put_front old.version (slice_index c.args.numbers.now c.args.index) c.args.offset n old.bytes new.bytes
-    (subst (λ m. ChangesOnlyBytes ((slice_index c.args.numbers.now c.args.index + 1) * m + c.args.offset) n old.bytes new.bytes) c.sector_len.ensures (c.write_at.ensures.others told))
+    (subst (λ m. ChangesOnlyBytes ((slice_index c.args.numbers.now c.args.index + 1) * m + c.args.offset) n old.bytes new.bytes) c.sector_len.ensures (c.write_at.ensures.put.others told))

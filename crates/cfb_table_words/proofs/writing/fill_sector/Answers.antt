@@ -20,4 +20,4 @@ returns-clause-filled g c told = on_ok _ _ c.init_sector.result
 pub returns-clause-front : goal.returns-clause-front
 returns-clause-front g c told =
     let past = past_header c.args.sectors.now.version c.args.number in
-    Stays_apart _ _ 0 512 c.args.sectors.now.bytes c.init_sector.new.self.bytes (c.init_sector.ensures.others told) (λ low. absurd (omega (arith, past, low)))
+    Stays_apart _ _ 0 512 c.args.sectors.now.bytes c.init_sector.new.self.bytes (c.init_sector.ensures.there.others told) (λ low. absurd (omega (arith, past, low)))

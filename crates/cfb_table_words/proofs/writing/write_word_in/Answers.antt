@@ -20,13 +20,13 @@ returns-clause-kept g c =
     let old = c.args.sectors.now in
     let new = c.write_word.new.self in
     let mine = Contains-get_or c.args.list.now c.args.place 0 c.requires.place in
-    c.write_word.ensures.kept
-    ∙ ap (λ (b : Bool). record old { len = new.len; bytes = new.bytes; failures = new.failures; begun = b }) (c.write_word.ensures.inside (c.requires.below _ mine)).1
+    c.write_word.ensures.kept.kept
+    ∙ ap (λ (b : Bool). record old { len = new.len; bytes = new.bytes; failures = new.failures; begun = b }) (c.write_word.ensures.error.inside (c.requires.below _ mine)).1
 
 pub returns-clause-err : goal.returns-clause-err
 returns-clause-err g c =
     let mine = Contains-get_or c.args.list.now c.args.place 0 c.requires.place in
-    (c.write_word.ensures.inside (c.requires.below _ mine)).0
+    (c.write_word.ensures.error.inside (c.requires.below _ mine)).0
 
 pub returns-clause-changes : goal.returns-clause-changes
 returns-clause-changes g c told =
@@ -36,7 +36,7 @@ returns-clause-changes g c told =
     let mine : Contains list home = Contains-get_or list c.args.place 0 c.requires.place in
     changes_more (home ∷ []) list old.version old.bytes c.write_word.new.self.bytes
     (λ i m. subst (Contains list) (Contains-one home i m) mine)
-    (changes_in_sector old.version home (4 * c.args.index) 4 _ old.bytes c.write_word.new.self.bytes refl (fits old.version c.args.index c.requires.index) (c.write_word.ensures.others told))
+    (changes_in_sector old.version home (4 * c.args.index) 4 _ old.bytes c.write_word.new.self.bytes refl (fits old.version c.args.index c.requires.index) (c.write_word.ensures.there.others told))
 
 pub returns-clause-measured : goal.returns-clause-measured
 returns-clause-measured g c told measured =

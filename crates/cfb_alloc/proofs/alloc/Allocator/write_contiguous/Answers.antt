@@ -11,7 +11,7 @@ use Rattle.cfb_alloc.proofs.alloc.Allocator.write_contiguous.Goals as goal
 pub returns-clause-spares : goal.returns-clause-spares
 returns-clause-spares g c told own lie =
     stretch_spares c.write_contiguous.new.self c.args.sector c.args.offset (length c.args.from.now) c.self.view_is c.self.invariant.0 own lie
-    (c.write_contiguous.ensures.others told)
+    (c.write_contiguous.ensures.put.others told)
 
 pub returns-clause-holds : goal.returns-clause-holds
 returns-clause-holds g c told validation h outside =
@@ -28,4 +28,4 @@ returns-clause-holds g c told validation h outside =
     c.requires.some inside (stretch_past s2 c.args.sector c.args.offset (length from) c.self.view_is c.self.invariant.0)
     (subst (λ (a : AllocatorState). LieOutside (table_sectors a.tables) a.tables.version (place_in_sector a.file c.args.sector c.args.offset) (length from)) back outside)
     (subst (λ (a : AllocatorState). HoldsTables validation a) back h))
-    (e.ok told) (wrote_inside c.write_contiguous.result _ _ (sectors_end s0) (at + length from) e.past)
+    (e.put.done told) (wrote_inside c.write_contiguous.result _ _ (sectors_end s0) (at + length from) e.past)

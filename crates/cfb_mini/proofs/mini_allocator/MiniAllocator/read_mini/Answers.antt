@@ -1,14 +1,20 @@
-use Rattle.std.proofs.Common.{◌≡◌, ◌+◌, ◌-◌, ◌∙◌, ap}
+use Rattle.std.proofs.lemmas.Grind.{common_steps}
+use Rattle.std.proofs.Common.{◌≡◌, ◌+◌, ◌-◌, ◌∙◌, ap, rules, arith}
 use Rattle.cfb_mini.specs.cfb_soundness.Places.{mini_start}
 use Rattle.cfb_mini.specs.cfb_mini_sectors.State.{MiniState, table_of}
 use Rattle.cfb_mini.proofs.MiniPieces.{read-cut, read-rest, read-there, stream-is}
 use Rattle.cfb_mini.proofs.mini_allocator.MiniAllocator.read_mini.Goals as goal
 
-pub returns-clause-rest : goal.returns-clause-rest
-returns-clause-rest g c =
-    let a = c.allocator_mut.result.now in
-    read-rest c.read_piece.result c.min-len.result (a.file.len - (mini_start a.tables.version c.deref.result.now c.args.mini + c.args.offset)) c.args.into.now c.read_piece.new.into
-    c.read_piece.auto.into c.read_piece.ensures.count c.read_piece.ensures.rest
+pub returns-clause-part : goal.returns-clause-part
+returns-clause-part g c = record {
+  count = first_of (search rules, grind (arith, common_steps));
+  read = first_of (search rules, grind (arith, common_steps));
+  rest = (
+      let a = c.allocator_mut.result.now in
+      read-rest c.read_piece.result c.min-len.result (a.file.len - (mini_start a.tables.version c.deref.result.now c.args.mini + c.args.offset)) c.args.into.now c.read_piece.new.into
+      c.read_piece.auto.into c.read_piece.ensures.part.count c.read_piece.ensures.part.rest
+  );
+}
 
 pub returns-clause-cut : goal.returns-clause-cut
 returns-clause-cut g c some none =

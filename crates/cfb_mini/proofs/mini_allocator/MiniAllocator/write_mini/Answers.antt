@@ -20,7 +20,7 @@ returns-clause-mini_spares g c told validation h =
     let stream = stream-is s c.deref.result.now c.in-Some.stream c.self.inside.mini_stream c.deref.ensures.value c.in-Some.is (ap (λ (w : MiniState). w.mini_stream) c.self.view_is) in
     subst (λ (w : MiniState). SparesMini (c.args.mini ∷ []) s (with_table w b)) (sym c.self.view_is)
     (write-spares c.write_piece.result validation s a b c.deref.result.now c.args.mini c.args.offset (length c.args.from.now) h table stream c.requires.within
-    was.tables was.missing (was.others told))
+    was.tables was.missing (was.put.others told))
 
 pub returns-clause-holds : goal.returns-clause-holds
 returns-clause-holds g c told validation h =
