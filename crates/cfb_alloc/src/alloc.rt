@@ -1,5 +1,6 @@
 //! The allocator of sectors: chains are begun, extended, cut and freed (MS-CFB 2.3 and 2.5).
 ghost use Rattle.std.specs.Prelude.{◌≡◌, ◌≢◌, ◌↔◌, ℕ, List, [], ◌∷◌, max, min, length, true, false, IsTrue, IfOk, IfErr, IfSome, OnOk, OnErr, take, drop, ◌++◌, ◌⊎◌, ◌+◌, ◌-◌, ◌*◌, ◌<◌, ◌≤◌, Contains, IsErrAnd, MatchResult, vec_len};
+ghost use Rattle.cfb_tables.specs.Taking.{TakesNumbers, AttachesNumbers, TakesNumber};
 ghost use Rattle.cfb_alloc.specs.cfb_sectors.Writing.{WritesOnlyUntil, WritesBeganUntil, PutsBytes};
 ghost use Rattle.cfb_alloc.specs.cfb_sectors.Reading.{ReadsBytesFrom, RefusedBehind};
 ghost use Rattle.cfb_format.specs.declared.validate.Validation.{Validation};
@@ -378,8 +379,7 @@ impl<F: Medium, A: Heap> Allocator<F, A> {
     /// changed but the table sectors.
     #[tactic(auto, using(crate::proofs::AllocLemmas::refused_changed))]
     pub fn begin_chain(&mut self, init: SectorInit) -> Result<u32, Error>
-        ensures taken { IfOk result (λ x. HasTaken self.old.tables self.new.tables [] (x ∷ [])) }
-        ensures chain { IfOk result (λ x. IsChain self.new.tables.fat x (x ∷ [])) }
+        ensures number { TakesNumber self.old.tables self.new.tables result }
         ensures filled { IsTrue F.tells
             → (validation : Validation) → HoldsTables validation self.old
             → IfOk result (λ x. IsAsFilled self.new.tables.version init self.new.file.bytes x) }
@@ -860,11 +860,7 @@ impl<F: Medium, A: Heap + Clone> Allocator<F, A> {
     /// Takes so many sectors as a new chain.
     #[tactic(auto, using(crate::proofs::AllocLemmas::refused_changed))]
     fn begin_chain_by(&mut self, count: usize, init: SectorInit) -> Result<Vec<u32, A>, Error>
-        ensures taken { IfOk result (λ list.
-            HasTaken self.old.tables self.new.tables [] list.items) }
-        ensures chain { IfOk result (λ list.
-            IsChain self.new.tables.fat (first_or_end list.items) list.items) }
-        ensures count { IfOk result (λ list. vec_len list ≡ count) }
+        ensures list { TakesNumbers count self.old.tables self.new.tables result }
         ensures none { count ≡ 0 → self.new ≡ self.old }
         ensures filled { IsTrue F.tells → (validation : Validation)
             → HoldsTables validation self.old → IfOk result (λ list. (i : ℕ) → Contains list.items i
@@ -904,10 +900,7 @@ impl<F: Medium, A: Heap + Clone> Allocator<F, A> {
     /// Adds so many sectors behind the last one of a chain.
     #[tactic(auto, using(crate::proofs::AllocLemmas::refused_changed))]
     fn append_by(&mut self, last: u32, count: usize, init: SectorInit) -> Result<Vec<u32, A>, Error>
-        ensures taken { IfOk result (λ list.
-            HasTaken self.old.tables self.new.tables (last ∷ []) list.items) }
-        ensures chain { IfOk result (λ list. IsChain self.new.tables.fat last (last ∷ list.items)) }
-        ensures count { IfOk result (λ list. vec_len list ≡ count) }
+        ensures list { AttachesNumbers last count self.old.tables self.new.tables result }
         ensures none { count ≡ 0 → self.new ≡ self.old }
         ensures filled { IsTrue F.tells → (validation : Validation)
             → HoldsTables validation self.old → IfOk result (λ list. (i : ℕ) → Contains list.items i

@@ -1,5 +1,6 @@
 //! The directory of a file (MS-CFB 2.6): its entries in memory, and each change of them written into the slots of its sectors.
 ghost use Rattle.std.specs.Prelude.{◌≡◌, ◌≢◌, ◌↔◌, ◌⊎◌, ℕ, ◌*◌, ◌%◌, ◌<◌, ◌≤◌, ◌∷◌, List, [], length, map, min, chars, true, false, Contains, IsTrue, MatchOption, vec_len, IfOk, IfErr, IfSome, OnOk};
+ghost use Rattle.cfb_directory.specs.cfb_tables.Taking.{TakesNumber};
 ghost use Rattle.cfb_format.specs.declared.objtype.ObjType.TheVariants.{Root};
 ghost use Rattle.cfb_directory.specs.Growing.{ArePlaced};
 ghost use Rattle.cfb_format.specs.declared.validate.Validation.{Validation};
@@ -556,9 +557,8 @@ impl<F: Medium, A: Heap> Directory<F, A> {
     /// fails, the tables in memory have the sector, and of the file's bytes no sector in use has changed but the table sectors. The
     /// directory itself stays in any case.
     pub fn begin_chain(&mut self, init: SectorInit) -> Result<u32, Error>
-        ensures taken { IfOk result (λ x.
-            HasTaken (directory_tables self.old) (directory_tables self.new) [] (x ∷ [])) }
-        ensures chain { IfOk result (λ x. IsChain (directory_tables self.new).fat x (x ∷ [])) }
+        ensures number { TakesNumber (directory_tables self.old) (directory_tables self.new) result
+            }
         ensures filled { IsTrue F.tells
             → (validation : Validation) → HoldsTables validation self.old.table → IfOk result (λ x.
             IsAsFilled (directory_version self.new) init (directory_bytes self.new) x) }

@@ -1,6 +1,7 @@
 //! The allocator of mini sectors (MS-CFB 2.4): mini chains are begun, extended, cut and freed, in the MiniFAT, in the mini stream and in
 //! the root's entry.
 ghost use Rattle.std.specs.Prelude.{◌≡◌, ◌≢◌, ◌↔◌, ◌⊎◌, ℕ, ◌+◌, ◌-◌, ◌/◌, ◌%◌, ◌^◌, ◌<◌, ◌≤◌, ◌∷◌, ◌++◌, List, [], Option, length, map, max, min, chars, take, drop, true, false, Contains, IsTrue, MatchOption, vec_len, option_map, unwrap_or, IfOk, IfErr, IfSome, IsErrAnd, OnOk, OnErr};
+ghost use Rattle.cfb_mini.specs.cfb_tables.Taking.{TakesNumber};
 ghost use Rattle.cfb_sectors.specs.Writing.{PutsBytes};
 ghost use Rattle.cfb_sectors.specs.Reading.{ReadsBytesFrom};
 ghost use Rattle.cfb_format.specs.declared.objtype.ObjType.TheVariants.{Root};
@@ -1037,9 +1038,7 @@ impl<F: Medium, A: Heap> MiniAllocator<F, A> {
     /// fails, the tables in memory have the sector, and of the file's bytes no sector in use has changed but the table sectors. The
     /// directory itself stays in any case.
     pub fn begin_chain(&mut self, init: SectorInit) -> Result<u32, Error>
-        ensures taken { IfOk result (λ x.
-            HasTaken (tables_in self.old) (tables_in self.new) [] (x ∷ [])) }
-        ensures chain { IfOk result (λ x. IsChain (tables_in self.new).fat x (x ∷ [])) }
+        ensures number { TakesNumber (tables_in self.old) (tables_in self.new) result }
         ensures filled { IsTrue F.tells
             → (validation : Validation) → HoldsTables validation (table_of self.old)
             → IfOk result (λ x. IsAsFilled (version_of self.new) init (bytes_of self.new) x) }

@@ -1,4 +1,5 @@
-use Rattle.std.proofs.Common.{◌∙◌, [], arith, sym, subst, refl, ℕ, List}
+use Rattle.std.proofs.lemmas.Grind.{common_steps}
+use Rattle.std.proofs.Common.{◌∙◌, [], arith, sym, subst, refl, ℕ, List, rules}
 use Rattle.std.specs.Prelude.{Contains}
 use Rattle.std.proofs.lemmas.Result.{err_from_is_err_and}
 use Rattle.cfb_alloc.proofs.AllocLemmas.{taken_reserved, others_refl, others_unchanged, placed_reserved, placed_written, shown_below, shown_taken, others_written, held_counted, fats_apart_shown, clean_taken, fats_known, difats_known, refused_changed}
@@ -16,15 +17,18 @@ returns-in_err-before-clause-others g c told = others_refl c.args.self.now
 pub returns-in_err-clone-clause-others : goal.returns-in_err-clone-clause-others
 returns-in_err-clone-clause-others g c told = others_refl c.args.self.now
 
-pub returns-then-count-eq0-clause-taken : goal.returns-then-count-eq0-clause-taken
-returns-then-count-eq0-clause-taken g c =
-    let t = c.args.self.now.tables in
-    subst (HasTaken t t []) (sym c.new.ensures.items) (taken-nothing t c.in_ok-before.ensures.sizes.places)
-
-pub returns-then-count-eq0-clause-chain : goal.returns-then-count-eq0-clause-chain
-returns-then-count-eq0-clause-chain g c =
-    let fat = c.args.self.now.tables.fat in
-    subst (λ (z : List ℕ). IsChain fat (first_or_end z) z) (sym c.new.ensures.items) (chain_of fat (first_or_end []) [] refl)
+pub returns-then-count-eq0-clause-list : goal.returns-then-count-eq0-clause-list
+returns-then-count-eq0-clause-list g c = record {
+  taken = (
+      let t = c.args.self.now.tables in
+      subst (HasTaken t t []) (sym c.new.ensures.items) (taken-nothing t c.in_ok-before.ensures.sizes.places)
+  );
+  chain = (
+      let fat = c.args.self.now.tables.fat in
+      subst (λ (z : List ℕ). IsChain fat (first_or_end z) z) (sym c.new.ensures.items) (chain_of fat (first_or_end []) [] refl)
+  );
+  counted = first_of (search rules, grind (arith, common_steps));
+}
 
 pub returns-then-count-eq0-clause-others : goal.returns-then-count-eq0-clause-others
 returns-then-count-eq0-clause-others g c told = others_refl c.args.self.now
@@ -36,36 +40,36 @@ pub returns-in_err-clone-2-clause-others : goal.returns-in_err-clone-2-clause-ot
 returns-in_err-clone-2-clause-others g c told = others_unchanged c.self.view_is c.reserve.new.self c.reserve.ensures.unchanged
 
 pub returns-in_err-list-clause-others : goal.returns-in_err-list-clause-others
-returns-in_err-list-clause-others g c told = others_unchanged c.self.view_is c.take_by.new.self (c.in_err-list.ensures.unchanged ∙ c.reserve.ensures.unchanged)
+returns-in_err-list-clause-others g c told = others_unchanged c.self.view_is c.take_by.new.self (c.in_err-list.ensures.error.unchanged ∙ c.reserve.ensures.unchanged)
 
 pub returns-in_err-list-clause-err : goal.returns-in_err-list-clause-err
 returns-in_err-list-clause-err g c =
     let p = err_from_is_err_and c.from_residual-in_err-list.result c.from_residual-in_err-list.ensures.1 in
-    rw (p.1, p.2) (refused_changed _ _ _ _ c.in_err-list.field-0.0 (rw (← c.self.view_is, ← c.reserve.ensures.unchanged) c.in_err-list.ensures.err))
+    rw (p.1, p.2) (refused_changed _ _ _ _ c.in_err-list.field-0.0 (rw (← c.self.view_is, ← c.reserve.ensures.unchanged) c.in_err-list.ensures.error.err))
 
 pub write_taken-requires-clause-placed : goal.write_taken-requires-clause-placed
 write_taken-requires-clause-placed g c =
-    placed_reserved c.deref.result.now c.deref.ensures.value c.self.view_is (taken_reserved c.reserve.ensures.unchanged c.in_ok-list.ensures.taken)
+    placed_reserved c.deref.result.now c.deref.ensures.value c.self.view_is (taken_reserved c.reserve.ensures.unchanged c.in_ok-list.ensures.list.taken)
     c.reserve_sectors.new.self c.len.result c.reserve_sectors.ensures c.len.ensures.len c.self.invariant.0
 
 pub write_taken-requires-clause-more : goal.write_taken-requires-clause-more
-write_taken-requires-clause-more g c = shown_below c.deref.result.now c.deref.ensures.value c.self.view_is (taken_reserved c.reserve.ensures.unchanged c.in_ok-list.ensures.taken)
+write_taken-requires-clause-more g c = shown_below c.deref.result.now c.deref.ensures.value c.self.view_is (taken_reserved c.reserve.ensures.unchanged c.in_ok-list.ensures.list.taken)
 
 pub invariant_of-self-in_err-write_taken : goal.invariant_of-self-in_err-write_taken
 invariant_of-self-in_err-write_taken g c = (
-  placed_written c.deref.result.now c.deref.ensures.value c.self.view_is (taken_reserved c.reserve.ensures.unchanged c.in_ok-list.ensures.taken)
+  placed_written c.deref.result.now c.deref.ensures.value c.self.view_is (taken_reserved c.reserve.ensures.unchanged c.in_ok-list.ensures.list.taken)
       c.reserve_sectors.new.self c.write_taken.new.sectors c.len.result c.reserve_sectors.ensures c.write_taken.ensures.kept c.len.ensures.len c.self.invariant.0,
   tt,
 )
 
 pub returns-in_err-write_taken-clause-others : goal.returns-in_err-write_taken-clause-others
 returns-in_err-write_taken-clause-others g c told =
-    others_written c.deref.result.now c.deref.ensures.value c.self.view_is (taken_reserved c.reserve.ensures.unchanged c.in_ok-list.ensures.taken)
+    others_written c.deref.result.now c.deref.ensures.value c.self.view_is (taken_reserved c.reserve.ensures.unchanged c.in_ok-list.ensures.list.taken)
     c.reserve_sectors.new.self c.write_taken.new.sectors c.len.result c.reserve_sectors.ensures (c.write_taken.ensures.changes told)
 
 pub invariant_of-self-2 : goal.invariant_of-self-2
 invariant_of-self-2 g c = (
-  placed_written c.deref.result.now c.deref.ensures.value c.self.view_is (taken_reserved c.reserve.ensures.unchanged c.in_ok-list.ensures.taken)
+  placed_written c.deref.result.now c.deref.ensures.value c.self.view_is (taken_reserved c.reserve.ensures.unchanged c.in_ok-list.ensures.list.taken)
       c.reserve_sectors.new.self c.write_taken.new.sectors c.len.result c.reserve_sectors.ensures c.write_taken.ensures.kept c.len.ensures.len c.self.invariant.0,
   tt,
 )
@@ -74,7 +78,7 @@ pub returns-clause-filled : goal.returns-clause-filled
 returns-clause-filled g c told validation h i m =
     let now = c.deref.result.now in
     let same = c.deref.ensures.value in
-    let taken = (taken_reserved c.reserve.ensures.unchanged c.in_ok-list.ensures.taken) in
+    let taken = (taken_reserved c.reserve.ensures.unchanged c.in_ok-list.ensures.list.taken) in
     let known = shown_taken now same c.self.view_is taken in
     filled_each _ _ _ now (c.in_ok-write_taken.ensures.filled told known.once (fats_apart_shown now same c.self.view_is taken validation h)) i
     (subst (λ (xs : List ℕ). Contains xs i) (sym same) m)
@@ -83,8 +87,8 @@ pub returns-clause-holds : goal.returns-clause-holds
 returns-clause-holds g c told validation h =
     let now = c.deref.result.now in
     let same = c.deref.ensures.value in
-    let taken = (taken_reserved c.reserve.ensures.unchanged c.in_ok-list.ensures.taken) in
-    let clean = clean_taken now same c.self.view_is taken validation h (first_or_end c.in_ok-list.list.items) c.in_ok-list.ensures.chain (omega arith) in
+    let taken = (taken_reserved c.reserve.ensures.unchanged c.in_ok-list.ensures.list.taken) in
+    let clean = clean_taken now same c.self.view_is taken validation h (first_or_end c.in_ok-list.list.items) c.in_ok-list.ensures.list.chain (omega arith) in
     record {
       holds = c.in_ok-write_taken.ensures.holds told validation c.self.inside.tables (shown_taken now same c.self.view_is taken) clean
           (fats_known now same c.self.view_is taken c.in_ok-before.before.fats c.in_ok-before.ensures.ok.0)
@@ -95,7 +99,7 @@ returns-clause-holds g c told validation h =
 
 pub returns-clause-others : goal.returns-clause-others
 returns-clause-others g c told =
-    others_written c.deref.result.now c.deref.ensures.value c.self.view_is (taken_reserved c.reserve.ensures.unchanged c.in_ok-list.ensures.taken)
+    others_written c.deref.result.now c.deref.ensures.value c.self.view_is (taken_reserved c.reserve.ensures.unchanged c.in_ok-list.ensures.list.taken)
     c.reserve_sectors.new.self c.write_taken.new.sectors c.len.result c.reserve_sectors.ensures (c.write_taken.ensures.changes told)
 
 pub returns-in_err-before-clause-spares : goal.returns-in_err-before-clause-spares
@@ -114,14 +118,14 @@ pub returns-in_err-clone-2-clause-spares : goal.returns-in_err-clone-2-clause-sp
 returns-in_err-clone-2-clause-spares g c told = spares_unchanged [] c.self.view_is c.reserve.new.self c.reserve.ensures.unchanged
 
 pub returns-in_err-list-clause-spares : goal.returns-in_err-list-clause-spares
-returns-in_err-list-clause-spares g c told = spares_unchanged [] c.self.view_is c.take_by.new.self (c.in_err-list.ensures.unchanged ∙ c.reserve.ensures.unchanged)
+returns-in_err-list-clause-spares g c told = spares_unchanged [] c.self.view_is c.take_by.new.self (c.in_err-list.ensures.error.unchanged ∙ c.reserve.ensures.unchanged)
 
 pub returns-in_err-write_taken-clause-spares : goal.returns-in_err-write_taken-clause-spares
 returns-in_err-write_taken-clause-spares g c told =
-    taken_written c.deref.result.now c.deref.ensures.value c.self.view_is (taken_reserved c.reserve.ensures.unchanged c.in_ok-list.ensures.taken)
+    taken_written c.deref.result.now c.deref.ensures.value c.self.view_is (taken_reserved c.reserve.ensures.unchanged c.in_ok-list.ensures.list.taken)
     c.reserve_sectors.new.self c.write_taken.new.sectors c.len.result c.reserve_sectors.ensures (c.write_taken.ensures.changes told)
 
 pub returns-clause-spares : goal.returns-clause-spares
 returns-clause-spares g c told =
-    taken_written c.deref.result.now c.deref.ensures.value c.self.view_is (taken_reserved c.reserve.ensures.unchanged c.in_ok-list.ensures.taken)
+    taken_written c.deref.result.now c.deref.ensures.value c.self.view_is (taken_reserved c.reserve.ensures.unchanged c.in_ok-list.ensures.list.taken)
     c.reserve_sectors.new.self c.write_taken.new.sectors c.len.result c.reserve_sectors.ensures (c.write_taken.ensures.changes told)

@@ -59,16 +59,16 @@ pub returns-then-count-eq0-clause-others : goal.returns-then-count-eq0-clause-ot
 returns-then-count-eq0-clause-others g c told = others_refl c.args.self.now
 
 pub returns-in_err-extend_listed-clause-others : goal.returns-in_err-extend_listed-clause-others
-returns-in_err-extend_listed-clause-others g c told = others_unchanged c.self.view_is c.extend_listed.new.self c.in_err-extend_listed.ensures.unchanged.0
+returns-in_err-extend_listed-clause-others g c told = others_unchanged c.self.view_is c.extend_listed.new.self c.in_err-extend_listed.ensures.extends.unchanged.0
 
 pub write_taken-requires-clause-placed : goal.write_taken-requires-clause-placed
 write_taken-requires-clause-placed g c =
-    placed_reserved (gained c.args.ids.now.items c.extend_listed.new.list.items) refl c.self.view_is c.in_ok-extend_listed.ensures.taken
+    placed_reserved (gained c.args.ids.now.items c.extend_listed.new.list.items) refl c.self.view_is c.in_ok-extend_listed.ensures.extends.taken
     c.reserve_sectors.new.self c.len.result c.reserve_sectors.ensures c.len.ensures.len c.self.invariant.0
 
 pub invariant_of-self-2 : goal.invariant_of-self-2
 invariant_of-self-2 g c = (
-  placed_written (gained c.args.ids.now.items c.extend_listed.new.list.items) refl c.self.view_is c.in_ok-extend_listed.ensures.taken
+  placed_written (gained c.args.ids.now.items c.extend_listed.new.list.items) refl c.self.view_is c.in_ok-extend_listed.ensures.extends.taken
       c.reserve_sectors.new.self c.write_taken.new.sectors c.len.result c.reserve_sectors.ensures c.write_taken.ensures.kept c.len.ensures.len c.self.invariant.0,
   tt,
 )
@@ -86,10 +86,10 @@ write_taken-requires-clause-touched g c =
     let n : c.len-len.result ≡ length ids = omega (arith, c.len-len.ensures, c.args.ids.now.ok.0) in
     let m : c.saturating_sub.result ≡ length ids - 1 = omega (arith, c.saturating_sub.ensures, n) in
     let ends : take (c.len-len.result - c.saturating_sub.result) (drop c.saturating_sub.result c.deref-2.result.now) ≡ ends_of ids =
-    shown_ends t0.fat ids c.deref-2.result.now (gained ids ids') c.len-len.result c.saturating_sub.result short ends0 (c.deref-2.ensures.value ∙ e.listed) n m in
+    shown_ends t0.fat ids c.deref-2.result.now (gained ids ids') c.len-len.result c.saturating_sub.result short ends0 (c.deref-2.ensures.value ∙ e.extends.listed) n m in
     let more : take (length c.deref-3.result.now - c.len-len.result) (drop c.len-len.result c.deref-3.result.now) ≡ gained ids ids' =
     shown_gained ids c.deref-3.result.now c.len-len.result n ∙ ap (gained ids) c.deref-3.ensures.value in
-    let taken = subst (λ (z : List ℕ). HasTaken t0 t z (gained ids ids')) (sym ends) e.taken in
+    let taken = subst (λ (z : List ℕ). HasTaken t0 t z (gained ids ids')) (sym ends) e.extends.taken in
     touched_below _ more c.self.view_is taken
 
 pub write_taken-requires-clause-more : goal.write_taken-requires-clause-more
@@ -105,10 +105,10 @@ write_taken-requires-clause-more g c =
     let n : c.len-len.result ≡ length ids = omega (arith, c.len-len.ensures, c.args.ids.now.ok.0) in
     let m : c.saturating_sub.result ≡ length ids - 1 = omega (arith, c.saturating_sub.ensures, n) in
     let ends : take (c.len-len.result - c.saturating_sub.result) (drop c.saturating_sub.result c.deref-2.result.now) ≡ ends_of ids =
-    shown_ends t0.fat ids c.deref-2.result.now (gained ids ids') c.len-len.result c.saturating_sub.result short ends0 (c.deref-2.ensures.value ∙ e.listed) n m in
+    shown_ends t0.fat ids c.deref-2.result.now (gained ids ids') c.len-len.result c.saturating_sub.result short ends0 (c.deref-2.ensures.value ∙ e.extends.listed) n m in
     let more : take (length c.deref-3.result.now - c.len-len.result) (drop c.len-len.result c.deref-3.result.now) ≡ gained ids ids' =
     shown_gained ids c.deref-3.result.now c.len-len.result n ∙ ap (gained ids) c.deref-3.ensures.value in
-    let taken = subst (λ (z : List ℕ). HasTaken t0 t z (gained ids ids')) (sym ends) e.taken in
+    let taken = subst (λ (z : List ℕ). HasTaken t0 t z (gained ids ids')) (sym ends) e.extends.taken in
     shown_below _ more c.self.view_is taken
 
 pub returns-clause-put : goal.returns-clause-put
@@ -124,10 +124,10 @@ returns-clause-put g c told validation h =
     let n : c.len-len.result ≡ length ids = omega (arith, c.len-len.ensures, c.args.ids.now.ok.0) in
     let m : c.saturating_sub.result ≡ length ids - 1 = omega (arith, c.saturating_sub.ensures, n) in
     let ends : take (c.len-len.result - c.saturating_sub.result) (drop c.saturating_sub.result c.deref-2.result.now) ≡ ends_of ids =
-    shown_ends t0.fat ids c.deref-2.result.now (gained ids ids') c.len-len.result c.saturating_sub.result short ends0 (c.deref-2.ensures.value ∙ e.listed) n m in
+    shown_ends t0.fat ids c.deref-2.result.now (gained ids ids') c.len-len.result c.saturating_sub.result short ends0 (c.deref-2.ensures.value ∙ e.extends.listed) n m in
     let more : take (length c.deref-3.result.now - c.len-len.result) (drop c.len-len.result c.deref-3.result.now) ≡ gained ids ids' =
     shown_gained ids c.deref-3.result.now c.len-len.result n ∙ ap (gained ids) c.deref-3.ensures.value in
-    let taken = subst (λ (z : List ℕ). HasTaken t0 t z (gained ids ids')) (sym ends) e.taken in
+    let taken = subst (λ (z : List ℕ). HasTaken t0 t z (gained ids ids')) (sym ends) e.extends.taken in
     let known = shown_taken _ more c.self.view_is taken in
     subst (λ (z : List ℕ). OnOk c.write_taken.result (AreFilledFrom t.version c.args.init c.args.from.now c.write_taken.new.sectors.bytes z)) more
     (c.write_taken.ensures.filled told known.once (fats_apart_shown _ more c.self.view_is taken validation h))
@@ -145,10 +145,10 @@ returns-clause-ordered g c told validation h =
     let n : c.len-len.result ≡ length ids = omega (arith, c.len-len.ensures, c.args.ids.now.ok.0) in
     let m : c.saturating_sub.result ≡ length ids - 1 = omega (arith, c.saturating_sub.ensures, n) in
     let ends : take (c.len-len.result - c.saturating_sub.result) (drop c.saturating_sub.result c.deref-2.result.now) ≡ ends_of ids =
-    shown_ends t0.fat ids c.deref-2.result.now (gained ids ids') c.len-len.result c.saturating_sub.result short ends0 (c.deref-2.ensures.value ∙ e.listed) n m in
+    shown_ends t0.fat ids c.deref-2.result.now (gained ids ids') c.len-len.result c.saturating_sub.result short ends0 (c.deref-2.ensures.value ∙ e.extends.listed) n m in
     let more : take (length c.deref-3.result.now - c.len-len.result) (drop c.len-len.result c.deref-3.result.now) ≡ gained ids ids' =
     shown_gained ids c.deref-3.result.now c.len-len.result n ∙ ap (gained ids) c.deref-3.ensures.value in
-    let taken = subst (λ (z : List ℕ). HasTaken t0 t z (gained ids ids')) (sym ends) e.taken in
+    let taken = subst (λ (z : List ℕ). HasTaken t0 t z (gained ids ids')) (sym ends) e.extends.taken in
     let known = shown_taken _ more c.self.view_is taken in
     if_err c.write_taken.result
     (λ (e : Error). λ either. elim either [
@@ -192,12 +192,12 @@ returns-clause-holds g c told validation h =
     let n : c.len-len.result ≡ length ids = omega (arith, c.len-len.ensures, c.args.ids.now.ok.0) in
     let m : c.saturating_sub.result ≡ length ids - 1 = omega (arith, c.saturating_sub.ensures, n) in
     let ends : take (c.len-len.result - c.saturating_sub.result) (drop c.saturating_sub.result c.deref-2.result.now) ≡ ends_of ids =
-    shown_ends t0.fat ids c.deref-2.result.now (gained ids ids') c.len-len.result c.saturating_sub.result short ends0 (c.deref-2.ensures.value ∙ e.listed) n m in
+    shown_ends t0.fat ids c.deref-2.result.now (gained ids ids') c.len-len.result c.saturating_sub.result short ends0 (c.deref-2.ensures.value ∙ e.extends.listed) n m in
     let more : take (length c.deref-3.result.now - c.len-len.result) (drop c.len-len.result c.deref-3.result.now) ≡ gained ids ids' =
     shown_gained ids c.deref-3.result.now c.len-len.result n ∙ ap (gained ids) c.deref-3.ensures.value in
-    let taken = subst (λ (z : List ℕ). HasTaken t0 t z (gained ids ids')) (sym ends) e.taken in
+    let taken = subst (λ (z : List ℕ). HasTaken t0 t z (gained ids ids')) (sym ends) e.extends.taken in
     let clean = clean_taken _ more c.self.view_is taken validation h (first_or_end (ends_of ids ++ gained ids ids'))
-    (subst (λ (z : List ℕ). IsChain t.fat (first_or_end (ends_of ids ++ gained ids ids')) (z ++ gained ids ids')) (sym ends) e.behind)
+    (subst (λ (z : List ℕ). IsChain t.fat (first_or_end (ends_of ids ++ gained ids ids')) (z ++ gained ids ids')) (sym ends) e.extends.behind)
     (subst (λ (z : List ℕ). length z ≤ 1) (sym ends) (ends_few ids)) in
     on_ok _ _ c.write_taken.result (λ b. record { holds = b; clean = clean })
     (c.write_taken.ensures.holds told validation t0 (shown_taken _ more c.self.view_is taken) clean
@@ -218,10 +218,10 @@ returns-clause-others g c told =
     let n : c.len-len.result ≡ length ids = omega (arith, c.len-len.ensures, c.args.ids.now.ok.0) in
     let m : c.saturating_sub.result ≡ length ids - 1 = omega (arith, c.saturating_sub.ensures, n) in
     let ends : take (c.len-len.result - c.saturating_sub.result) (drop c.saturating_sub.result c.deref-2.result.now) ≡ ends_of ids =
-    shown_ends t0.fat ids c.deref-2.result.now (gained ids ids') c.len-len.result c.saturating_sub.result short ends0 (c.deref-2.ensures.value ∙ e.listed) n m in
+    shown_ends t0.fat ids c.deref-2.result.now (gained ids ids') c.len-len.result c.saturating_sub.result short ends0 (c.deref-2.ensures.value ∙ e.extends.listed) n m in
     let more : take (length c.deref-3.result.now - c.len-len.result) (drop c.len-len.result c.deref-3.result.now) ≡ gained ids ids' =
     shown_gained ids c.deref-3.result.now c.len-len.result n ∙ ap (gained ids) c.deref-3.ensures.value in
-    let taken = subst (λ (z : List ℕ). HasTaken t0 t z (gained ids ids')) (sym ends) e.taken in
+    let taken = subst (λ (z : List ℕ). HasTaken t0 t z (gained ids ids')) (sym ends) e.extends.taken in
     others_written _ more c.self.view_is taken
     c.reserve_sectors.new.self c.write_taken.new.sectors c.len.result c.reserve_sectors.ensures (c.write_taken.ensures.changes told)
 
@@ -238,10 +238,10 @@ returns-clause-changes g c told =
     let n : c.len-len.result ≡ length ids = omega (arith, c.len-len.ensures, c.args.ids.now.ok.0) in
     let m : c.saturating_sub.result ≡ length ids - 1 = omega (arith, c.saturating_sub.ensures, n) in
     let ends : take (c.len-len.result - c.saturating_sub.result) (drop c.saturating_sub.result c.deref-2.result.now) ≡ ends_of ids =
-    shown_ends t0.fat ids c.deref-2.result.now (gained ids ids') c.len-len.result c.saturating_sub.result short ends0 (c.deref-2.ensures.value ∙ e.listed) n m in
+    shown_ends t0.fat ids c.deref-2.result.now (gained ids ids') c.len-len.result c.saturating_sub.result short ends0 (c.deref-2.ensures.value ∙ e.extends.listed) n m in
     let more : take (length c.deref-3.result.now - c.len-len.result) (drop c.len-len.result c.deref-3.result.now) ≡ gained ids ids' =
     shown_gained ids c.deref-3.result.now c.len-len.result n ∙ ap (gained ids) c.deref-3.ensures.value in
-    let taken = subst (λ (z : List ℕ). HasTaken t0 t z (gained ids ids')) (sym ends) e.taken in
+    let taken = subst (λ (z : List ℕ). HasTaken t0 t z (gained ids ids')) (sym ends) e.extends.taken in
     changes_written _ more c.self.view_is taken
     c.reserve_sectors.new.self c.write_taken.new.sectors c.len.result c.reserve_sectors.ensures (c.write_taken.ensures.changes told)
 
@@ -258,7 +258,7 @@ returns-then-count-eq0-clause-spares g c told = spares_refl (ends_of c.args.ids.
 
 pub returns-in_err-extend_listed-clause-spares : goal.returns-in_err-extend_listed-clause-spares
 returns-in_err-extend_listed-clause-spares g c told =
-    spares_unchanged (ends_of c.args.ids.now.items) c.self.view_is c.extend_listed.new.self c.in_err-extend_listed.ensures.unchanged.0
+    spares_unchanged (ends_of c.args.ids.now.items) c.self.view_is c.extend_listed.new.self c.in_err-extend_listed.ensures.extends.unchanged.0
 
 pub returns-clause-spares : goal.returns-clause-spares
 returns-clause-spares g c told =
@@ -273,9 +273,9 @@ returns-clause-spares g c told =
     let n : c.len-len.result ≡ length ids = omega (arith, c.len-len.ensures, c.args.ids.now.ok.0) in
     let m : c.saturating_sub.result ≡ length ids - 1 = omega (arith, c.saturating_sub.ensures, n) in
     let ends : take (c.len-len.result - c.saturating_sub.result) (drop c.saturating_sub.result c.deref-2.result.now) ≡ ends_of ids =
-    shown_ends t0.fat ids c.deref-2.result.now (gained ids ids') c.len-len.result c.saturating_sub.result short ends0 (c.deref-2.ensures.value ∙ e.listed) n m in
+    shown_ends t0.fat ids c.deref-2.result.now (gained ids ids') c.len-len.result c.saturating_sub.result short ends0 (c.deref-2.ensures.value ∙ e.extends.listed) n m in
     let more : take (length c.deref-3.result.now - c.len-len.result) (drop c.len-len.result c.deref-3.result.now) ≡ gained ids ids' =
     shown_gained ids c.deref-3.result.now c.len-len.result n ∙ ap (gained ids) c.deref-3.ensures.value in
-    let taken = subst (λ (z : List ℕ). HasTaken t0 t z (gained ids ids')) (sym ends) e.taken in
-    taken_written _ more c.self.view_is e.taken
+    let taken = subst (λ (z : List ℕ). HasTaken t0 t z (gained ids ids')) (sym ends) e.extends.taken in
+    taken_written _ more c.self.view_is e.extends.taken
     c.reserve_sectors.new.self c.write_taken.new.sectors c.len.result c.reserve_sectors.ensures (c.write_taken.ensures.changes told)

@@ -12,7 +12,7 @@ use Rattle.cfb_alloc.proofs.alloc.Allocator.free_behind.Goals as goal
 
 pub write_values-requires-clause-placed : goal.write_values-requires-clause-placed
 write_values-requires-clause-placed g c =
-    placed_changed c.self.inside.tables c.cut_listed.new.self c.cut_listed.ensures.rest c.cut_listed.ensures.cut.same_length c.self.inside.sectors c.self.inside.sectors
+    placed_changed c.self.inside.tables c.cut_listed.new.self c.cut_listed.ensures.cuts.rest c.cut_listed.ensures.cuts.cut.same_length c.self.inside.sectors c.self.inside.sectors
     refl refl c.self.invariant.0
 
 pub write_values-requires-clause-below : goal.write_values-requires-clause-below
@@ -21,12 +21,12 @@ write_values-requires-clause-below g c i m =
     let t0 = c.self.inside.tables in
     let chain = subst (λ (a : AllocatorState). IsChain a.tables.fat (first_or_end ids) ids) (sym c.self.view_is) c.requires.chain in
     let same = shown_cut t0.fat ids c.args.left c.saturating_sub.result chain c.requires.fewer c.saturating_sub.ensures in
-    cut_below t0 c.cut_listed.new.self c.cut_listed.ensures.rest ids c.args.left chain c.requires.fewer c.cut_listed.ensures.cut _ same i m
+    cut_below t0 c.cut_listed.new.self c.cut_listed.ensures.cuts.rest ids c.args.left chain c.requires.fewer c.cut_listed.ensures.cuts.cut _ same i m
 
 pub invariant_of-self : goal.invariant_of-self
 invariant_of-self g c =
     let kept = c.write_values.ensures.kept in (
-      placed_changed c.self.inside.tables c.cut_listed.new.self c.cut_listed.ensures.rest c.cut_listed.ensures.cut.same_length c.self.inside.sectors c.write_values.new.sectors
+      placed_changed c.self.inside.tables c.cut_listed.new.self c.cut_listed.ensures.cuts.rest c.cut_listed.ensures.cuts.cut.same_length c.self.inside.sectors c.write_values.new.sectors
           (ap (λ (f : SectorFile). f.version) kept) (ap (λ (f : SectorFile). f.num_sectors) kept) c.self.invariant.0,
       tt,
     )
@@ -42,10 +42,10 @@ returns-clause-holds g c told validation h unnamed =
     let e = c.cut_listed.ensures in
     let chain = subst (λ (a : AllocatorState). IsChain a.tables.fat (first_or_end ids) ids) back c.requires.chain in
     let same = shown_cut t0.fat ids left c.saturating_sub.result chain c.requires.fewer c.saturating_sub.ensures in
-    let clean = listed_cut_clean t0 t e.rest ids left chain c.requires.fewer e.cut
+    let clean = listed_cut_clean t0 t e.cuts.rest ids left chain c.requires.fewer e.cuts.cut
     (λ none. subst (λ (a : AllocatorState). IsUnnamed a.tables.fat (first_or_end ids)) back (unnamed none))
     (subst (λ (a : AllocatorState). IsClean a.tables.fat) back h.clean) in
-    let late = listed_cut_holds t0 t e.rest ids left chain c.requires.fewer e.cut _ same validation s0 clean
+    let late = listed_cut_holds t0 t e.cuts.rest ids left chain c.requires.fewer e.cuts.cut _ same validation s0 clean
     (subst (λ (a : AllocatorState). HoldsBut validation [] a.file a.tables) back h.holds) in
     on_ok (HoldsBut validation [] c.write_values.new.sectors t) (HoldsTables validation (record { file = c.write_values.new.sectors; tables = t })) c.write_values.result
     (λ b. record { holds = b; clean = clean })
@@ -60,5 +60,5 @@ returns-clause-spares g c told =
     let t = c.cut_listed.new.self in
     let e = c.cut_listed.ensures in
     let chain = subst (λ (a : AllocatorState). IsChain a.tables.fat (first_or_end ids) ids) (sym c.self.view_is) c.requires.chain in
-    listed_cut_spares t0 t e.rest ids c.args.left chain c.requires.fewer e.cut s1 c.self.view_is
-    (changes_said t0 t e.rest c.args.self.now s0 s1.bytes c.self.view_is c.self.invariant.0 (c.write_values.ensures.changes told))
+    listed_cut_spares t0 t e.cuts.rest ids c.args.left chain c.requires.fewer e.cuts.cut s1 c.self.view_is
+    (changes_said t0 t e.cuts.rest c.args.self.now s0 s1.bytes c.self.view_is c.self.invariant.0 (c.write_values.ensures.changes told))

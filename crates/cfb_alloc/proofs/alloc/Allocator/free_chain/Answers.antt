@@ -27,20 +27,20 @@ returns-in_err-freed-clause-changes g c told = nothing_said c.args.self.now c.se
 
 pub write_values-requires-clause-placed : goal.write_values-requires-clause-placed
 write_values-requires-clause-placed g c =
-    placed_changed c.self.inside.tables c.free.new.self c.free.ensures.rest c.in_ok-freed.ensures.freed.same_length c.self.inside.sectors c.self.inside.sectors
+    placed_changed c.self.inside.tables c.free.new.self c.free.ensures.frees.rest c.in_ok-freed.ensures.frees.freed.same_length c.self.inside.sectors c.self.inside.sectors
     refl refl c.self.invariant.0
 
 pub write_values-requires-clause-below : goal.write_values-requires-clause-below
 write_values-requires-clause-below g c i m =
     let e = c.in_ok-freed.ensures in
-    let busy = members-busy c.self.inside.tables.fat c.args.start c.in_ok-freed.freed.items e.ok i (subst (λ (xs : List ℕ). Contains xs i) c.deref.ensures.value m) in
+    let busy = members-busy c.self.inside.tables.fat c.args.start c.in_ok-freed.freed.items e.frees.listed i (subst (λ (xs : List ℕ). Contains xs i) c.deref.ensures.value m) in
     let lt = busy.1 in
-    omega (arith, lt, e.freed.same_length)
+    omega (arith, lt, e.frees.freed.same_length)
 
 pub invariant_of-self-2 : goal.invariant_of-self-2
 invariant_of-self-2 g c =
     let kept = c.write_values.ensures.kept in (
-      placed_changed c.self.inside.tables c.free.new.self c.free.ensures.rest c.in_ok-freed.ensures.freed.same_length c.self.inside.sectors c.write_values.new.sectors
+      placed_changed c.self.inside.tables c.free.new.self c.free.ensures.frees.rest c.in_ok-freed.ensures.frees.freed.same_length c.self.inside.sectors c.write_values.new.sectors
           (ap (λ (f : SectorFile). f.version) kept) (ap (λ (f : SectorFile). f.num_sectors) kept) c.self.invariant.0,
       tt,
     )
@@ -54,9 +54,9 @@ returns-clause-holds g c told validation h unnamed =
     let start = c.args.start in
     let list = c.in_ok-freed.freed.items in
     let e = c.in_ok-freed.ensures in
-    let clean = freed-clean t0.fat t.fat list start e.freed e.ok (subst (λ (a : AllocatorState). IsUnnamed a.tables.fat start) back unnamed)
+    let clean = freed-clean t0.fat t.fat list start e.frees.freed e.frees.listed (subst (λ (a : AllocatorState). IsUnnamed a.tables.fat start) back unnamed)
     (subst (λ (a : AllocatorState). IsClean a.tables.fat) back h.clean) in
-    let late = freed_holds t0 t c.free.ensures.rest list start e.ok e.freed validation s0 clean (subst (λ (a : AllocatorState). HoldsBut validation [] a.file a.tables) back h.holds) in
+    let late = freed_holds t0 t c.free.ensures.frees.rest list start e.frees.listed e.frees.freed validation s0 clean (subst (λ (a : AllocatorState). HoldsBut validation [] a.file a.tables) back h.holds) in
     on_ok (HoldsBut validation [] c.write_values.new.sectors t) (HoldsTables validation (record { file = c.write_values.new.sectors; tables = t })) c.write_values.result
     (λ b. record { holds = b; clean = clean })
     (c.write_values.ensures.ok told validation [] (subst (λ (xs : List ℕ). HoldsBut validation (xs ++ []) s0 t) (sym c.deref.ensures.value) late))
@@ -77,7 +77,7 @@ pub returns-in_err-clone-clause-spares : goal.returns-in_err-clone-clause-spares
 returns-in_err-clone-clause-spares g c told list chain = spares_unchanged list c.self.view_is c.self.inside.tables refl
 
 pub returns-in_err-freed-clause-spares : goal.returns-in_err-freed-clause-spares
-returns-in_err-freed-clause-spares g c told list chain = spares_unchanged list c.self.view_is c.free.new.self c.in_err-freed.ensures.unchanged
+returns-in_err-freed-clause-spares g c told list chain = spares_unchanged list c.self.view_is c.free.new.self c.in_err-freed.ensures.frees.unchanged
 
 pub returns-clause-spares : goal.returns-clause-spares
 returns-clause-spares g c told list chain =
@@ -86,7 +86,7 @@ returns-clause-spares g c told list chain =
     let t0 = c.self.inside.tables in
     let t = c.free.new.self in
     let e = c.in_ok-freed.ensures in
-    freed_written [] c.in_ok-freed.freed.items list c.args.start s2 c.self.view_is e.ok
+    freed_written [] c.in_ok-freed.freed.items list c.args.start s2 c.self.view_is e.frees.listed
     (subst (λ (a : AllocatorState). IsChain a.tables.fat c.args.start list) (sym c.self.view_is) chain)
-    (record { given = e.freed; rest = c.free.ensures.rest })
-    (changes_said t0 t c.free.ensures.rest c.args.self.now s0 s2.bytes c.self.view_is c.self.invariant.0 (c.write_values.ensures.changes told))
+    (record { given = e.frees.freed; rest = c.free.ensures.frees.rest })
+    (changes_said t0 t c.free.ensures.frees.rest c.args.self.now s0 s2.bytes c.self.view_is c.self.invariant.0 (c.write_values.ensures.changes told))
