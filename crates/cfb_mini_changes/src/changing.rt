@@ -1,6 +1,7 @@
 //! How mini chains become longer and shorter: what must be so, the MiniFAT in memory, the sectors that it lacks, and then what is written:
 //! zeros, words, and the root's entry (MS-CFB 2.4 and 2.6.2).
 ghost use Rattle.std.specs.Prelude.{◌≡◌, ◌≢◌, ◌↔◌, ◌⊎◌, ℕ, List, ◌+◌, ◌-◌, ◌*◌, ◌/◌, ◌<◌, ◌≤◌, ◌++◌, [], Some, length, nat_eq, take, drop, true, Contains, IsTrue, vec_len, vec_capacity, IfErr, OnOk};
+ghost use Rattle.cfb_mini_changes.specs.cfb_mini_table.Taking.{LengthensMiniList};
 ghost use Rattle.std.specs.List.{IsDistinct};
 ghost use Rattle.cfb_format.specs.declared.validate.Validation.{Validation};
 ghost use Rattle.cfb_format.specs.Bytes.{end_of_chain, max_regular_sector, sector_len, word_at, words_per_sector};
@@ -265,15 +266,7 @@ fn take_prepared<F: Medium, A: Heap>(
         * mini_sector_len ≤ length stream.now * sector_len directory.old.table.tables.version }
     requires minifat { AreSectorsOf directory.old.table.tables minifat_sectors.now }
     requires mini_stream { AreSectorsOf directory.old.table.tables stream.now }
-    ensures listed { ids.new.items ≡ ids.old.items ++ gained ids.old.items ids.new.items }
-    ensures count { length (gained ids.old.items ids.new.items) ≡ count }
-    ensures taken { TakesMini table.old.limit table.old.minifat table.new.minifat
-        (ends_of ids.old.items) (gained ids.old.items ids.new.items) }
-    ensures added { IsChain table.new.minifat (first_or_end (ends_of ids.old.items
-        ++ gained ids.old.items ids.new.items)) (ends_of ids.old.items
-        ++ gained ids.old.items ids.new.items) }
-    ensures chain { IsChain table.old.minifat (first_or_end ids.old.items) ids.old.items
-        → IsChain table.new.minifat (first_or_end ids.new.items) ids.new.items }
+        ensures extends { LengthensMiniList ids.old.items ids.new.items count table.old table.new }
     ensures rest { table.new ≡ record table.old { minifat = table.new.minifat } }
     ensures kept { (directory.new.sectors ≡ directory.old.sectors)
         × (directory.new.table.tables ≡ directory.old.table.tables) }

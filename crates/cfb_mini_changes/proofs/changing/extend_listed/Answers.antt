@@ -291,14 +291,14 @@ returns-clause-listed g c =
     let after = c.take_prepared.new.ids.items in
     let of = c.take_prepared.ensures in
     at-parts (λ (t : MiniTableState) (m s i : List ℕ). after ≡ i ++ gained i after) prepared (record table { room = prepared.room }) shown sectors1 shown_stream stream1 here ids
-    same c.deref-3.ensures.value c.deref-4.ensures.value same_ids (of.listed)
+    same c.deref-3.ensures.value c.deref-4.ensures.value same_ids (of.extends.listed)
 
 pub returns-clause-count : goal.returns-clause-count
 returns-clause-count g c =
     let same_ids = c.prepare_extension.ensures.ids in
     let after = c.take_prepared.new.ids.items in
     let of = c.take_prepared.ensures in
-    all_ok c.take_prepared.result (subst (λ (l : List ℕ). length (gained l after) ≡ c.args.count) same_ids of.count)
+    all_ok c.take_prepared.result (subst (λ (l : List ℕ). length (gained l after) ≡ c.args.count) same_ids of.extends.counted)
 
 pub returns-clause-taken : goal.returns-clause-taken
 returns-clause-taken g c =
@@ -316,7 +316,7 @@ returns-clause-taken g c =
     let after = c.take_prepared.new.ids.items in
     let of = c.take_prepared.ensures in
     all_ok c.take_prepared.result (at-parts (λ (t : MiniTableState) (m s i : List ℕ). TakesMini t.limit t.minifat taken.minifat (ends_of i) (gained i after)) prepared (record table { room = prepared.room }) shown sectors1 shown_stream stream1 here ids
-    same c.deref-3.ensures.value c.deref-4.ensures.value same_ids (of.taken))
+    same c.deref-3.ensures.value c.deref-4.ensures.value same_ids (of.extends.taken))
 
 pub returns-clause-added : goal.returns-clause-added
 returns-clause-added g c =
@@ -324,7 +324,7 @@ returns-clause-added g c =
     let taken = c.take_prepared.new.table in
     let after = c.take_prepared.new.ids.items in
     let of = c.take_prepared.ensures in
-    all_ok c.take_prepared.result (subst (λ (l : List ℕ). IsChain taken.minifat (first_or_end (ends_of l ++ gained l after)) (ends_of l ++ gained l after)) same_ids of.added)
+    all_ok c.take_prepared.result (subst (λ (l : List ℕ). IsChain taken.minifat (first_or_end (ends_of l ++ gained l after)) (ends_of l ++ gained l after)) same_ids of.extends.added)
 
 pub returns-clause-chain : goal.returns-clause-chain
 returns-clause-chain g c =
@@ -342,7 +342,7 @@ returns-clause-chain g c =
     let after = c.take_prepared.new.ids.items in
     let of = c.take_prepared.ensures in
     at-parts (λ (t : MiniTableState) (m s i : List ℕ). IsChain t.minifat (first_or_end i) i → IsChain taken.minifat (first_or_end after) after) prepared (record table { room = prepared.room }) shown sectors1 shown_stream stream1 here ids
-    same c.deref-3.ensures.value c.deref-4.ensures.value same_ids (of.chain)
+    same c.deref-3.ensures.value c.deref-4.ensures.value same_ids (of.extends.chain)
 
 pub returns-clause-grown : goal.returns-clause-grown
 returns-clause-grown g c =
@@ -482,8 +482,8 @@ returns-clause-room g c =
     let taken = c.take_prepared.new.table in
     let d = mini_of now taken sectors1 (Some stream1) in
     let of = c.take_prepared.ensures in
-    let len = of.taken.len in
-    let count = of.count in
+    let len = of.extends.taken.len in
+    let count = of.extends.counted in
     let minis = c.in_ok-grow_sectors.ensures.minis in
     let room : length taken.minifat * mini_sector_len ≤ length stream1 * sector_len grown.table.tables.version = omega (arith, len, count, minis) in
     all_ok c.take_prepared.result (λ m lt.
@@ -545,7 +545,7 @@ returns-clause-mini_spares g c told validation h =
     let first = subst (λ (t : MiniTableState). HoldsMini validation (mini_of directory t sectors (Some stream)) → SparesMini [] (mini_of directory t sectors (Some stream)) (mini_of grown t sectors1 (Some stream1))) same
     (c.grow_sectors.ensures.mini_spares told validation) h in
     let takes = at-parts (λ (t : MiniTableState) (m s i : List ℕ). TakesMini t.limit t.minifat taken.minifat (ends_of i) (gained i after)) prepared (record table { room = prepared.room }) shown sectors1 shown_stream stream1 here ids
-    same c.deref-3.ensures.value c.deref-4.ensures.value same_ids (of.taken) in
+    same c.deref-3.ensures.value c.deref-4.ensures.value same_ids (of.extends.taken) in
     let others = at-parts (λ (t : MiniTableState) (m s i : List ℕ). HoldsMiniBut [] validation (mini_of grown t m (Some s)) → (k : ℕ) → HasMiniSector (mini_of grown t m (Some s)) k → (Contains (gained i after) k → ⊥)
     → RangeStays (mini_place (mini_of grown t m (Some s)) k) (mini_place (mini_of grown t m (Some s)) k + mini_sector_len) (bytes_of (mini_of grown t m (Some s))) (bytes_of (mini_of now taken m (Some s)))) prepared (record table { room = prepared.room }) shown sectors1 shown_stream stream1 here ids
     same c.deref-3.ensures.value c.deref-4.ensures.value same_ids (of.other_minis told validation) held in
@@ -582,7 +582,7 @@ returns-clause-bytes g c told validation h m busy out =
     let first = subst (λ (t : MiniTableState). HoldsMini validation (mini_of directory t sectors (Some stream)) → SparesMini [] (mini_of directory t sectors (Some stream)) (mini_of grown t sectors1 (Some stream1))) same
     (c.grow_sectors.ensures.mini_spares told validation) h in
     let takes = at-parts (λ (t : MiniTableState) (m s i : List ℕ). TakesMini t.limit t.minifat taken.minifat (ends_of i) (gained i after)) prepared (record table { room = prepared.room }) shown sectors1 shown_stream stream1 here ids
-    same c.deref-3.ensures.value c.deref-4.ensures.value same_ids (of.taken) in
+    same c.deref-3.ensures.value c.deref-4.ensures.value same_ids (of.extends.taken) in
     let others = at-parts (λ (t : MiniTableState) (m s i : List ℕ). HoldsMiniBut [] validation (mini_of grown t m (Some s)) → (k : ℕ) → HasMiniSector (mini_of grown t m (Some s)) k → (Contains (gained i after) k → ⊥)
     → RangeStays (mini_place (mini_of grown t m (Some s)) k) (mini_place (mini_of grown t m (Some s)) k + mini_sector_len) (bytes_of (mini_of grown t m (Some s))) (bytes_of (mini_of now taken m (Some s)))) prepared (record table { room = prepared.room }) shown sectors1 shown_stream stream1 here ids
     same c.deref-3.ensures.value c.deref-4.ensures.value same_ids (of.other_minis told validation) held in

@@ -14,6 +14,7 @@ use Rattle.cfb_mini_changes.proofs.changing.take_prepared.Goals as goal
 use Rattle.cfb_mini_changes.proofs.cfb_tables.ListedLemmas.{rest-is}
 
 -- the words of those that were taken, and of the one before them, have their places
+
 pub settle-requires-clause-words : goal.settle-requires-clause-words
 settle-requires-clause-words g c m here =
     let ids = c.args.ids.now.items in
@@ -27,13 +28,13 @@ settle-requires-clause-words g c m here =
     let old = c.args.table.now.minifat in
     let new = c.extend_prepared.new.self.minifat in
     let in_part : Contains (drop (length ids - 1) ids') m = subst (λ (l : List ℕ). Contains l m) shown here in
-    let below : m < length new = taken-below c.args.table.now.limit old new (ends_of ids) (gained ids ids') e.taken m
-    (elim (last-or-gained ids ids' m e.listed in_part) [
+    let below : m < length new = taken-below c.args.table.now.limit old new (ends_of ids) (gained ids ids') e.extends.taken m
+    (elim (last-or-gained ids ids' m e.extends.listed in_part) [
       | inl last ↦ inl (ap (value old) last.1 ∙ c.requires.ended (let some = last.0 in omega (arith, some, c.args.ids.now.ok.0)))
       | inr more ↦ inr more
     ]) in
     word-known d.table.tables.version c.args.minifat_sectors.now (length d.table.tables.fat) (length new) m below
-    (taken-len c.args.table.now.limit old new (ends_of ids) (gained ids ids') e.taken c.args.count _ e.count c.requires.words) c.requires.minifat
+    (taken-len c.args.table.now.limit old new (ends_of ids) (gained ids ids') e.extends.taken c.args.count _ e.extends.counted c.requires.words) c.requires.minifat
 
 pub settle-requires-clause-minis : goal.settle-requires-clause-minis
 settle-requires-clause-minis g c m here =
@@ -48,9 +49,9 @@ settle-requires-clause-minis g c m here =
     let old = c.args.table.now.minifat in
     let new = c.extend_prepared.new.self.minifat in
     let more : Contains (gained ids ids') m = subst (λ (l : List ℕ). Contains l m) shown here in
-    let fits = taken-len c.args.table.now.limit old new (ends_of ids) (gained ids ids') e.taken c.args.count (length old + (c.args.count - free_count old)) e.count (omega arith) in
+    let fits = taken-len c.args.table.now.limit old new (ends_of ids) (gained ids ids') e.extends.taken c.args.count (length old + (c.args.count - free_count old)) e.extends.counted (omega arith) in
     let room = c.requires.minis in
-    mini-known d.table.tables.version c.args.stream.now (length d.table.tables.fat) (length new) m (e.taken.below m more)
+    mini-known d.table.tables.version c.args.stream.now (length d.table.tables.fat) (length new) m (e.extends.taken.below m more)
     (omega (arith, room, fits)) c.requires.mini_stream
 
 -- ---- what is written
@@ -67,7 +68,7 @@ returns-clause-limits g c =
       version = e.version;
       cases = e.cases;
       max_sectors = e.max_sectors;
-      max_mini_sectors = e.max_mini_sectors ∙ ap (λ (t : MiniTableState). t.limit) c.extend_prepared.ensures.rest;
+      max_mini_sectors = e.max_mini_sectors ∙ ap (λ (t : MiniTableState). t.limit) c.extend_prepared.ensures.kept.rest;
     }
 
 pub returns-clause-holds : goal.returns-clause-holds
@@ -87,15 +88,15 @@ returns-clause-holds g c told validation h =
     let new = c.extend_prepared.new.self.minifat in
     let v = d.table.tables.version in
     let covers : length new ≤ length sectors * words_per_sector v =
-    taken-len c.args.table.now.limit old new (ends_of ids) (gained ids ids') e.taken c.args.count (length sectors * words_per_sector v) e.count c.requires.words in
-    let fits = taken-len c.args.table.now.limit old new (ends_of ids) (gained ids ids') e.taken c.args.count (length old + (c.args.count - free_count old)) e.count (omega arith) in
+    taken-len c.args.table.now.limit old new (ends_of ids) (gained ids ids') e.extends.taken c.args.count (length sectors * words_per_sector v) e.extends.counted c.requires.words in
+    let fits = taken-len c.args.table.now.limit old new (ends_of ids) (gained ids ids') e.extends.taken c.args.count (length old + (c.args.count - free_count old)) e.extends.counted (omega arith) in
     let places = c.requires.minis in
     let room : length new * mini_sector_len ≤ length stream * sector_len v = omega (arith, places, fits) in
-    let late = taken-late validation s ids ids' new e.listed h e.taken e.added covers room in
-    let count = e.count in
+    let late = taken-late validation s ids ids' new e.extends.listed h e.extends.taken e.extends.added covers room in
+    let count = e.extends.counted in
     let some = c.requires.some in
-    c.settle.ensures.holds told validation (e.taken.trimmed (omega (arith, count, some)))
-    (subst (λ (t : MiniTableState). HoldsMiniBut (take (length list - k) (drop k list)) validation (mini_of d t sectors (Some stream))) (sym e.rest)
+    c.settle.ensures.holds told validation (e.extends.taken.trimmed (omega (arith, count, some)))
+    (subst (λ (t : MiniTableState). HoldsMiniBut (take (length list - k) (drop k list)) validation (mini_of d t sectors (Some stream))) (sym e.kept.rest)
     (subst (λ (l : List ℕ). HoldsMiniBut l validation (with_minifat s new)) (sym shown) late))
 
 pub returns-clause-filled : goal.returns-clause-filled
@@ -108,7 +109,7 @@ returns-clause-filled g c told validation h =
     let shown : take (length list - n) (drop n list) ≡ gained ids ids' = rest-is list n ∙ (λ i. drop (len i) (c.deref.ensures.value i)) in
     let d = c.args.directory.now in
     let old = c.args.table.now.minifat in
-    let here = subst (λ (t : MiniTableState). HoldsMiniBut [] validation (with_minifat (mini_of d t c.args.minifat_sectors.now (Some c.args.stream.now)) old)) (sym c.extend_prepared.ensures.rest) h in
+    let here = subst (λ (t : MiniTableState). HoldsMiniBut [] validation (with_minifat (mini_of d t c.args.minifat_sectors.now (Some c.args.stream.now)) old)) (sym c.extend_prepared.ensures.kept.rest) h in
     on_ok _ _ c.settle.result (λ zero m more. zero m (subst (λ (l : List ℕ). Contains l m) (sym shown) more)) (c.settle.ensures.zeros told validation [] old here)
 
 pub returns-clause-other_minis : goal.returns-clause-other_minis
@@ -121,6 +122,6 @@ returns-clause-other_minis g c told validation h m has out =
     let shown : take (length list - n) (drop n list) ≡ gained ids ids' = rest-is list n ∙ (λ i. drop (len i) (c.deref.ensures.value i)) in
     let d = c.args.directory.now in
     let old = c.args.table.now.minifat in
-    let here = subst (λ (t : MiniTableState). HoldsMiniBut [] validation (with_minifat (mini_of d t c.args.minifat_sectors.now (Some c.args.stream.now)) old)) (sym c.extend_prepared.ensures.rest) h in
+    let here = subst (λ (t : MiniTableState). HoldsMiniBut [] validation (with_minifat (mini_of d t c.args.minifat_sectors.now (Some c.args.stream.now)) old)) (sym c.extend_prepared.ensures.kept.rest) h in
     c.settle.ensures.other_minis told validation [] old here m (record { in_stream = has.in_stream; in_file = has.in_file })
     (λ more. out (subst (λ (l : List ℕ). Contains l m) shown more))
