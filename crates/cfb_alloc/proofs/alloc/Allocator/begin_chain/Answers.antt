@@ -1,4 +1,5 @@
-use Rattle.std.proofs.Common.{arith, sym, subst, refl, [], ◌∷◌}
+use Rattle.std.proofs.lemmas.Grind.{common_steps}
+use Rattle.std.proofs.Common.{arith, sym, subst, refl, [], ◌∷◌, rules}
 use Rattle.std.proofs.lemmas.Result.{err_from_is_err_and}
 use Rattle.cfb_alloc.specs.Alloc.{AllocatorState}
 use Rattle.cfb_tables.specs.Tables.{IsTooFew}
@@ -19,32 +20,44 @@ returns-in_err-sector-clause-err g c =
     let p = err_from_is_err_and c.from_residual-in_err-sector.result c.from_residual-in_err-sector.ensures.1 in
     rw (p.1, p.2) (refused_changed _ _ _ _ c.in_err-sector.field-0.0 (rw (← c.self.view_is) c.in_err-sector.ensures.error.err))
 
-pub write_taken-requires-clause-placed : goal.write_taken-requires-clause-placed
-write_taken-requires-clause-placed g c =
-    placed_reserved (c.in_ok-sector.sector ∷ []) refl c.self.view_is c.in_ok-sector.ensures.number.taken
-    c.reserve_sectors.new.self c.len.result c.reserve_sectors.ensures c.len.ensures.len c.self.invariant.0
+pub write_taken-requires-clause-tables : goal.write_taken-requires-clause-tables
+write_taken-requires-clause-tables g c = record {
+  placed = (
+      placed_reserved (c.in_ok-sector.sector ∷ []) refl c.self.view_is c.in_ok-sector.ensures.number.taken
+      c.reserve_sectors.new.self c.len.result c.reserve_sectors.ensures c.len.ensures.len c.self.invariant.0
+  );
+  covered = first_of (search rules, grind (arith, common_steps));
+}
 
-pub write_taken-requires-clause-places : goal.write_taken-requires-clause-places
-write_taken-requires-clause-places g c =
-    let e = c.in_ok-before.ensures in
-    places_known (c.in_ok-sector.sector ∷ []) refl c.self.view_is c.in_ok-sector.ensures.number.taken c.in_ok-before.before.fats c.in_ok-before.before.difats e.ok.0 e.ok.1 e.sizes
+pub write_taken-requires-clause-taken : goal.write_taken-requires-clause-taken
+write_taken-requires-clause-taken g c = record {
+  few = first_of (search rules, grind (arith, common_steps));
+  begun = first_of (search rules, grind (arith, common_steps));
+  places = (
+      let e = c.in_ok-before.ensures in
+      places_known (c.in_ok-sector.sector ∷ []) refl c.self.view_is c.in_ok-sector.ensures.number.taken c.in_ok-before.before.fats c.in_ok-before.before.difats e.ok.0 e.ok.1 e.sizes
+  );
+  counted = first_of (search rules, grind (arith, common_steps));
+  known = first_of (search rules, grind (arith, common_steps));
+  taken = first_of (search rules, grind (arith, common_steps));
+}
 
 pub invariant_of-self-in_err-write_taken : goal.invariant_of-self-in_err-write_taken
 invariant_of-self-in_err-write_taken g c = (
   placed_written (c.in_ok-sector.sector ∷ []) refl c.self.view_is c.in_ok-sector.ensures.number.taken
-      c.reserve_sectors.new.self c.write_taken.new.sectors c.len.result c.reserve_sectors.ensures c.write_taken.ensures.kept c.len.ensures.len c.self.invariant.0,
+      c.reserve_sectors.new.self c.write_taken.new.sectors c.len.result c.reserve_sectors.ensures c.write_taken.ensures.writes.kept c.len.ensures.len c.self.invariant.0,
   tt,
 )
 
 pub returns-in_err-write_taken-clause-others : goal.returns-in_err-write_taken-clause-others
 returns-in_err-write_taken-clause-others g c told =
     others_written (c.in_ok-sector.sector ∷ []) refl c.self.view_is c.in_ok-sector.ensures.number.taken
-    c.reserve_sectors.new.self c.write_taken.new.sectors c.len.result c.reserve_sectors.ensures (c.write_taken.ensures.changes told)
+    c.reserve_sectors.new.self c.write_taken.new.sectors c.len.result c.reserve_sectors.ensures (c.write_taken.ensures.writes.changes told)
 
 pub invariant_of-self-2 : goal.invariant_of-self-2
 invariant_of-self-2 g c = (
   placed_written (c.in_ok-sector.sector ∷ []) refl c.self.view_is c.in_ok-sector.ensures.number.taken
-      c.reserve_sectors.new.self c.write_taken.new.sectors c.len.result c.reserve_sectors.ensures c.write_taken.ensures.kept c.len.ensures.len c.self.invariant.0,
+      c.reserve_sectors.new.self c.write_taken.new.sectors c.len.result c.reserve_sectors.ensures c.write_taken.ensures.writes.kept c.len.ensures.len c.self.invariant.0,
   tt,
 )
 
@@ -73,7 +86,7 @@ returns-clause-holds g c told validation h =
 pub returns-clause-others : goal.returns-clause-others
 returns-clause-others g c told =
     others_written (c.in_ok-sector.sector ∷ []) refl c.self.view_is c.in_ok-sector.ensures.number.taken
-    c.reserve_sectors.new.self c.write_taken.new.sectors c.len.result c.reserve_sectors.ensures (c.write_taken.ensures.changes told)
+    c.reserve_sectors.new.self c.write_taken.new.sectors c.len.result c.reserve_sectors.ensures (c.write_taken.ensures.writes.changes told)
 
 pub returns-in_err-before-clause-spares : goal.returns-in_err-before-clause-spares
 returns-in_err-before-clause-spares g c told = spares_refl [] c.args.self.now
@@ -84,9 +97,9 @@ returns-in_err-sector-clause-spares g c told = spares_unchanged [] c.self.view_i
 pub returns-in_err-write_taken-clause-spares : goal.returns-in_err-write_taken-clause-spares
 returns-in_err-write_taken-clause-spares g c told =
     taken_written (c.in_ok-sector.sector ∷ []) refl c.self.view_is c.in_ok-sector.ensures.number.taken
-    c.reserve_sectors.new.self c.write_taken.new.sectors c.len.result c.reserve_sectors.ensures (c.write_taken.ensures.changes told)
+    c.reserve_sectors.new.self c.write_taken.new.sectors c.len.result c.reserve_sectors.ensures (c.write_taken.ensures.writes.changes told)
 
 pub returns-clause-spares : goal.returns-clause-spares
 returns-clause-spares g c told =
     taken_written (c.in_ok-sector.sector ∷ []) refl c.self.view_is c.in_ok-sector.ensures.number.taken
-    c.reserve_sectors.new.self c.write_taken.new.sectors c.len.result c.reserve_sectors.ensures (c.write_taken.ensures.changes told)
+    c.reserve_sectors.new.self c.write_taken.new.sectors c.len.result c.reserve_sectors.ensures (c.write_taken.ensures.writes.changes told)

@@ -47,30 +47,41 @@ returns-in_err-list-clause-err g c =
     let p = err_from_is_err_and c.from_residual-in_err-list.result c.from_residual-in_err-list.ensures.1 in
     rw (p.1, p.2) (refused_changed _ _ _ _ c.in_err-list.field-0.0 (rw (← c.self.view_is, ← c.reserve.ensures.unchanged) c.in_err-list.ensures.error.err))
 
-pub write_taken-requires-clause-placed : goal.write_taken-requires-clause-placed
-write_taken-requires-clause-placed g c =
-    placed_reserved c.deref.result.now c.deref.ensures.value c.self.view_is (taken_reserved c.reserve.ensures.unchanged c.in_ok-list.ensures.list.taken)
-    c.reserve_sectors.new.self c.len.result c.reserve_sectors.ensures c.len.ensures.len c.self.invariant.0
+pub write_taken-requires-clause-tables : goal.write_taken-requires-clause-tables
+write_taken-requires-clause-tables g c = record {
+  placed = (
+      placed_reserved c.deref.result.now c.deref.ensures.value c.self.view_is (taken_reserved c.reserve.ensures.unchanged c.in_ok-list.ensures.list.taken)
+      c.reserve_sectors.new.self c.len.result c.reserve_sectors.ensures c.len.ensures.len c.self.invariant.0
+  );
+  covered = first_of (search rules, grind (arith, common_steps));
+}
 
-pub write_taken-requires-clause-more : goal.write_taken-requires-clause-more
-write_taken-requires-clause-more g c = shown_below c.deref.result.now c.deref.ensures.value c.self.view_is (taken_reserved c.reserve.ensures.unchanged c.in_ok-list.ensures.list.taken)
+pub write_taken-requires-clause-taken : goal.write_taken-requires-clause-taken
+write_taken-requires-clause-taken g c = record {
+  few = first_of (search rules, grind (arith, common_steps));
+  begun = first_of (search rules, grind (arith, common_steps));
+  places = first_of (search rules, grind (arith, common_steps));
+  counted = first_of (search rules, grind (arith, common_steps));
+  known = first_of (search rules, grind (arith, common_steps));
+  taken = shown_below c.deref.result.now c.deref.ensures.value c.self.view_is (taken_reserved c.reserve.ensures.unchanged c.in_ok-list.ensures.list.taken);
+}
 
 pub invariant_of-self-in_err-write_taken : goal.invariant_of-self-in_err-write_taken
 invariant_of-self-in_err-write_taken g c = (
   placed_written c.deref.result.now c.deref.ensures.value c.self.view_is (taken_reserved c.reserve.ensures.unchanged c.in_ok-list.ensures.list.taken)
-      c.reserve_sectors.new.self c.write_taken.new.sectors c.len.result c.reserve_sectors.ensures c.write_taken.ensures.kept c.len.ensures.len c.self.invariant.0,
+      c.reserve_sectors.new.self c.write_taken.new.sectors c.len.result c.reserve_sectors.ensures c.write_taken.ensures.writes.kept c.len.ensures.len c.self.invariant.0,
   tt,
 )
 
 pub returns-in_err-write_taken-clause-others : goal.returns-in_err-write_taken-clause-others
 returns-in_err-write_taken-clause-others g c told =
     others_written c.deref.result.now c.deref.ensures.value c.self.view_is (taken_reserved c.reserve.ensures.unchanged c.in_ok-list.ensures.list.taken)
-    c.reserve_sectors.new.self c.write_taken.new.sectors c.len.result c.reserve_sectors.ensures (c.write_taken.ensures.changes told)
+    c.reserve_sectors.new.self c.write_taken.new.sectors c.len.result c.reserve_sectors.ensures (c.write_taken.ensures.writes.changes told)
 
 pub invariant_of-self-2 : goal.invariant_of-self-2
 invariant_of-self-2 g c = (
   placed_written c.deref.result.now c.deref.ensures.value c.self.view_is (taken_reserved c.reserve.ensures.unchanged c.in_ok-list.ensures.list.taken)
-      c.reserve_sectors.new.self c.write_taken.new.sectors c.len.result c.reserve_sectors.ensures c.write_taken.ensures.kept c.len.ensures.len c.self.invariant.0,
+      c.reserve_sectors.new.self c.write_taken.new.sectors c.len.result c.reserve_sectors.ensures c.write_taken.ensures.writes.kept c.len.ensures.len c.self.invariant.0,
   tt,
 )
 
@@ -100,7 +111,7 @@ returns-clause-holds g c told validation h =
 pub returns-clause-others : goal.returns-clause-others
 returns-clause-others g c told =
     others_written c.deref.result.now c.deref.ensures.value c.self.view_is (taken_reserved c.reserve.ensures.unchanged c.in_ok-list.ensures.list.taken)
-    c.reserve_sectors.new.self c.write_taken.new.sectors c.len.result c.reserve_sectors.ensures (c.write_taken.ensures.changes told)
+    c.reserve_sectors.new.self c.write_taken.new.sectors c.len.result c.reserve_sectors.ensures (c.write_taken.ensures.writes.changes told)
 
 pub returns-in_err-before-clause-spares : goal.returns-in_err-before-clause-spares
 returns-in_err-before-clause-spares g c told = spares_refl [] c.args.self.now
@@ -123,9 +134,9 @@ returns-in_err-list-clause-spares g c told = spares_unchanged [] c.self.view_is 
 pub returns-in_err-write_taken-clause-spares : goal.returns-in_err-write_taken-clause-spares
 returns-in_err-write_taken-clause-spares g c told =
     taken_written c.deref.result.now c.deref.ensures.value c.self.view_is (taken_reserved c.reserve.ensures.unchanged c.in_ok-list.ensures.list.taken)
-    c.reserve_sectors.new.self c.write_taken.new.sectors c.len.result c.reserve_sectors.ensures (c.write_taken.ensures.changes told)
+    c.reserve_sectors.new.self c.write_taken.new.sectors c.len.result c.reserve_sectors.ensures (c.write_taken.ensures.writes.changes told)
 
 pub returns-clause-spares : goal.returns-clause-spares
 returns-clause-spares g c told =
     taken_written c.deref.result.now c.deref.ensures.value c.self.view_is (taken_reserved c.reserve.ensures.unchanged c.in_ok-list.ensures.list.taken)
-    c.reserve_sectors.new.self c.write_taken.new.sectors c.len.result c.reserve_sectors.ensures (c.write_taken.ensures.changes told)
+    c.reserve_sectors.new.self c.write_taken.new.sectors c.len.result c.reserve_sectors.ensures (c.write_taken.ensures.writes.changes told)

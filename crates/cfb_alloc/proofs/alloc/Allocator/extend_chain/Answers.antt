@@ -1,4 +1,5 @@
-use Rattle.std.proofs.Common.{arith, sym, subst, refl, [], ◌∷◌}
+use Rattle.std.proofs.lemmas.Grind.{common_steps}
+use Rattle.std.proofs.Common.{arith, sym, subst, refl, [], ◌∷◌, rules}
 use Rattle.std.proofs.lemmas.Result.{err_from_is_err_and}
 use Rattle.cfb_format.specs.Chain.{IsChain}
 use Rattle.cfb_alloc.specs.Alloc.{AllocatorState}
@@ -37,22 +38,26 @@ returns-in_err-sector-clause-err g c =
     let p = err_from_is_err_and c.from_residual-in_err-sector.result c.from_residual-in_err-sector.ensures.1 in
     rw (p.1, p.2) (refused_changed _ _ _ _ c.in_err-sector.field-0.0 (rw (← c.self.view_is) c.in_err-sector.ensures.error.err))
 
-pub write_taken-requires-clause-placed : goal.write_taken-requires-clause-placed
-write_taken-requires-clause-placed g c =
-    placed_reserved (c.in_ok-sector.sector ∷ []) refl c.self.view_is c.in_ok-sector.ensures.number.taken
-    c.reserve_sectors.new.self c.len.result c.reserve_sectors.ensures c.len.ensures.len c.self.invariant.0
+pub write_taken-requires-clause-tables : goal.write_taken-requires-clause-tables
+write_taken-requires-clause-tables g c = record {
+  placed = (
+      placed_reserved (c.in_ok-sector.sector ∷ []) refl c.self.view_is c.in_ok-sector.ensures.number.taken
+      c.reserve_sectors.new.self c.len.result c.reserve_sectors.ensures c.len.ensures.len c.self.invariant.0
+  );
+  covered = first_of (search rules, grind (arith, common_steps));
+}
 
 pub invariant_of-self-in_err-write_taken : goal.invariant_of-self-in_err-write_taken
 invariant_of-self-in_err-write_taken g c = (
   placed_written (c.in_ok-sector.sector ∷ []) refl c.self.view_is c.in_ok-sector.ensures.number.taken
-      c.reserve_sectors.new.self c.write_taken.new.sectors c.len.result c.reserve_sectors.ensures c.write_taken.ensures.kept c.len.ensures.len c.self.invariant.0,
+      c.reserve_sectors.new.self c.write_taken.new.sectors c.len.result c.reserve_sectors.ensures c.write_taken.ensures.writes.kept c.len.ensures.len c.self.invariant.0,
   tt,
 )
 
 pub returns-in_err-write_taken-clause-others : goal.returns-in_err-write_taken-clause-others
 returns-in_err-write_taken-clause-others g c told =
     others_written (c.in_ok-sector.sector ∷ []) refl c.self.view_is c.in_ok-sector.ensures.number.taken
-    c.reserve_sectors.new.self c.write_taken.new.sectors c.len.result c.reserve_sectors.ensures (c.write_taken.ensures.changes told)
+    c.reserve_sectors.new.self c.write_taken.new.sectors c.len.result c.reserve_sectors.ensures (c.write_taken.ensures.writes.changes told)
 
 pub returns-in_err-write_taken-clause-refused : goal.returns-in_err-write_taken-clause-refused
 returns-in_err-write_taken-clause-refused g c =
@@ -60,7 +65,7 @@ returns-in_err-write_taken-clause-refused g c =
     let last = c.in_ok-last.last in
     let more = c.in_ok-sector.sector ∷ [] in
     let p = err_from_is_err_and c.from_residual-in_err-write_taken.result c.from_residual-in_err-write_taken.ensures.1 in
-    let e = c.in_err-write_taken.ensures.err in
+    let e = c.in_err-write_taken.ensures.writes.err in
     rw (p.1, p.2) (breaks_by_medium (ExtendsFrom c.args.start) c.args.self.now (record { file = c.write_taken.new.sectors; tables = c.attach.new.self }) c.in_err-write_taken.field-0.0 e.0 e.1 (
       more,
       subst (λ (a : AllocatorState). Extended a.tables c.attach.new.self c.args.start more) c.self.view_is
@@ -70,7 +75,7 @@ returns-in_err-write_taken-clause-refused g c =
 pub invariant_of-self-2 : goal.invariant_of-self-2
 invariant_of-self-2 g c = (
   placed_written (c.in_ok-sector.sector ∷ []) refl c.self.view_is c.in_ok-sector.ensures.number.taken
-      c.reserve_sectors.new.self c.write_taken.new.sectors c.len.result c.reserve_sectors.ensures c.write_taken.ensures.kept c.len.ensures.len c.self.invariant.0,
+      c.reserve_sectors.new.self c.write_taken.new.sectors c.len.result c.reserve_sectors.ensures c.write_taken.ensures.writes.kept c.len.ensures.len c.self.invariant.0,
   tt,
 )
 
@@ -103,7 +108,7 @@ returns-clause-holds g c told validation h =
 pub returns-clause-others : goal.returns-clause-others
 returns-clause-others g c told =
     others_written (c.in_ok-sector.sector ∷ []) refl c.self.view_is c.in_ok-sector.ensures.number.taken
-    c.reserve_sectors.new.self c.write_taken.new.sectors c.len.result c.reserve_sectors.ensures (c.write_taken.ensures.changes told)
+    c.reserve_sectors.new.self c.write_taken.new.sectors c.len.result c.reserve_sectors.ensures (c.write_taken.ensures.writes.changes told)
 
 pub returns-clause-enough : goal.returns-clause-enough
 returns-clause-enough g c few = c.in_ok-sector.ensures.error.enough (subst (λ (a : AllocatorState). IsTooFew a.tables 1) (sym c.self.view_is) few)
@@ -124,7 +129,7 @@ returns-in_err-write_taken-clause-spares g c told list chain =
     list
     (last_among c.self.inside.tables.fat c.args.start k.0 c.in_ok-last.last list k.1
     (subst (λ (a : AllocatorState). IsChain a.tables.fat c.args.start list) (sym c.self.view_is) chain))
-    c.reserve_sectors.new.self c.write_taken.new.sectors c.len.result c.reserve_sectors.ensures (c.write_taken.ensures.changes told)
+    c.reserve_sectors.new.self c.write_taken.new.sectors c.len.result c.reserve_sectors.ensures (c.write_taken.ensures.writes.changes told)
 
 pub returns-clause-spares : goal.returns-clause-spares
 returns-clause-spares g c told list chain =
@@ -133,4 +138,4 @@ returns-clause-spares g c told list chain =
     list
     (last_among c.self.inside.tables.fat c.args.start k.0 c.in_ok-last.last list k.1
     (subst (λ (a : AllocatorState). IsChain a.tables.fat c.args.start list) (sym c.self.view_is) chain))
-    c.reserve_sectors.new.self c.write_taken.new.sectors c.len.result c.reserve_sectors.ensures (c.write_taken.ensures.changes told)
+    c.reserve_sectors.new.self c.write_taken.new.sectors c.len.result c.reserve_sectors.ensures (c.write_taken.ensures.writes.changes told)

@@ -1,4 +1,5 @@
-use Rattle.std.proofs.Common.{refl, sym, inl, inr, ◌<◌, ◌*◌, length-drop, ◌∙◌, ap, subst, arith, ◌≡◌, ◌++◌, ◌-◌, ◌≤◌, ℕ, List, length, take, drop}
+use Rattle.std.proofs.lemmas.Grind.{common_steps}
+use Rattle.std.proofs.Common.{refl, sym, inl, inr, ◌<◌, ◌*◌, length-drop, ◌∙◌, ap, subst, arith, ◌≡◌, ◌++◌, ◌-◌, ◌≤◌, ℕ, List, length, take, drop, rules}
 use Rattle.std.specs.Prelude.{OnOk}
 use Rattle.cfb_format.specs.declared.error.Error.{Error}
 use Rattle.cfb_format.specs.Bytes.{max_regular_sector, sector_len}
@@ -61,55 +62,65 @@ returns-then-count-eq0-clause-others g c told = others_refl c.args.self.now
 pub returns-in_err-extend_listed-clause-others : goal.returns-in_err-extend_listed-clause-others
 returns-in_err-extend_listed-clause-others g c told = others_unchanged c.self.view_is c.extend_listed.new.self c.in_err-extend_listed.ensures.extends.unchanged.0
 
-pub write_taken-requires-clause-placed : goal.write_taken-requires-clause-placed
-write_taken-requires-clause-placed g c =
-    placed_reserved (gained c.args.ids.now.items c.extend_listed.new.list.items) refl c.self.view_is c.in_ok-extend_listed.ensures.extends.taken
-    c.reserve_sectors.new.self c.len.result c.reserve_sectors.ensures c.len.ensures.len c.self.invariant.0
+pub write_taken-requires-clause-tables : goal.write_taken-requires-clause-tables
+write_taken-requires-clause-tables g c = record {
+  placed = (
+      placed_reserved (gained c.args.ids.now.items c.extend_listed.new.list.items) refl c.self.view_is c.in_ok-extend_listed.ensures.extends.taken
+      c.reserve_sectors.new.self c.len.result c.reserve_sectors.ensures c.len.ensures.len c.self.invariant.0
+  );
+  covered = first_of (search rules, grind (arith, common_steps));
+}
 
 pub invariant_of-self-2 : goal.invariant_of-self-2
 invariant_of-self-2 g c = (
   placed_written (gained c.args.ids.now.items c.extend_listed.new.list.items) refl c.self.view_is c.in_ok-extend_listed.ensures.extends.taken
-      c.reserve_sectors.new.self c.write_taken.new.sectors c.len.result c.reserve_sectors.ensures c.write_taken.ensures.kept c.len.ensures.len c.self.invariant.0,
+      c.reserve_sectors.new.self c.write_taken.new.sectors c.len.result c.reserve_sectors.ensures c.write_taken.ensures.writes.kept c.len.ensures.len c.self.invariant.0,
   tt,
 )
 
-pub write_taken-requires-clause-touched : goal.write_taken-requires-clause-touched
-write_taken-requires-clause-touched g c =
-    let ids = c.args.ids.now.items in
-    let ids' = c.extend_listed.new.list.items in
-    let e = c.in_ok-extend_listed.ensures in
-    let t0 = c.self.inside.tables in
-    let t = c.extend_listed.new.self in
-    let short = subst (λ (a : AllocatorState). length a.tables.fat ≤ max_regular_sector) (sym c.self.view_is) c.in_ok-before.ensures.sizes.short in
-    let ended = subst (EndsChain c.args.self.now.tables.fat) c.deref.ensures.value c.in_ok-check_end.ensures.ends in
-    let ends0 = subst (λ (a : AllocatorState). EndsChain a.tables.fat ids) (sym c.self.view_is) ended in
-    let n : c.len-len.result ≡ length ids = omega (arith, c.len-len.ensures, c.args.ids.now.ok.0) in
-    let m : c.saturating_sub.result ≡ length ids - 1 = omega (arith, c.saturating_sub.ensures, n) in
-    let ends : take (c.len-len.result - c.saturating_sub.result) (drop c.saturating_sub.result c.deref-2.result.now) ≡ ends_of ids =
-    shown_ends t0.fat ids c.deref-2.result.now (gained ids ids') c.len-len.result c.saturating_sub.result short ends0 (c.deref-2.ensures.value ∙ e.extends.listed) n m in
-    let more : take (length c.deref-3.result.now - c.len-len.result) (drop c.len-len.result c.deref-3.result.now) ≡ gained ids ids' =
-    shown_gained ids c.deref-3.result.now c.len-len.result n ∙ ap (gained ids) c.deref-3.ensures.value in
-    let taken = subst (λ (z : List ℕ). HasTaken t0 t z (gained ids ids')) (sym ends) e.extends.taken in
-    touched_below _ more c.self.view_is taken
-
-pub write_taken-requires-clause-more : goal.write_taken-requires-clause-more
-write_taken-requires-clause-more g c =
-    let ids = c.args.ids.now.items in
-    let ids' = c.extend_listed.new.list.items in
-    let e = c.in_ok-extend_listed.ensures in
-    let t0 = c.self.inside.tables in
-    let t = c.extend_listed.new.self in
-    let short = subst (λ (a : AllocatorState). length a.tables.fat ≤ max_regular_sector) (sym c.self.view_is) c.in_ok-before.ensures.sizes.short in
-    let ended = subst (EndsChain c.args.self.now.tables.fat) c.deref.ensures.value c.in_ok-check_end.ensures.ends in
-    let ends0 = subst (λ (a : AllocatorState). EndsChain a.tables.fat ids) (sym c.self.view_is) ended in
-    let n : c.len-len.result ≡ length ids = omega (arith, c.len-len.ensures, c.args.ids.now.ok.0) in
-    let m : c.saturating_sub.result ≡ length ids - 1 = omega (arith, c.saturating_sub.ensures, n) in
-    let ends : take (c.len-len.result - c.saturating_sub.result) (drop c.saturating_sub.result c.deref-2.result.now) ≡ ends_of ids =
-    shown_ends t0.fat ids c.deref-2.result.now (gained ids ids') c.len-len.result c.saturating_sub.result short ends0 (c.deref-2.ensures.value ∙ e.extends.listed) n m in
-    let more : take (length c.deref-3.result.now - c.len-len.result) (drop c.len-len.result c.deref-3.result.now) ≡ gained ids ids' =
-    shown_gained ids c.deref-3.result.now c.len-len.result n ∙ ap (gained ids) c.deref-3.ensures.value in
-    let taken = subst (λ (z : List ℕ). HasTaken t0 t z (gained ids ids')) (sym ends) e.extends.taken in
-    shown_below _ more c.self.view_is taken
+pub write_taken-requires-clause-taken : goal.write_taken-requires-clause-taken
+write_taken-requires-clause-taken g c = record {
+  few = first_of (search rules, grind (arith, common_steps));
+  begun = first_of (search rules, grind (arith, common_steps));
+  places = first_of (search rules, grind (arith, common_steps));
+  counted = first_of (search rules, grind (arith, common_steps));
+  known = (
+      let ids = c.args.ids.now.items in
+      let ids' = c.extend_listed.new.list.items in
+      let e = c.in_ok-extend_listed.ensures in
+      let t0 = c.self.inside.tables in
+      let t = c.extend_listed.new.self in
+      let short = subst (λ (a : AllocatorState). length a.tables.fat ≤ max_regular_sector) (sym c.self.view_is) c.in_ok-before.ensures.sizes.short in
+      let ended = subst (EndsChain c.args.self.now.tables.fat) c.deref.ensures.value c.in_ok-check_end.ensures.ends in
+      let ends0 = subst (λ (a : AllocatorState). EndsChain a.tables.fat ids) (sym c.self.view_is) ended in
+      let n : c.len-len.result ≡ length ids = omega (arith, c.len-len.ensures, c.args.ids.now.ok.0) in
+      let m : c.saturating_sub.result ≡ length ids - 1 = omega (arith, c.saturating_sub.ensures, n) in
+      let ends : take (c.len-len.result - c.saturating_sub.result) (drop c.saturating_sub.result c.deref-2.result.now) ≡ ends_of ids =
+      shown_ends t0.fat ids c.deref-2.result.now (gained ids ids') c.len-len.result c.saturating_sub.result short ends0 (c.deref-2.ensures.value ∙ e.extends.listed) n m in
+      let more : take (length c.deref-3.result.now - c.len-len.result) (drop c.len-len.result c.deref-3.result.now) ≡ gained ids ids' =
+      shown_gained ids c.deref-3.result.now c.len-len.result n ∙ ap (gained ids) c.deref-3.ensures.value in
+      let taken = subst (λ (z : List ℕ). HasTaken t0 t z (gained ids ids')) (sym ends) e.extends.taken in
+      touched_below _ more c.self.view_is taken
+  );
+  taken = (
+      let ids = c.args.ids.now.items in
+      let ids' = c.extend_listed.new.list.items in
+      let e = c.in_ok-extend_listed.ensures in
+      let t0 = c.self.inside.tables in
+      let t = c.extend_listed.new.self in
+      let short = subst (λ (a : AllocatorState). length a.tables.fat ≤ max_regular_sector) (sym c.self.view_is) c.in_ok-before.ensures.sizes.short in
+      let ended = subst (EndsChain c.args.self.now.tables.fat) c.deref.ensures.value c.in_ok-check_end.ensures.ends in
+      let ends0 = subst (λ (a : AllocatorState). EndsChain a.tables.fat ids) (sym c.self.view_is) ended in
+      let n : c.len-len.result ≡ length ids = omega (arith, c.len-len.ensures, c.args.ids.now.ok.0) in
+      let m : c.saturating_sub.result ≡ length ids - 1 = omega (arith, c.saturating_sub.ensures, n) in
+      let ends : take (c.len-len.result - c.saturating_sub.result) (drop c.saturating_sub.result c.deref-2.result.now) ≡ ends_of ids =
+      shown_ends t0.fat ids c.deref-2.result.now (gained ids ids') c.len-len.result c.saturating_sub.result short ends0 (c.deref-2.ensures.value ∙ e.extends.listed) n m in
+      let more : take (length c.deref-3.result.now - c.len-len.result) (drop c.len-len.result c.deref-3.result.now) ≡ gained ids ids' =
+      shown_gained ids c.deref-3.result.now c.len-len.result n ∙ ap (gained ids) c.deref-3.ensures.value in
+      let taken = subst (λ (z : List ℕ). HasTaken t0 t z (gained ids ids')) (sym ends) e.extends.taken in
+      shown_below _ more c.self.view_is taken
+  );
+}
 
 pub returns-clause-put : goal.returns-clause-put
 returns-clause-put g c told validation h =
@@ -223,7 +234,7 @@ returns-clause-others g c told =
     shown_gained ids c.deref-3.result.now c.len-len.result n ∙ ap (gained ids) c.deref-3.ensures.value in
     let taken = subst (λ (z : List ℕ). HasTaken t0 t z (gained ids ids')) (sym ends) e.extends.taken in
     others_written _ more c.self.view_is taken
-    c.reserve_sectors.new.self c.write_taken.new.sectors c.len.result c.reserve_sectors.ensures (c.write_taken.ensures.changes told)
+    c.reserve_sectors.new.self c.write_taken.new.sectors c.len.result c.reserve_sectors.ensures (c.write_taken.ensures.writes.changes told)
 
 pub returns-clause-changes : goal.returns-clause-changes
 returns-clause-changes g c told =
@@ -243,12 +254,12 @@ returns-clause-changes g c told =
     shown_gained ids c.deref-3.result.now c.len-len.result n ∙ ap (gained ids) c.deref-3.ensures.value in
     let taken = subst (λ (z : List ℕ). HasTaken t0 t z (gained ids ids')) (sym ends) e.extends.taken in
     changes_written _ more c.self.view_is taken
-    c.reserve_sectors.new.self c.write_taken.new.sectors c.len.result c.reserve_sectors.ensures (c.write_taken.ensures.changes told)
+    c.reserve_sectors.new.self c.write_taken.new.sectors c.len.result c.reserve_sectors.ensures (c.write_taken.ensures.writes.changes told)
 
 pub returns-clause-counts : goal.returns-clause-counts
 returns-clause-counts g c told =
     let same = ap (λ (f : SectorFile). f.failures) c.reserve_sectors.ensures ∙ ap (λ (a : AllocatorState). a.file.failures) c.self.view_is in
-    subst (λ n. CountsFailure g.F.Medium.write_faults c.write_taken.result n c.write_taken.new.sectors.failures) same (c.write_taken.ensures.counts told)
+    subst (λ n. CountsFailure g.F.Medium.write_faults c.write_taken.result n c.write_taken.new.sectors.failures) same (c.write_taken.ensures.writes.counts told)
 
 pub returns-in_err-before-clause-spares : goal.returns-in_err-before-clause-spares
 returns-in_err-before-clause-spares g c told = spares_refl (ends_of c.args.ids.now.items) c.args.self.now
@@ -278,4 +289,4 @@ returns-clause-spares g c told =
     shown_gained ids c.deref-3.result.now c.len-len.result n ∙ ap (gained ids) c.deref-3.ensures.value in
     let taken = subst (λ (z : List ℕ). HasTaken t0 t z (gained ids ids')) (sym ends) e.extends.taken in
     taken_written _ more c.self.view_is e.extends.taken
-    c.reserve_sectors.new.self c.write_taken.new.sectors c.len.result c.reserve_sectors.ensures (c.write_taken.ensures.changes told)
+    c.reserve_sectors.new.self c.write_taken.new.sectors c.len.result c.reserve_sectors.ensures (c.write_taken.ensures.writes.changes told)

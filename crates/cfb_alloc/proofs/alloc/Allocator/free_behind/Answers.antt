@@ -1,4 +1,5 @@
-use Rattle.std.proofs.Common.{refl, ap, sym, subst, []}
+use Rattle.std.proofs.lemmas.Grind.{common_steps}
+use Rattle.std.proofs.Common.{refl, ap, sym, subst, [], rules, arith}
 use Rattle.cfb_format.specs.Chain.{IsChain}
 use Rattle.cfb_alloc.specs.Alloc.{AllocatorState, HoldsTables}
 use Rattle.cfb_table_words.specs.Holding.{HoldsBut}
@@ -10,10 +11,14 @@ use Rattle.cfb_alloc.proofs.FreeingLemmas.{changes_said, placed_changed}
 use Rattle.cfb_alloc.proofs.ListedLemmas.{shown_cut, cut_below, listed_cut_clean, listed_cut_holds, listed_cut_spares}
 use Rattle.cfb_alloc.proofs.alloc.Allocator.free_behind.Goals as goal
 
-pub write_values-requires-clause-placed : goal.write_values-requires-clause-placed
-write_values-requires-clause-placed g c =
-    placed_changed c.self.inside.tables c.cut_listed.new.self c.cut_listed.ensures.cuts.rest c.cut_listed.ensures.cuts.cut.same_length c.self.inside.sectors c.self.inside.sectors
-    refl refl c.self.invariant.0
+pub write_values-requires-clause-tables : goal.write_values-requires-clause-tables
+write_values-requires-clause-tables g c = record {
+  placed = (
+      placed_changed c.self.inside.tables c.cut_listed.new.self c.cut_listed.ensures.cuts.rest c.cut_listed.ensures.cuts.cut.same_length c.self.inside.sectors c.self.inside.sectors
+      refl refl c.self.invariant.0
+  );
+  covered = first_of (search rules, grind (arith, common_steps));
+}
 
 pub write_values-requires-clause-below : goal.write_values-requires-clause-below
 write_values-requires-clause-below g c i m =
@@ -25,7 +30,7 @@ write_values-requires-clause-below g c i m =
 
 pub invariant_of-self : goal.invariant_of-self
 invariant_of-self g c =
-    let kept = c.write_values.ensures.kept in (
+    let kept = c.write_values.ensures.writes.kept in (
       placed_changed c.self.inside.tables c.cut_listed.new.self c.cut_listed.ensures.cuts.rest c.cut_listed.ensures.cuts.cut.same_length c.self.inside.sectors c.write_values.new.sectors
           (ap (λ (f : SectorFile). f.version) kept) (ap (λ (f : SectorFile). f.num_sectors) kept) c.self.invariant.0,
       tt,
@@ -61,4 +66,4 @@ returns-clause-spares g c told =
     let e = c.cut_listed.ensures in
     let chain = subst (λ (a : AllocatorState). IsChain a.tables.fat (first_or_end ids) ids) (sym c.self.view_is) c.requires.chain in
     listed_cut_spares t0 t e.cuts.rest ids c.args.left chain c.requires.fewer e.cuts.cut s1 c.self.view_is
-    (changes_said t0 t e.cuts.rest c.args.self.now s0 s1.bytes c.self.view_is c.self.invariant.0 (c.write_values.ensures.changes told))
+    (changes_said t0 t e.cuts.rest c.args.self.now s0 s1.bytes c.self.view_is c.self.invariant.0 (c.write_values.ensures.writes.changes told))

@@ -1,4 +1,5 @@
-use Rattle.std.proofs.Common.{refl, arith, ap, sym, subst, [], ◌++◌, ℕ, List}
+use Rattle.std.proofs.lemmas.Grind.{common_steps}
+use Rattle.std.proofs.Common.{refl, arith, ap, sym, subst, [], ◌++◌, ℕ, List, rules}
 use Rattle.std.specs.Prelude.{Contains}
 use Rattle.cfb_format.specs.Chain.{IsChain}
 use Rattle.cfb_alloc.specs.Alloc.{AllocatorState, HoldsTables}
@@ -25,10 +26,14 @@ returns-in_err-clone-clause-changes g c told = nothing_said c.args.self.now c.se
 pub returns-in_err-freed-clause-changes : goal.returns-in_err-freed-clause-changes
 returns-in_err-freed-clause-changes g c told = nothing_said c.args.self.now c.self.inside.sectors c.self.inside.tables c.self.view_is
 
-pub write_values-requires-clause-placed : goal.write_values-requires-clause-placed
-write_values-requires-clause-placed g c =
-    placed_changed c.self.inside.tables c.free.new.self c.free.ensures.frees.rest c.in_ok-freed.ensures.frees.freed.same_length c.self.inside.sectors c.self.inside.sectors
-    refl refl c.self.invariant.0
+pub write_values-requires-clause-tables : goal.write_values-requires-clause-tables
+write_values-requires-clause-tables g c = record {
+  placed = (
+      placed_changed c.self.inside.tables c.free.new.self c.free.ensures.frees.rest c.in_ok-freed.ensures.frees.freed.same_length c.self.inside.sectors c.self.inside.sectors
+      refl refl c.self.invariant.0
+  );
+  covered = first_of (search rules, grind (arith, common_steps));
+}
 
 pub write_values-requires-clause-below : goal.write_values-requires-clause-below
 write_values-requires-clause-below g c i m =
@@ -39,7 +44,7 @@ write_values-requires-clause-below g c i m =
 
 pub invariant_of-self-2 : goal.invariant_of-self-2
 invariant_of-self-2 g c =
-    let kept = c.write_values.ensures.kept in (
+    let kept = c.write_values.ensures.writes.kept in (
       placed_changed c.self.inside.tables c.free.new.self c.free.ensures.frees.rest c.in_ok-freed.ensures.frees.freed.same_length c.self.inside.sectors c.write_values.new.sectors
           (ap (λ (f : SectorFile). f.version) kept) (ap (λ (f : SectorFile). f.num_sectors) kept) c.self.invariant.0,
       tt,
@@ -89,4 +94,4 @@ returns-clause-spares g c told list chain =
     freed_written [] c.in_ok-freed.freed.items list c.args.start s2 c.self.view_is e.frees.listed
     (subst (λ (a : AllocatorState). IsChain a.tables.fat c.args.start list) (sym c.self.view_is) chain)
     (record { given = e.frees.freed; rest = c.free.ensures.frees.rest })
-    (changes_said t0 t c.free.ensures.frees.rest c.args.self.now s0 s2.bytes c.self.view_is c.self.invariant.0 (c.write_values.ensures.changes told))
+    (changes_said t0 t c.free.ensures.frees.rest c.args.self.now s0 s2.bytes c.self.view_is c.self.invariant.0 (c.write_values.ensures.writes.changes told))

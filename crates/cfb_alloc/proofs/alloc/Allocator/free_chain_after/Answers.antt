@@ -1,4 +1,5 @@
-use Rattle.std.proofs.Common.{◌≡◌, refl, inr, arith, ap, ◌∙◌, sym, subst, [], ◌∷◌, ◌++◌, ℕ, List}
+use Rattle.std.proofs.lemmas.Grind.{common_steps}
+use Rattle.std.proofs.Common.{◌≡◌, refl, inr, arith, ap, ◌∙◌, sym, subst, [], ◌∷◌, ◌++◌, ℕ, List, rules}
 use Rattle.std.specs.Prelude.{Contains}
 use Rattle.std.proofs.lemmas.Result.{err_from_is_err_and}
 use Rattle.cfb_format.specs.declared.version.Version.{Version}
@@ -35,10 +36,14 @@ returns-in_err-clone-clause-changes g c told = nothing_said c.args.self.now c.se
 pub returns-in_err-freed-clause-changes : goal.returns-in_err-freed-clause-changes
 returns-in_err-freed-clause-changes g c told = nothing_said c.args.self.now c.self.inside.sectors c.self.inside.tables c.self.view_is
 
-pub write_values-requires-clause-placed : goal.write_values-requires-clause-placed
-write_values-requires-clause-placed g c =
-    placed_changed c.self.inside.tables c.free_after.new.self c.free_after.ensures.frees.rest c.in_ok-freed.ensures.frees.cut.same_length c.self.inside.sectors c.self.inside.sectors
-    refl refl c.self.invariant.0
+pub write_values-requires-clause-tables : goal.write_values-requires-clause-tables
+write_values-requires-clause-tables g c = record {
+  placed = (
+      placed_changed c.self.inside.tables c.free_after.new.self c.free_after.ensures.frees.rest c.in_ok-freed.ensures.frees.cut.same_length c.self.inside.sectors c.self.inside.sectors
+      refl refl c.self.invariant.0
+  );
+  covered = first_of (search rules, grind (arith, common_steps));
+}
 
 pub write_values-requires-clause-below : goal.write_values-requires-clause-below
 write_values-requires-clause-below g c i m =
@@ -50,7 +55,7 @@ write_values-requires-clause-below g c i m =
 
 pub invariant_of-self-in_err-write_values : goal.invariant_of-self-in_err-write_values
 invariant_of-self-in_err-write_values g c =
-    let kept = c.write_values.ensures.kept in (
+    let kept = c.write_values.ensures.writes.kept in (
       placed_changed c.self.inside.tables c.free_after.new.self c.free_after.ensures.frees.rest c.in_ok-freed.ensures.frees.cut.same_length c.self.inside.sectors c.write_values.new.sectors
           (ap (λ (f : SectorFile). f.version) kept) (ap (λ (f : SectorFile). f.num_sectors) kept) c.self.invariant.0,
       tt,
@@ -58,14 +63,14 @@ invariant_of-self-in_err-write_values g c =
 
 pub write_values-requires-2-clause-placed : goal.write_values-requires-2-clause-placed
 write_values-requires-2-clause-placed g c =
-    let kept = c.write_values.ensures.kept in
+    let kept = c.write_values.ensures.writes.kept in
     placed_changed c.self.inside.tables c.free_after.new.self c.free_after.ensures.frees.rest c.in_ok-freed.ensures.frees.cut.same_length c.self.inside.sectors c.write_values.new.sectors
     (ap (λ (f : SectorFile). f.version) kept) (ap (λ (f : SectorFile). f.num_sectors) kept) c.self.invariant.0
 
 pub invariant_of-self-2 : goal.invariant_of-self-2
 invariant_of-self-2 g c =
-    let one = c.write_values.ensures.kept in
-    let two = c.write_values-2.ensures.kept in (
+    let one = c.write_values.ensures.writes.kept in
+    let two = c.write_values-2.ensures.writes.kept in (
       placed_changed c.self.inside.tables c.free_after.new.self c.free_after.ensures.frees.rest c.in_ok-freed.ensures.frees.cut.same_length c.self.inside.sectors c.write_values-2.new.sectors
           (ap (λ (f : SectorFile). f.version) two ∙ ap (λ (f : SectorFile). f.version) one) (ap (λ (f : SectorFile). f.num_sectors) two ∙ ap (λ (f : SectorFile). f.num_sectors) one)
           c.self.invariant.0,
@@ -94,10 +99,10 @@ returns-clause-changes g c told =
     let s1 = c.write_values.new.sectors in
     let s2 = c.write_values-2.new.sectors in
     let t = c.free_after.new.self in
-    let second = subst (λ (v : Version). ChangesSectors t.fat_sectors v s1.bytes s2.bytes) (ap (λ (f : SectorFile). f.version) c.write_values.ensures.kept)
-    (c.write_values-2.ensures.changes told) in
+    let second = subst (λ (v : Version). ChangesSectors t.fat_sectors v s1.bytes s2.bytes) (ap (λ (f : SectorFile). f.version) c.write_values.ensures.writes.kept)
+    (c.write_values-2.ensures.writes.changes told) in
     changes_said c.self.inside.tables t c.free_after.ensures.frees.rest c.args.self.now s0 s2.bytes c.self.view_is c.self.invariant.0
-    (changes_trans t.fat_sectors s0.version s0.bytes s1.bytes s2.bytes (c.write_values.ensures.changes told) second)
+    (changes_trans t.fat_sectors s0.version s0.bytes s1.bytes s2.bytes (c.write_values.ensures.writes.changes told) second)
 
 -- the chain is cut in memory
 cuts : (x : ℕ) (a : AllocatorState) (file : SectorFile) (t0 t : TableState) (list : List ℕ) → record { file = file; tables = t0 } ≡ a → IsChain t0.fat (value t0.fat x) list
@@ -110,7 +115,7 @@ returns-in_err-write_values-clause-refused g c =
     let p = err_from_is_err_and c.from_residual-in_err-write_values.result c.from_residual-in_err-write_values.ensures.1 in
     let w = c.in_err-write_values.ensures in
     rw (p.1, p.2) (breaks_by_medium (GivesBackChain (c.args.sector ∷ []) (value c.args.self.now.tables.fat c.args.sector)) c.args.self.now (record { file = c.write_values.new.sectors; tables = c.free_after.new.self }) c.in_err-write_values.field-0.0
-    w.err w.begun (cuts c.args.sector c.args.self.now c.self.inside.sectors c.self.inside.tables c.free_after.new.self c.in_ok-freed.freed.items c.self.view_is e.frees.listed e.frees.cut c.free_after.ensures.frees.rest))
+    w.writes.err w.writes.begun (cuts c.args.sector c.args.self.now c.self.inside.sectors c.self.inside.tables c.free_after.new.self c.in_ok-freed.freed.items c.self.view_is e.frees.listed e.frees.cut c.free_after.ensures.frees.rest))
 
 pub returns-clause-cut : goal.returns-clause-cut
 returns-clause-cut g c =
@@ -121,7 +126,7 @@ pub returns-clause-refused : goal.returns-clause-refused
 returns-clause-refused g c =
     let e = c.in_ok-freed.ensures in
     breaks_back c.write_values-2.result (GivesBackChain (c.args.sector ∷ []) (value c.args.self.now.tables.fat c.args.sector)) c.args.self.now
-    (record { file = c.write_values-2.new.sectors; tables = c.free_after.new.self }) c.write_values-2.ensures.err c.write_values-2.ensures.begun
+    (record { file = c.write_values-2.new.sectors; tables = c.free_after.new.self }) c.write_values-2.ensures.writes.err c.write_values-2.ensures.writes.begun
     (cuts c.args.sector c.args.self.now c.self.inside.sectors c.self.inside.tables c.free_after.new.self c.in_ok-freed.freed.items c.self.view_is e.frees.listed e.frees.cut c.free_after.ensures.frees.rest)
 
 pub returns-in_err-usable_sizes-clause-spares : goal.returns-in_err-usable_sizes-clause-spares
@@ -147,7 +152,7 @@ returns-in_err-write_values-clause-spares g c told list chain =
     freed_written (x ∷ []) c.in_ok-freed.freed.items list (value t0.fat x) s1 c.self.view_is e.frees.listed
     (subst (λ (a : AllocatorState). IsChain a.tables.fat (value a.tables.fat x) list) (sym c.self.view_is) chain)
     (record { given = e.frees.cut; rest = c.free_after.ensures.frees.rest })
-    (changes_said t0 t c.free_after.ensures.frees.rest c.args.self.now s0 s1.bytes c.self.view_is c.self.invariant.0 (c.write_values.ensures.changes told))
+    (changes_said t0 t c.free_after.ensures.frees.rest c.args.self.now s0 s1.bytes c.self.view_is c.self.invariant.0 (c.write_values.ensures.writes.changes told))
 
 pub returns-clause-spares : goal.returns-clause-spares
 returns-clause-spares g c told list chain =
@@ -158,10 +163,10 @@ returns-clause-spares g c told list chain =
     let t0 = c.self.inside.tables in
     let t = c.free_after.new.self in
     let e = c.in_ok-freed.ensures in
-    let second = subst (λ (v : Version). ChangesSectors t.fat_sectors v s1.bytes s2.bytes) (ap (λ (f : SectorFile). f.version) c.write_values.ensures.kept)
-    (c.write_values-2.ensures.changes told) in
+    let second = subst (λ (v : Version). ChangesSectors t.fat_sectors v s1.bytes s2.bytes) (ap (λ (f : SectorFile). f.version) c.write_values.ensures.writes.kept)
+    (c.write_values-2.ensures.writes.changes told) in
     freed_written (x ∷ []) c.in_ok-freed.freed.items list (value t0.fat x) s2 c.self.view_is e.frees.listed
     (subst (λ (a : AllocatorState). IsChain a.tables.fat (value a.tables.fat x) list) (sym c.self.view_is) chain)
     (record { given = e.frees.cut; rest = c.free_after.ensures.frees.rest })
     (changes_said t0 t c.free_after.ensures.frees.rest c.args.self.now s0 s2.bytes c.self.view_is c.self.invariant.0
-    (changes_trans t.fat_sectors s0.version s0.bytes s1.bytes s2.bytes (c.write_values.ensures.changes told) second))
+    (changes_trans t.fat_sectors s0.version s0.bytes s1.bytes s2.bytes (c.write_values.ensures.writes.changes told) second))
