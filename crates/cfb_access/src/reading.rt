@@ -1,5 +1,6 @@
 //! The bytes of a stream where they stand, be the file sound or not.
 ghost use Rattle.std.specs.Prelude.{◌≡◌, ◌<◌, ◌≤◌, ◌+◌, ◌-◌, ◌⊎◌, ℕ, length, min, take, drop, slice_index, IsTrue, IfOk, IfErr, IsErrAnd, OnOk};
+ghost use Rattle.cfb_access.specs.cfb_alloc.Reading.{OnlyReadsFile};
 ghost use Rattle.cfb_format.specs.Medium.{part};
 ghost use Rattle.cfb_format.specs.Refused.{CountsFailure, IsInvalidData, IsMemory};
 ghost use Rattle.cfb_format.specs.Siblings.{entry_at};
@@ -85,11 +86,7 @@ fn read_along<F: ReadMedium, A: Heap + Clone>(
 ) -> Result<usize, Error>
     requires some { 0 < length into.old }
     requires inside { at + length into.old ≤ len }
-    ensures tables { allocator.new.tables ≡ allocator.old.tables }
-    ensures kept { allocator.new.file ≡ record allocator.old.file {
-      bytes = allocator.new.file.bytes;
-      failures = allocator.new.file.failures;
-    } }
+        ensures reads { OnlyReadsFile F.tells F.read_faults allocator.old allocator.new result }
     ensures count { IfOk result (λ n. (0 < n) × (n ≤ length into.old)) }
     ensures there { IfOk result (λ n. (k : ℕ) → k < at + n → IsThereAlong allocator.old start k) }
     ensures ok { IsTrue F.tells → IfOk result (λ n. (j : ℕ) → j < n
@@ -100,10 +97,6 @@ fn read_along<F: ReadMedium, A: Heap + Clone>(
         (ChangeRefused (IsCutBy (IsThereAlong allocator.old start) at) Unit ⊥ Unit) }
     ensures cut { IsCutBy (IsThereAlong allocator.old start) at
         → IsErrAnd result (λ e. IsInvalidData e ⊎ IsMemory e) }
-    ensures same { IsTrue F.tells → OnOk result (allocator.new ≡ allocator.old) }
-    ensures bytes { IsTrue F.tells → allocator.new.file.bytes ≡ allocator.old.file.bytes }
-    ensures counts { IsTrue F.tells → CountsFailure F.read_faults result
-        allocator.old.file.failures allocator.new.file.failures }
 {
     let ids = allocator.open_chain(start)?;
     let there = there_in_chain(allocator, &ids, len);

@@ -1,5 +1,7 @@
 //! A chain of sectors as one list of bytes with a position (MS-CFB 2.3).
 ghost use Rattle.std.specs.Prelude.{◌≡◌, ◌≢◌, ℕ, List, [], ◌∷◌, ◌++◌, ◌+◌, ◌-◌, ◌*◌, ◌/◌, ◌%◌, ◌<◌, ◌≤◌, max, min, length, replicate, true, take, drop, slice_index, ◌⊎◌, Contains, Some, IsTrue, IfOk, IfErr, IsErrAnd, OnOk, OnErr, MatchResult, vec_len};
+ghost use Rattle.cfb_chains.specs.cfb_alloc.Taking.{TakesSectors};
+ghost use Rattle.cfb_chains.specs.cfb_alloc.Reading.{OnlyReadsFile};
 ghost use Rattle.cfb_format.specs.declared.validate.Validation.{Validation};
 ghost use Rattle.cfb_format.specs.Bytes.{sector_len, sector_start, max_regular_sector, end_of_chain, free_sector};
 ghost use Rattle.cfb_format.specs.Chain.{IsChain, chain_from, value};
@@ -168,11 +170,8 @@ impl<'a, F: ReadMedium, A: Heap> Chain<'a, F, A> {
     pub fn read(&mut self, into: &mut [u8]) -> Result<usize, Error>
         ensures same_allocator { (allocator_of self.new).ghost_name
             ≡ (allocator_of self.old).ghost_name }
-        ensures tables { (allocator_of self.new).now.tables ≡ (allocator_of self.old).now.tables }
-        ensures kept { (allocator_of self.new).now.file ≡ record (allocator_of self.old).now.file {
-          bytes = (allocator_of self.new).now.file.bytes;
-          failures = (allocator_of self.new).now.file.failures;
-        } }
+        ensures reads { OnlyReadsFile F.tells F.read_faults (allocator_of self.old).now
+            (allocator_of self.new).now result }
         ensures chain { (ids_of self.new ≡ ids_of self.old) × (start_sector_of self.new
             ≡ start_sector_of self.old) × (init_of self.new ≡ init_of self.old) }
         ensures count { IfOk result (λ n. n ≤ min (length into.old) (left_of self.old)) }
@@ -193,12 +192,6 @@ impl<'a, F: ReadMedium, A: Heap> Chain<'a, F, A> {
         ensures there { min (length into.old) (left_of self.old) ≡ 0 → OnErr result ⊥ }
         ensures err { place_of self.old < (allocator_of self.old).now.file.len
             → IfErr result IsMediumError }
-        ensures same { IsTrue F.tells
-            → OnOk result ((allocator_of self.new).now ≡ (allocator_of self.old).now) }
-        ensures bytes { IsTrue F.tells
-            → (allocator_of self.new).now.file.bytes ≡ (allocator_of self.old).now.file.bytes }
-        ensures counts { IsTrue F.tells → CountsFailure F.read_faults result
-            (allocator_of self.old).now.file.failures (allocator_of self.new).now.file.failures }
     {
         let room = (into.len() as u64).min(self.left());
         if room == 0 {
@@ -600,16 +593,12 @@ impl<'a, F: Medium, A: Heap + Clone> Chain<'a, F, A> {
             → HoldsTables validation (allocator_of self.old).now → OnOk result ((i : ℕ)
             → Contains (gained (ids_of self.old) (ids_of self.new)) i → IsAsFilled
             (version_of self.new) (init_of self.old) (allocator_of self.new).now.file.bytes i) }
-        ensures holds { IsTrue F.tells
-            → (validation : Validation) → HoldsTables validation (allocator_of self.old).now
-            → OnOk result (HoldsTables validation (allocator_of self.new).now) }
+        ensures takes { TakesSectors F.tells F.write_faults count (allocator_of self.old).now
+            (allocator_of self.new).now result }
         ensures content { IsTrue F.tells
             → (validation : Validation) → HoldsTables validation (allocator_of self.old).now
             → HasAllSectors self.old → OnOk result (HasBytes self.new (content_of self.old
             ++ copies count (init_bytes (version_of self.old) (init_of self.old)))) }
-        ensures others { IsTrue F.tells
-            → OthersStay (allocator_of self.old).now (allocator_of self.new).now }
-        ensures enough { OnOk result (IsTooFew (allocator_of self.old).now.tables count → ⊥) }
         ensures refused { IfErr result (ListBreaksOff (Lengthens count) (ids_of self.old)
             (ids_of self.new) (allocator_of self.old).now (allocator_of self.new).now) }
         ensures spares { IsTrue F.tells
@@ -617,10 +606,6 @@ impl<'a, F: Medium, A: Heap + Clone> Chain<'a, F, A> {
         ensures err { IfErr result (ChangeRefused (IsUsable (allocator_of self.old).now.tables
             → ⊥) (IsTooFew (allocator_of self.old).now.tables count
             → ⊥) (IsTooFew (allocator_of self.old).now.tables count) Unit) }
-        ensures begun { OnOk result (IsRaised (0
-            < count) (allocator_of self.old).now.file (allocator_of self.new).now.file) }
-        ensures counts { IsTrue F.tells → CountsFailure F.write_faults result
-            (allocator_of self.old).now.file.failures (allocator_of self.new).now.file.failures }
     {
         self.grow_from(count, &[])
     }
@@ -651,12 +636,8 @@ impl<'a, F: Medium, A: Heap + Clone> Chain<'a, F, A> {
             (allocator_of self.new).now.file.bytes (gained (ids_of self.old) (ids_of self.new))
             ⊎ KeepsSectors (version_of self.old) (allocator_of self.old).now.tables.fat_sectors
             (allocator_of self.old).now.file.bytes (allocator_of self.new).now.file.bytes) }
-        ensures holds { IsTrue F.tells
-            → (validation : Validation) → HoldsTables validation (allocator_of self.old).now
-            → OnOk result (HoldsTables validation (allocator_of self.new).now) }
-        ensures others { IsTrue F.tells
-            → OthersStay (allocator_of self.old).now (allocator_of self.new).now }
-        ensures enough { OnOk result (IsTooFew (allocator_of self.old).now.tables count → ⊥) }
+        ensures takes { TakesSectors F.tells F.write_faults count (allocator_of self.old).now
+            (allocator_of self.new).now result }
         ensures refused { IfErr result (ListBreaksOff (Lengthens count) (ids_of self.old)
             (ids_of self.new) (allocator_of self.old).now (allocator_of self.new).now) }
         ensures spares { IsTrue F.tells
@@ -664,10 +645,6 @@ impl<'a, F: Medium, A: Heap + Clone> Chain<'a, F, A> {
         ensures err { IfErr result (ChangeRefused (IsUsable (allocator_of self.old).now.tables
             → ⊥) (IsTooFew (allocator_of self.old).now.tables count
             → ⊥) (IsTooFew (allocator_of self.old).now.tables count) Unit) }
-        ensures begun { OnOk result (IsRaised (0
-            < count) (allocator_of self.old).now.file (allocator_of self.new).now.file) }
-        ensures counts { IsTrue F.tells → CountsFailure F.write_faults result
-            (allocator_of self.old).now.file.failures (allocator_of self.new).now.file.failures }
     {
         extend_list(
             self.allocator,
@@ -766,19 +743,13 @@ fn extend_list<F: Medium, A: Heap + Clone>(
         init from.now allocator.new.file.bytes (gained ids.old.items ids.new.items)
         ⊎ KeepsSectors allocator.old.tables.version
         allocator.old.tables.fat_sectors allocator.old.file.bytes allocator.new.file.bytes) }
-    ensures holds { IsTrue F.tells
-        → (validation : Validation) → HoldsTables validation allocator.old
-        → OnOk result (HoldsTables validation allocator.new) }
-    ensures others { IsTrue F.tells → OthersStay allocator.old allocator.new }
+        ensures takes { TakesSectors F.tells F.write_faults count allocator.old allocator.new result
+            }
     ensures spares { IsTrue F.tells → Spares ids.old.items allocator.old allocator.new }
-    ensures enough { OnOk result (IsTooFew allocator.old.tables count → ⊥) }
     ensures refused { IfErr result
         (ListBreaksOff (Lengthens count) ids.old.items ids.new.items allocator.old allocator.new) }
     ensures err { IfErr result (ChangeRefused (IsUsable allocator.old.tables
         → ⊥) (IsTooFew allocator.old.tables count → ⊥) (IsTooFew allocator.old.tables count) Unit) }
-    ensures begun { OnOk result (IsRaised (0 < count) allocator.old.file allocator.new.file) }
-    ensures counts { IsTrue F.tells → CountsFailure
-        F.write_faults result allocator.old.file.failures allocator.new.file.failures }
 {
     let extended = allocator.extend_listed_from(ids, count, init, from);
     *start = first_number(ids);

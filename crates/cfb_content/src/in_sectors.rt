@@ -1,5 +1,6 @@
 //! Contents that lie in sectors (MS-CFB 2.3), by the list of a chain's sectors.
 ghost use Rattle.std.specs.Prelude.{◌≡◌, ℕ, ◌+◌, ◌-◌, ◌*◌, ◌/◌, ◌^◌, ◌<◌, ◌≤◌, ◌⊎◌, List, length, max, min, take, drop, replicate, false, true, nat_eq, slice_index, IsTrue, IfOk, IfErr, OnOk, OnErr};
+ghost use Rattle.cfb_content.specs.cfb_alloc.Reading.{OnlyReadsFile};
 ghost use Rattle.std.specs.List.{IsDistinct};
 ghost use Rattle.cfb_format.specs.declared.validate.Validation.{Validation};
 ghost use Rattle.cfb_format.specs.Bytes.{max_regular_sector, sector_len, sector_start};
@@ -132,20 +133,12 @@ pub fn fill_from_sectors<F: ReadMedium, A: Heap>(
     requires bounded { at + length into.old < 2 ^ 64 }
     requires there { (k : ℕ) → k < length into.old
         → IsThereInSectors allocator.old.tables.version ids.now allocator.old.file.len (at + k) }
-    ensures tables { allocator.new.tables ≡ allocator.old.tables }
-    ensures kept { allocator.new.file ≡ record allocator.old.file {
-      bytes = allocator.new.file.bytes;
-      failures = allocator.new.file.failures;
-    } }
+        ensures reads { OnlyReadsFile F.tells F.read_faults allocator.old allocator.new result }
     ensures got { IsTrue F.tells → OnOk result ((k : ℕ) → k < length into.new
         → slice_index into.new k ≡ slice_index allocator.old.file.bytes
         (place_along allocator.old.tables.version ids.now (at + k))) }
     ensures len { length into.new ≡ length into.old }
     ensures err { IfErr result IsMediumError }
-    ensures same { IsTrue F.tells → OnOk result (allocator.new ≡ allocator.old) }
-    ensures bytes { IsTrue F.tells → allocator.new.file.bytes ≡ allocator.old.file.bytes }
-    ensures counts { IsTrue F.tells → CountsFailure F.read_faults result
-        allocator.old.file.failures allocator.new.file.failures }
 {
     read_along(allocator, ids, at, into)
 }
@@ -158,20 +151,12 @@ pub fn get_from_sectors<F: ReadMedium, A: Heap>(
 ) -> Result<(), Error>
     requires there { (k : ℕ) → k < length into.old
         → IsThereInSectors allocator.old.tables.version ids.now allocator.old.file.len k }
-    ensures tables { allocator.new.tables ≡ allocator.old.tables }
-    ensures kept { allocator.new.file ≡ record allocator.old.file {
-      bytes = allocator.new.file.bytes;
-      failures = allocator.new.file.failures;
-    } }
+        ensures reads { OnlyReadsFile F.tells F.read_faults allocator.old allocator.new result }
     ensures got { IsTrue F.tells → OnOk result ((k : ℕ) → k < length into.new
         → slice_index into.new k ≡ slice_index allocator.old.file.bytes
         (place_along allocator.old.tables.version ids.now k)) }
     ensures len { length into.new ≡ length into.old }
     ensures err { IfErr result IsMediumError }
-    ensures same { IsTrue F.tells → OnOk result (allocator.new ≡ allocator.old) }
-    ensures bytes { IsTrue F.tells → allocator.new.file.bytes ≡ allocator.old.file.bytes }
-    ensures counts { IsTrue F.tells → CountsFailure F.read_faults result
-        allocator.old.file.failures allocator.new.file.failures }
 {
     fill_from_sectors(allocator, ids, 0, into)
 }

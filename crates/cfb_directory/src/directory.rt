@@ -1,5 +1,8 @@
 //! The directory of a file (MS-CFB 2.6): its entries in memory, and each change of them written into the slots of its sectors.
 ghost use Rattle.std.specs.Prelude.{◌≡◌, ◌≢◌, ◌↔◌, ◌⊎◌, ℕ, ◌*◌, ◌%◌, ◌<◌, ◌≤◌, ◌∷◌, List, [], length, map, min, chars, true, false, Contains, IsTrue, MatchOption, vec_len, IfOk, IfErr, IfSome, OnOk};
+ghost use Rattle.cfb_alloc.specs.Writing.{FlushesFile};
+ghost use Rattle.cfb_alloc.specs.Freeing.{FreesTheChain};
+ghost use Rattle.cfb_alloc.specs.Taking.{TakesOneSector, BeginsChain, ExtendsChain};
 ghost use Rattle.cfb_directory.specs.cfb_tables.Taking.{TakesNumber};
 ghost use Rattle.cfb_format.specs.declared.objtype.ObjType.TheVariants.{Root};
 ghost use Rattle.cfb_directory.specs.Growing.{ArePlaced};
@@ -562,39 +565,17 @@ impl<F: Medium, A: Heap> Directory<F, A> {
         ensures filled { IsTrue F.tells
             → (validation : Validation) → HoldsTables validation self.old.table → IfOk result (λ x.
             IsAsFilled (directory_version self.new) init (directory_bytes self.new) x) }
-        ensures holds { IsTrue F.tells
-            → (validation : Validation) → HoldsTables validation self.old.table
-            → OnOk result (HoldsTables validation self.new.table) }
-        ensures others { IsTrue F.tells → OthersStay self.old.table self.new.table }
-        ensures spares { IsTrue F.tells → Spares [] self.old.table self.new.table }
+        ensures takes { TakesOneSector F.tells F.write_faults self.old.table self.new.table result }
+        ensures begins { BeginsChain F.tells self.old.table self.new.table result }
         ensures rest { self.new ≡ record self.old { table = self.new.table } }
-        ensures enough { OnOk result (IsTooFew (directory_tables self.old) 1 → ⊥) }
-        ensures begun { OnOk result (self.new.table.file.begun ≡ true) }
-        ensures refused { IfErr result (BreaksOff (TakesFor []) self.old.table self.new.table) }
-        ensures err { IfErr result (ChangeRefused (IsUsable (directory_tables self.old)
-            → ⊥) (IsTooFew (directory_tables self.old) 1
-            → ⊥) (IsTooFew (directory_tables self.old) 1) Unit) }
-        ensures counts { IsTrue F.tells → CountsFailure
-            F.write_faults result self.old.table.file.failures self.new.table.file.failures }
     {
         self.allocator.begin_chain(init)
     }
 
     /// Has the medium hand on what was written. `Medium` where it fails. No byte changes, nor anything in memory.
     pub fn flush(&mut self) -> Result<(), Error>
-        ensures tables { directory_tables self.new ≡ directory_tables self.old }
-        ensures ok { IsTrue F.tells
-            → OnOk result (self.new.table.file ≡ record self.old.table.file { begun = true }) }
-        ensures kept { self.new.table.file ≡ record self.old.table.file {
-          bytes = self.new.table.file.bytes;
-          failures = self.new.table.file.failures;
-          begun = true;
-        } }
-        ensures bytes { IsTrue F.tells → directory_bytes self.new ≡ directory_bytes self.old }
+        ensures flushes { FlushesFile F.tells F.write_faults self.old.table self.new.table result }
         ensures rest { self.new ≡ record self.old { table = self.new.table } }
-        ensures err { IfErr result IsMediumError }
-        ensures counts { IsTrue F.tells → CountsFailure
-            F.write_faults result self.old.table.file.failures self.new.table.file.failures }
     {
         self.allocator.flush()
     }
@@ -606,28 +587,9 @@ impl<F: Medium, A: Heap + Clone> Directory<F, A> {
     /// `InvalidData` where there is no such chain, where it is empty, and where the FAT sectors do not cover the file; `Medium`,
     /// `Memory` and `Full` as in `begin_chain`. The directory itself stays in any case, so `start` is not to be that of its own chain.
     pub fn extend_chain(&mut self, start: u32, init: SectorInit) -> Result<u32, Error>
-        ensures extended { IfOk result (λ x.
-            Extended (directory_tables self.old) (directory_tables self.new) start (x ∷ [])) }
-        ensures filled { IsTrue F.tells
-            → (validation : Validation) → HoldsTables validation self.old.table → IfOk result (λ x.
-            IsAsFilled (directory_version self.new) init (directory_bytes self.new) x) }
-        ensures holds { IsTrue F.tells
-            → (validation : Validation) → HoldsTables validation self.old.table
-            → OnOk result (HoldsTables validation self.new.table) }
-        ensures others { IsTrue F.tells → OthersStay self.old.table self.new.table }
-        ensures spares { IsTrue F.tells
-            → (list : List ℕ) → IsChain (directory_tables self.old).fat start list
-            → Spares list self.old.table self.new.table }
+        ensures extends { ExtendsChain F.tells start init self.old.table self.new.table result }
+        ensures takes { TakesOneSector F.tells F.write_faults self.old.table self.new.table result }
         ensures rest { self.new ≡ record self.old { table = self.new.table } }
-        ensures enough { OnOk result (IsTooFew (directory_tables self.old) 1 → ⊥) }
-        ensures begun { OnOk result (self.new.table.file.begun ≡ true) }
-        ensures refused { IfErr result
-            (BreaksOff (ExtendsFrom start) self.old.table self.new.table) }
-        ensures err { IfErr result (ChangeRefused ((IsUsable (directory_tables self.old) → ⊥)
-            ⊎ NoLast (directory_tables self.old).fat start) (IsTooFew (directory_tables self.old) 1
-            → ⊥) (IsTooFew (directory_tables self.old) 1) Unit) }
-        ensures counts { IsTrue F.tells → CountsFailure
-            F.write_faults result self.old.table.file.failures self.new.table.file.failures }
     {
         self.allocator.extend_chain(start, init)
     }
@@ -639,27 +601,14 @@ impl<F: Medium, A: Heap + Clone> Directory<F, A> {
     /// file's bytes the FAT sectors alone have changed. The directory itself stays in any case, so `start` is not to be that of its own
     /// chain.
     pub fn free_chain(&mut self, start: u32) -> Result<(), Error>
-        ensures freed { OnOk result
-            (GivesBackChain [] start (directory_tables self.old) (directory_tables self.new)) }
+        ensures frees { FreesTheChain F.tells F.write_faults start self.old.table self.new.table
+            result }
         ensures none { start ≡ end_of_chain → self.new ≡ self.old }
         ensures holds { IsTrue F.tells
             → (validation : Validation) → HoldsTables validation self.old.table
             → IsUnnamed (directory_tables self.old).fat start
             → OnOk result (HoldsTables validation self.new.table) }
-        ensures changes { IsTrue F.tells → ChangesSectors (directory_tables self.old).fat_sectors
-            (directory_version self.old) (directory_bytes self.old) (directory_bytes self.new) }
-        ensures spares { IsTrue F.tells
-            → (list : List ℕ) → IsChain (directory_tables self.old).fat start list
-            → Spares list self.old.table self.new.table }
         ensures rest { self.new ≡ record self.old { table = self.new.table } }
-        ensures begun { OnOk result (IsRaised (start
-            ≢ end_of_chain) self.old.table.file self.new.table.file) }
-        ensures refused { IfErr result
-            (BreaksOff (GivesBackChain [] start) self.old.table self.new.table) }
-        ensures err { IfErr result (ChangeRefused ((IsUsable (directory_tables self.old) → ⊥)
-            ⊎ NoChain (directory_tables self.old).fat start) Unit ⊥ Unit) }
-        ensures counts { IsTrue F.tells → CountsFailure
-            F.write_faults result self.old.table.file.failures self.new.table.file.failures }
     {
         self.allocator.free_chain(start)
     }

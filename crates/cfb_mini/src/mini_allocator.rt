@@ -1,6 +1,9 @@
 //! The allocator of mini sectors (MS-CFB 2.4): mini chains are begun, extended, cut and freed, in the MiniFAT, in the mini stream and in
 //! the root's entry.
 ghost use Rattle.std.specs.Prelude.{◌≡◌, ◌≢◌, ◌↔◌, ◌⊎◌, ℕ, ◌+◌, ◌-◌, ◌/◌, ◌%◌, ◌^◌, ◌<◌, ◌≤◌, ◌∷◌, ◌++◌, List, [], Option, length, map, max, min, chars, take, drop, true, false, Contains, IsTrue, MatchOption, vec_len, option_map, unwrap_or, IfOk, IfErr, IfSome, IsErrAnd, OnOk, OnErr};
+ghost use Rattle.cfb_mini.specs.cfb_alloc.Writing.{FlushesFile};
+ghost use Rattle.cfb_mini.specs.cfb_alloc.Freeing.{FreesTheChain};
+ghost use Rattle.cfb_mini.specs.cfb_alloc.Taking.{TakesOneForMini, BeginsChain, ExtendsChain};
 ghost use Rattle.cfb_mini.specs.cfb_tables.Taking.{TakesNumber};
 ghost use Rattle.cfb_sectors.specs.Writing.{PutsBytes};
 ghost use Rattle.cfb_sectors.specs.Reading.{ReadsBytesFrom};
@@ -912,29 +915,15 @@ impl<F: Medium, A: Heap + Clone> MiniAllocator<F, A> {
     /// `InvalidData` where there is no such chain, where it is empty, and where the FAT sectors do not cover the file; `Medium`,
     /// `Memory` and `Full` as in `begin_chain`. The directory itself stays in any case, so `start` is not to be that of its own chain.
     pub fn extend_chain(&mut self, start: u32, init: SectorInit) -> Result<u32, Error>
-        ensures extended { IfOk result (λ x.
-            Extended (tables_in self.old) (tables_in self.new) start (x ∷ [])) }
-        ensures filled { IsTrue F.tells
-            → (validation : Validation) → HoldsTables validation (table_of self.old)
-            → IfOk result (λ x. IsAsFilled (version_of self.new) init (bytes_of self.new) x) }
+        ensures extends { ExtendsChain F.tells start init (table_of self.old) (table_of self.new)
+            result }
         ensures holds { IsTrue F.tells → (validation : Validation) → HoldsMini validation self.old
             → (list : List ℕ) → IsChain (tables_in self.old).fat start list
             → AreDisjoint (system_sectors self.old) list
             → OnOk result (HoldsMini validation self.new) }
-        ensures others { IsTrue F.tells → OthersStay (table_of self.old) (table_of self.new) }
-        ensures spares { IsTrue F.tells
-            → (list : List ℕ) → IsChain (tables_in self.old).fat start list
-            → Spares list (table_of self.old) (table_of self.new) }
+        ensures takes { TakesOneForMini F.tells F.write_faults (table_of self.old)
+            (table_of self.new) result }
         ensures rest { self.new ≡ with_table self.old (table_of self.new) }
-        ensures enough { OnOk result (IsTooFew (tables_in self.old) 1 → ⊥) }
-        ensures begun { OnOk result ((table_of self.new).file.begun ≡ true) }
-        ensures refused { IfErr result
-            (BreaksOff (ExtendsFrom start) (table_of self.old) (table_of self.new)) }
-        ensures err { IfErr result (ChangeRefused ((IsUsable (tables_in self.old) → ⊥)
-            ⊎ NoLast (tables_in self.old).fat start) (IsTooFew (tables_in self.old) 1
-            → ⊥) (IsTooFew (tables_in self.old) 1) Unit) }
-        ensures counts { IsTrue F.tells → CountsFailure F.write_faults result
-            (table_of self.old).file.failures (table_of self.new).file.failures }
     {
         let extended = self.directory.extend_chain(start, init);
         let _fact = self.directory.allocator().file_len();
@@ -948,27 +937,14 @@ impl<F: Medium, A: Heap + Clone> MiniAllocator<F, A> {
     /// file's bytes the FAT sectors alone have changed. The directory itself stays in any case, so `start` is not to be that of its own
     /// chain.
     pub fn free_chain(&mut self, start: u32) -> Result<(), Error>
-        ensures freed { OnOk result
-            (GivesBackChain [] start (tables_in self.old) (tables_in self.new)) }
+        ensures frees { FreesTheChain F.tells F.write_faults start (table_of self.old)
+            (table_of self.new) result }
         ensures none { start ≡ end_of_chain → self.new ≡ self.old }
         ensures holds { IsTrue F.tells → (validation : Validation) → HoldsMini validation self.old
             → (list : List ℕ) → IsChain (tables_in self.old).fat start list
             → AreDisjoint (system_sectors self.old) list → IsUnnamed (tables_in self.old).fat start
             → OnOk result (HoldsMini validation self.new) }
-        ensures changes { IsTrue F.tells → ChangesSectors (tables_in self.old).fat_sectors
-            (version_of self.old) (bytes_of self.old) (bytes_of self.new) }
-        ensures spares { IsTrue F.tells
-            → (list : List ℕ) → IsChain (tables_in self.old).fat start list
-            → Spares list (table_of self.old) (table_of self.new) }
         ensures rest { self.new ≡ with_table self.old (table_of self.new) }
-        ensures begun { OnOk result (IsRaised (start
-            ≢ end_of_chain) (table_of self.old).file (table_of self.new).file) }
-        ensures refused { IfErr result
-            (BreaksOff (GivesBackChain [] start) (table_of self.old) (table_of self.new)) }
-        ensures err { IfErr result (ChangeRefused ((IsUsable (tables_in self.old) → ⊥)
-            ⊎ NoChain (tables_in self.old).fat start) Unit ⊥ Unit) }
-        ensures counts { IsTrue F.tells → CountsFailure F.write_faults result
-            (table_of self.old).file.failures (table_of self.new).file.failures }
     {
         let freed = self.directory.free_chain(start);
         let _fact = self.directory.allocator().file_len();
@@ -1044,17 +1020,10 @@ impl<F: Medium, A: Heap> MiniAllocator<F, A> {
             → IfOk result (λ x. IsAsFilled (version_of self.new) init (bytes_of self.new) x) }
         ensures holds { IsTrue F.tells → (validation : Validation)
             → HoldsMini validation self.old → OnOk result (HoldsMini validation self.new) }
-        ensures others { IsTrue F.tells → OthersStay (table_of self.old) (table_of self.new) }
-        ensures spares { IsTrue F.tells → Spares [] (table_of self.old) (table_of self.new) }
+        ensures takes { TakesOneForMini F.tells F.write_faults (table_of self.old)
+            (table_of self.new) result }
+        ensures begins { BeginsChain F.tells (table_of self.old) (table_of self.new) result }
         ensures rest { self.new ≡ with_table self.old (table_of self.new) }
-        ensures enough { OnOk result (IsTooFew (tables_in self.old) 1 → ⊥) }
-        ensures begun { OnOk result ((table_of self.new).file.begun ≡ true) }
-        ensures refused { IfErr result
-            (BreaksOff (TakesFor []) (table_of self.old) (table_of self.new)) }
-        ensures err { IfErr result (ChangeRefused (IsUsable (tables_in self.old)
-            → ⊥) (IsTooFew (tables_in self.old) 1 → ⊥) (IsTooFew (tables_in self.old) 1) Unit) }
-        ensures counts { IsTrue F.tells → CountsFailure F.write_faults result
-            (table_of self.old).file.failures (table_of self.new).file.failures }
     {
         let begun = self.directory.begin_chain(init);
         let _fact = self.directory.allocator().file_len();
@@ -1063,19 +1032,9 @@ impl<F: Medium, A: Heap> MiniAllocator<F, A> {
 
     /// Has the medium hand on what was written. `Medium` where it fails. No byte changes, nor anything in memory.
     pub fn flush(&mut self) -> Result<(), Error>
-        ensures tables { tables_in self.new ≡ tables_in self.old }
-        ensures ok { IsTrue F.tells → OnOk result ((table_of self.new).file
-            ≡ record (table_of self.old).file { begun = true }) }
-        ensures kept { (table_of self.new).file ≡ record (table_of self.old).file {
-          bytes = (table_of self.new).file.bytes;
-          failures = (table_of self.new).file.failures;
-          begun = true;
-        } }
-        ensures bytes { IsTrue F.tells → bytes_of self.new ≡ bytes_of self.old }
+        ensures flushes { FlushesFile F.tells F.write_faults (table_of self.old) (table_of self.new)
+            result }
         ensures rest { self.new ≡ with_table self.old (table_of self.new) }
-        ensures err { IfErr result IsMediumError }
-        ensures counts { IsTrue F.tells → CountsFailure F.write_faults result
-            (table_of self.old).file.failures (table_of self.new).file.failures }
     {
         self.directory.flush()
     }

@@ -1,5 +1,6 @@
 //! Words of the MiniFAT and mini sectors, by their places in sectors of the file (MS-CFB 2.4).
 ghost use Rattle.std.specs.Prelude.{◌≡◌, ◌↔◌, ℕ, ◌+◌, ◌-◌, ◌*◌, ◌/◌, ◌%◌, ◌^◌, ◌<◌, ◌≤◌, max, min, true, length, nat_eq, slice_index, take, drop, Contains, IsTrue, IsErrAnd, IfSome, IfNone, IfOk, IfErr, OnOk, OnErr};
+ghost use Rattle.cfb_mini_sectors.specs.cfb_alloc.Reading.{OnlyReadsFile};
 ghost use Rattle.cfb_sectors.specs.Writing.{PutsBytes};
 ghost use Rattle.cfb_sectors.specs.Reading.{ReadsBytesFrom};
 ghost use Rattle.std.specs.List.{IsDistinct};
@@ -298,12 +299,7 @@ pub fn read_piece<F: ReadMedium, A: Heap>(
 ) -> Result<usize, Error>
     requires some { 0 < length into.old }
     requires within { offset + length into.old ≤ mini_sector_len }
-    ensures tables { allocator.new.tables ≡ allocator.old.tables }
-    ensures kept { allocator.new.file
-        ≡ record allocator.old.file {
-          bytes = allocator.new.file.bytes;
-          failures = allocator.new.file.failures;
-        } }
+        ensures reads { OnlyReadsFile F.tells F.read_faults allocator.old allocator.new result }
         ensures part { ReadsBytesFrom F.tells
             (mini_start allocator.old.tables.version stream.now mini + offset) into.old into.new
             allocator.old.file.bytes (min (length into.old) (allocator.old.file.len - (mini_start
@@ -317,10 +313,6 @@ pub fn read_piece<F: ReadMedium, A: Heap>(
         (length allocator.old.tables.fat) mini
         → mini_start allocator.old.tables.version stream.now mini + offset < allocator.old.file.len
         → IfErr result IsMediumError }
-    ensures same { IsTrue F.tells → OnOk result (allocator.new ≡ allocator.old) }
-    ensures bytes { IsTrue F.tells → allocator.new.file.bytes ≡ allocator.old.file.bytes }
-    ensures counts { IsTrue F.tells → CountsFailure
-        F.read_faults result allocator.old.file.failures allocator.new.file.failures }
 {
     let Some(sector) = sector_of_mini(allocator, stream, mini) else {
         return Err(no_mini(mini));

@@ -15,7 +15,7 @@ pub returns-clause-chained : goal.returns-clause-chained
 returns-clause-chained g c =
     listed_found c.extend_listed_from-extended.new.self.tables.fat c.first_number.result c.extend_listed_from-extended.new.ids.items
     (c.first_number.ensures ∙ ap first_or_end c.deref.ensures.value)
-    (c.extend_listed_from-extended.ensures.chain (listed_chain c.args.allocator.now.tables.fat c.args.start.now c.args.ids.now.items c.requires.chained))
+    (c.extend_listed_from-extended.ensures.extends.chain (listed_chain c.args.allocator.now.tables.fat c.args.start.now c.args.ids.now.items c.requires.chained))
 
 pub returns-clause-few : goal.returns-clause-few
 returns-clause-few g c = chain_few _ _ _ (returns-clause-chained g c)
@@ -24,7 +24,7 @@ pub returns-clause-longer : goal.returns-clause-longer
 returns-clause-longer g c =
     let e = c.extend_listed_from-extended in
     let ids = c.args.ids.now.items in
-    elim (made_or_not e.result (Lengthens c.args.count) ids e.new.ids.items c.args.allocator.now e.new.self e.ensures.lengthened e.ensures.refused) [
+    elim (made_or_not e.result (Lengthens c.args.count) ids e.new.ids.items c.args.allocator.now e.new.self e.ensures.extends.lengthened e.ensures.takes.refused) [
       | inl made ↦
           let listed = ap (λ (l : List ℕ). length l) made.listed in
           let sum = length-append ids (gained ids e.new.ids.items) in
@@ -35,24 +35,24 @@ returns-clause-longer g c =
 pub returns-clause-version : goal.returns-clause-version
 returns-clause-version g c =
     let e = c.extend_listed_from-extended in
-    elim (made_or_not e.result (Lengthens c.args.count) c.args.ids.now.items e.new.ids.items c.args.allocator.now e.new.self e.ensures.lengthened e.ensures.refused) [
+    elim (made_or_not e.result (Lengthens c.args.count) c.args.ids.now.items e.new.ids.items c.args.allocator.now e.new.self e.ensures.extends.lengthened e.ensures.takes.refused) [
       | inl made ↦ made.taken.same_version
       | inr same ↦ ap (λ (a : AllocatorState). a.tables.version) same.0
     ]
 
 pub returns-clause-ids : goal.returns-clause-ids
-returns-clause-ids g c = let e = c.extend_listed_from-extended in on_ok _ _ e.result (λ made. made.listed) e.ensures.lengthened
+returns-clause-ids g c = let e = c.extend_listed_from-extended in on_ok _ _ e.result (λ made. made.listed) e.ensures.extends.lengthened
 
 pub returns-clause-count : goal.returns-clause-count
-returns-clause-count g c = let e = c.extend_listed_from-extended in on_ok _ _ e.result (λ made. made.count) e.ensures.lengthened
+returns-clause-count g c = let e = c.extend_listed_from-extended in on_ok _ _ e.result (λ made. made.count) e.ensures.extends.lengthened
 
 pub returns-clause-taken : goal.returns-clause-taken
-returns-clause-taken g c = let e = c.extend_listed_from-extended in on_ok _ _ e.result (λ made. made.taken) e.ensures.lengthened
+returns-clause-taken g c = let e = c.extend_listed_from-extended in on_ok _ _ e.result (λ made. made.taken) e.ensures.extends.lengthened
 
 pub returns-clause-spares : goal.returns-clause-spares
 returns-clause-spares g c told =
     let ids = c.args.ids.now.items in
-    spares-less (ends_of ids) ids c.args.allocator.now c.extend_listed_from-extended.new.self (ends_among ids) (c.extend_listed_from-extended.ensures.spares told)
+    spares-less (ends_of ids) ids c.args.allocator.now c.extend_listed_from-extended.new.self (ends_among ids) (c.extend_listed_from-extended.ensures.takes.spares told)
 
 pub returns-clause-err : goal.returns-clause-err
 returns-clause-err g c =
@@ -63,4 +63,4 @@ returns-clause-err g c =
     on_err _ _ e.result
     (refused-less ((IsUsable t → ⊥) ⊎ (EndsChain t.fat ids → ⊥)) (IsUsable t → ⊥) (IsTooFew t c.args.count → ⊥) (IsTooFew t c.args.count) (Unit {0})
     (λ w. elim w [ inl unusable ↦ unusable | inr none ↦ absurd (none ends) ]))
-    e.ensures.err
+    e.ensures.takes.err

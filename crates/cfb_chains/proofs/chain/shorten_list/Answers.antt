@@ -27,16 +27,16 @@ returns-clause-few g c = chain_few _ _ _ (returns-clause-chained g c)
 pub returns-clause-version : goal.returns-clause-version
 returns-clause-version g c =
     let e = c.cut_listed-cut in
-    elim (made_or_not e.result (Shortens c.args.count) c.args.ids.now.items e.new.ids.items c.args.allocator.now e.new.self e.ensures.shortened e.ensures.refused) [
+    elim (made_or_not e.result (Shortens c.args.count) c.args.ids.now.items e.new.ids.items c.args.allocator.now e.new.self e.ensures.cuts.shortened e.ensures.cuts.refused) [
       | inl made ↦ ap (λ (t : TableState). t.version) made.given_back.rest
       | inr same ↦ ap (λ (a : AllocatorState). a.tables.version) same.0
     ]
 
 pub returns-clause-ids : goal.returns-clause-ids
-returns-clause-ids g c = let e = c.cut_listed-cut in on_ok _ _ e.result (λ made. made.listed) e.ensures.shortened
+returns-clause-ids g c = let e = c.cut_listed-cut in on_ok _ _ e.result (λ made. made.listed) e.ensures.cuts.shortened
 
 pub returns-clause-cut : goal.returns-clause-cut
-returns-clause-cut g c = let e = c.cut_listed-cut in on_ok _ _ e.result (λ made. made.given_back) e.ensures.shortened
+returns-clause-cut g c = let e = c.cut_listed-cut in on_ok _ _ e.result (λ made. made.given_back) e.ensures.cuts.shortened
 
 pub returns-clause-holds : goal.returns-clause-holds
 returns-clause-holds g c told validation h unnamed =
@@ -45,4 +45,4 @@ returns-clause-holds g c told validation h unnamed =
     (λ none. subst (IsUnnamed fat) (start_is fat c.args.start.now c.args.ids.now.items c.requires.chained) (unnamed none))
 
 pub returns-clause-begun : goal.returns-clause-begun
-returns-clause-begun g c = let e = c.cut_listed-cut in on_ok _ _ e.result (λ raised. raised.1 c.requires.fewer) e.ensures.begun
+returns-clause-begun g c = let e = c.cut_listed-cut in on_ok _ _ e.result (λ raised. raised.1 c.requires.fewer) e.ensures.cuts.begun

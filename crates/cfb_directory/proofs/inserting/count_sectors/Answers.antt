@@ -13,10 +13,10 @@ returns-in-V3-clause-spares g c told = spares_refl [] c.args.allocator.now
 pub returns-in-V4-clause-count : goal.returns-in-V4-clause-count
 returns-in-V4-clause-count g c told version = on_ok _ _ c.write_header_word.result
     (λ is. ap (λ (f : SectorFile). word_at f.bytes 40) is ∙ word_with_word c.args.allocator.now.file.bytes 40 c.args.count c.requires.few)
-    (c.write_header_word.ensures.ok told)
+    (c.write_header_word.ensures.writes.done told)
 
 pub returns-in-V4-clause-long : goal.returns-in-V4-clause-long
 returns-in-V4-clause-long g c told version = on_ok _ _ c.write_header_word.result
     (λ is. let e : length c.write_header_word.new.self.file.bytes ≡ length (with_word c.args.allocator.now.file.bytes 40 c.args.count) = ap (λ (f : SectorFile). length f.bytes) is in
     omega (arith, e, length-with_word c.args.allocator.now.file.bytes 40 c.args.count))
-    (c.write_header_word.ensures.ok told)
+    (c.write_header_word.ensures.writes.done told)

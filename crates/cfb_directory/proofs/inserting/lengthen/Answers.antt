@@ -18,8 +18,8 @@ returns-clause-chain g c chain =
     let last : c.last_number-last.result ≡ last_or_end ids = cc in
     let listed : c.append_reserved.new.list.items ≡ ids ++ more = cc in
     subst (λ (l : List ℕ). IsChain new.fat (first_or_end l) l) (sym listed)
-    (grown_chain old new (first_or_end ids) ids more chain (subst (λ n. HasTaken old new (ending n) more) last c.in-Ok.ensures.taken)
-    (subst (λ n. IsChain new.fat (first_or_end (ending n ++ more)) (ending n ++ more)) last c.in-Ok.ensures.chain))
+    (grown_chain old new (first_or_end ids) ids more chain (subst (λ n. HasTaken old new (ending n) more) last c.in-Ok.ensures.extends.taken)
+    (subst (λ n. IsChain new.fat (first_or_end (ending n ++ more)) (ending n ++ more)) last c.in-Ok.ensures.extends.chain))
 
 pub returns-clause-within : goal.returns-clause-within
 returns-clause-within g c were i m =
@@ -28,8 +28,8 @@ returns-clause-within g c were i m =
     let new = c.extend_chain_by.new.self.tables in
     let listed : c.append_reserved.new.list.items ≡ ids ++ more = cc in
     elim (Contains-append_cases ids more i (subst (λ (l : List ℕ). Contains l i) listed m)) [
-      | inl a ↦ let low = were i a in let longer = c.in-Ok.ensures.taken.longer in omega (arith, low, longer)
-      | inr a ↦ (members-busy new.fat _ _ c.in-Ok.ensures.chain i (Contains-append_right (ending c.last_number-last.result) more i a)).1
+      | inl a ↦ let low = were i a in let longer = c.in-Ok.ensures.extends.taken.longer in omega (arith, low, longer)
+      | inr a ↦ (members-busy new.fat _ _ c.in-Ok.ensures.extends.chain i (Contains-append_right (ending c.last_number-last.result) more i a)).1
     ]
 
 pub returns-clause-filled : goal.returns-clause-filled
@@ -37,7 +37,7 @@ returns-clause-filled g c told validation held i m =
     let ids = c.args.sectors.now.items in
     let more = c.in-Ok.more.items in
     let listed : c.append_reserved.new.list.items ≡ ids ++ more = cc in
-    c.in-Ok.ensures.filled told validation held i (subst (λ (l : List ℕ). Contains l i) (gained_is ids c.append_reserved.new.list.items more listed) m)
+    c.in-Ok.ensures.extends.filled told validation held i (subst (λ (l : List ℕ). Contains l i) (gained_is ids c.append_reserved.new.list.items more listed) m)
 
 pub returns-clause-above : goal.returns-clause-above
 returns-clause-above g c least =

@@ -53,18 +53,18 @@ returns-in_err-extend_listed-clause-listed_stream g c =
     let ys = c.args.stream.now.items in
     let ys' = c.extend_listed.new.ids.items in
     after_any ((d.file.begun ≡ true) × Lengthens c.args.more.mini_stream ys ys' b.tables d.tables) ((d ≡ b) × (ys' ≡ ys)) (ys' ≡ ys ++ gained ys ys')
-    c.in_err-extend_listed.field-0.0 c.in_err-extend_listed.ensures.refused (λ made. made.1.listed) (λ kept. same_listed ys ys' kept.1)
+    c.in_err-extend_listed.field-0.0 c.in_err-extend_listed.ensures.takes.refused (λ made. made.1.listed) (λ kept. same_listed ys ys' kept.1)
 
 pub returns-in_err-extend_listed-clause-none : goal.returns-in_err-extend_listed-clause-none
 returns-in_err-extend_listed-clause-none g c none none_stream =
     let first = c.grow_minifat.ensures.none none in
-    let second = c.extend_listed.ensures.none none_stream in
+    let second = c.extend_listed.ensures.extends.none none_stream in
     (second.0 ∙ first.0, first.1, second.1)
 
 pub returns-in_err-extend_listed-clause-count_kept : goal.returns-in_err-extend_listed-clause-count_kept
 returns-in_err-extend_listed-clause-count_kept g c told long none =
     let same = (c.grow_minifat.ensures.none none).0 in
-    word_kept c.grow_minifat.new.allocator c.extend_listed.new.self 64 (c.extend_listed.ensures.others told) (omega arith) (omega arith)
+    word_kept c.grow_minifat.new.allocator c.extend_listed.new.self 64 (c.extend_listed.ensures.takes.others told) (omega arith) (omega arith)
     (subst (λ (s : AllocatorState). 68 ≤ length s.file.bytes) (sym same) long) ∙ ap (λ (s : AllocatorState). word_at s.file.bytes 64) same
 
 pub returns-in_err-extend_listed-clause-header : goal.returns-in_err-extend_listed-clause-header
@@ -72,7 +72,7 @@ returns-in_err-extend_listed-clause-header g c told =
     let b = c.grow_minifat.new.allocator in
     let d = c.extend_listed.new.self in
     both-outside c.args.allocator.now.file.bytes b.file.bytes d.file.bytes (c.grow_minifat.ensures.in_use told).no_shorter (c.grow_minifat.ensures.header told)
-    (outside_others b d (c.extend_listed.ensures.others told))
+    (outside_others b d (c.extend_listed.ensures.takes.others told))
 
 pub returns-in_err-extend_listed-clause-in_use : goal.returns-in_err-extend_listed-clause-in_use
 returns-in_err-extend_listed-clause-in_use g c told =
@@ -81,12 +81,12 @@ returns-in_err-extend_listed-clause-in_use g c told =
     let d = c.extend_listed.new.self in
     let xs = c.args.minifat_sectors.now.items in
     in_use_then a b d (ends_of xs) (gained xs c.grow_minifat.new.sectors.items) c.in_ok-grow_minifat.ensures.lengthened.taken (c.grow_minifat.ensures.in_use told)
-    (in_use_others b d (c.extend_listed.ensures.others told))
+    (in_use_others b d (c.extend_listed.ensures.takes.others told))
 
 pub returns-in_err-extend_listed-clause-spares : goal.returns-in_err-extend_listed-clause-spares
 returns-in_err-extend_listed-clause-spares g c told =
     both-spare c.args.minifat_sectors.now.items c.args.stream.now.items c.args.allocator.now c.grow_minifat.new.allocator c.extend_listed.new.self
-    (c.grow_minifat.ensures.spares told) (c.extend_listed.ensures.spares told)
+    (c.grow_minifat.ensures.spares told) (c.extend_listed.ensures.takes.spares told)
 
 pub returns-in_err-extend_listed-clause-bounds : goal.returns-in_err-extend_listed-clause-bounds
 returns-in_err-extend_listed-clause-bounds g c =
@@ -98,7 +98,7 @@ returns-in_err-extend_listed-clause-bounds g c =
     let n = c.args.more.mini_stream in
     both-bounds a.tables b.tables d.tables c.grow_minifat.ensures.bounds
     (after_any ((d.file.begun ≡ true) × Lengthens n ys ys' b.tables d.tables) ((d ≡ b) × (ys' ≡ ys)) (KeepsBounds b.tables d.tables)
-    c.in_err-extend_listed.field-0.0 c.in_err-extend_listed.ensures.refused (λ made. bounds_taken n ys ys' b.tables d.tables made.1)
+    c.in_err-extend_listed.field-0.0 c.in_err-extend_listed.ensures.takes.refused (λ made. bounds_taken n ys ys' b.tables d.tables made.1)
     (λ kept. subst (λ (s : AllocatorState). KeepsBounds b.tables s.tables) (sym kept.0) (bounds_refl b.tables)))
 
 pub returns-in_err-extend_listed-clause-refused : goal.returns-in_err-extend_listed-clause-refused
@@ -126,28 +126,28 @@ returns-in_err-extend_listed-clause-refused g c =
     (λ kept. elim (cases_lt 0 m) [
       | inl some ↦ inr (ap (λ (s : AllocatorState). s.file.begun) kept.0 ∙ c.in_ok-grow_minifat.ensures.begun.1 some)
       | inr none ↦ (let same = c.grow_minifat.ensures.none (omega (arith, none)) in inl (kept.0 ∙ same.0, same.1, kept.1))
-    ]) c.in_err-extend_listed.ensures.refused c.in_err-extend_listed.ensures.err)
+    ]) c.in_err-extend_listed.ensures.takes.refused c.in_err-extend_listed.ensures.takes.err)
 
 pub returns-in_err-extend_listed-clause-counts : goal.returns-in_err-extend_listed-clause-counts
 returns-in_err-extend_listed-clause-counts g c told =
     let p = err_from_is_err_and c.from_residual-in_err-extend_listed.result c.from_residual-in_err-extend_listed.ensures.1 in
     rw (p.1, p.2) (subst (λ n. CountsError g.F.Medium.write_faults n c.extend_listed.new.self.file.failures c.in_err-extend_listed.field-0.0)
-    (c.in_ok-grow_minifat.ensures.counts told) (c.in_err-extend_listed.ensures.counts told))
+    (c.in_ok-grow_minifat.ensures.counts told) (c.in_err-extend_listed.ensures.takes.counts told))
 
 -- ---- both went on
 
 pub returns-clause-grown : goal.returns-clause-grown
 returns-clause-grown g c =
-    record { between = c.grow_minifat.new.allocator.tables; first = c.in_ok-grow_minifat.ensures.lengthened; second = c.in_ok-extend_listed.ensures.lengthened }
+    record { between = c.grow_minifat.new.allocator.tables; first = c.in_ok-grow_minifat.ensures.lengthened; second = c.in_ok-extend_listed.ensures.extends.lengthened }
 
 pub returns-clause-full : goal.returns-clause-full
 returns-clause-full g c few =
     both-full c.args.allocator.now.tables c.grow_minifat.new.allocator.tables c.extend_listed.new.self.tables c.args.minifat_sectors.now.items c.grow_minifat.new.sectors.items
     c.args.stream.now.items c.extend_listed.new.ids.items c.args.more.minifat c.args.more.mini_stream c.in_ok-grow_minifat.ensures.lengthened
-    c.in_ok-extend_listed.ensures.lengthened c.requires.enough few
+    c.in_ok-extend_listed.ensures.extends.lengthened c.requires.enough few
 
 pub returns-clause-listed_stream : goal.returns-clause-listed_stream
-returns-clause-listed_stream g c = c.in_ok-extend_listed.ensures.lengthened.listed
+returns-clause-listed_stream g c = c.in_ok-extend_listed.ensures.extends.lengthened.listed
 
 pub returns-clause-chain : goal.returns-clause-chain
 returns-clause-chain g c chain =
@@ -159,44 +159,44 @@ returns-clause-chain g c chain =
     let first = c.in_ok-grow_minifat.ensures.lengthened in
     let ends = c.requires.ends in
     let apart = still-apart a b xs (gained xs xs') first.taken xs' ys first.listed ends.mini_stream ends.apart in
-    other-chain b c.extend_listed.new.self.tables ys (gained ys c.extend_listed.new.ids.items) c.in_ok-extend_listed.ensures.lengthened.taken xs'
+    other-chain b c.extend_listed.new.self.tables ys (gained ys c.extend_listed.new.ids.items) c.in_ok-extend_listed.ensures.extends.lengthened.taken xs'
     (c.grow_minifat.ensures.chain chain) (λ i m n. apart i n m)
 
 pub returns-clause-chain_stream : goal.returns-clause-chain_stream
 returns-clause-chain_stream g c chain =
     let xs = c.args.minifat_sectors.now.items in
-    c.extend_listed.ensures.chain
+    c.extend_listed.ensures.extends.chain
     (other-chain c.args.allocator.now.tables c.grow_minifat.new.allocator.tables xs (gained xs c.grow_minifat.new.sectors.items) c.in_ok-grow_minifat.ensures.lengthened.taken
     c.args.stream.now.items chain c.requires.ends.apart)
 
 pub returns-clause-none : goal.returns-clause-none
 returns-clause-none g c none none_stream =
     let first = c.grow_minifat.ensures.none none in
-    let second = c.extend_listed.ensures.none none_stream in
+    let second = c.extend_listed.ensures.extends.none none_stream in
     (second.0 ∙ first.0, first.1, second.1)
 
 pub returns-clause-first : goal.returns-clause-first
 returns-clause-first g c told some empty =
     let long = c.in_ok-grow_minifat.ensures.long told some in
-    word_kept c.grow_minifat.new.allocator c.extend_listed.new.self 60 (c.extend_listed.ensures.others told) (omega arith) (omega arith) (omega (arith, long))
+    word_kept c.grow_minifat.new.allocator c.extend_listed.new.self 60 (c.extend_listed.ensures.takes.others told) (omega arith) (omega arith) (omega (arith, long))
     ∙ c.in_ok-grow_minifat.ensures.first told some empty
 
 pub returns-clause-first_kept : goal.returns-clause-first_kept
 returns-clause-first_kept g c told long was =
     let longer = (c.grow_minifat.ensures.in_use told).no_shorter in
-    word_kept c.grow_minifat.new.allocator c.extend_listed.new.self 60 (c.extend_listed.ensures.others told) (omega arith) (omega arith) (omega (arith, long, longer))
+    word_kept c.grow_minifat.new.allocator c.extend_listed.new.self 60 (c.extend_listed.ensures.takes.others told) (omega arith) (omega arith) (omega (arith, long, longer))
     ∙ c.in_ok-grow_minifat.ensures.first_kept told long was
 
 pub returns-clause-count : goal.returns-clause-count
 returns-clause-count g c told some =
     let long = c.in_ok-grow_minifat.ensures.long told some in
-    word_kept c.grow_minifat.new.allocator c.extend_listed.new.self 64 (c.extend_listed.ensures.others told) (omega arith) (omega arith) long
+    word_kept c.grow_minifat.new.allocator c.extend_listed.new.self 64 (c.extend_listed.ensures.takes.others told) (omega arith) (omega arith) long
     ∙ c.in_ok-grow_minifat.ensures.count told some
 
 pub returns-clause-count_kept : goal.returns-clause-count_kept
 returns-clause-count_kept g c told long none =
     let same = (c.grow_minifat.ensures.none none).0 in
-    word_kept c.grow_minifat.new.allocator c.extend_listed.new.self 64 (c.extend_listed.ensures.others told) (omega arith) (omega arith)
+    word_kept c.grow_minifat.new.allocator c.extend_listed.new.self 64 (c.extend_listed.ensures.takes.others told) (omega arith) (omega arith)
     (subst (λ (s : AllocatorState). 68 ≤ length s.file.bytes) (sym same) long) ∙ ap (λ (s : AllocatorState). word_at s.file.bytes 64) same
 
 pub returns-clause-header : goal.returns-clause-header
@@ -204,27 +204,27 @@ returns-clause-header g c told =
     let b = c.grow_minifat.new.allocator in
     let d = c.extend_listed.new.self in
     both-outside c.args.allocator.now.file.bytes b.file.bytes d.file.bytes (c.grow_minifat.ensures.in_use told).no_shorter (c.grow_minifat.ensures.header told)
-    (outside_others b d (c.extend_listed.ensures.others told))
+    (outside_others b d (c.extend_listed.ensures.takes.others told))
 
 pub returns-clause-filled : goal.returns-clause-filled
 returns-clause-filled g c told validation h =
     let ok = c.in_ok-grow_minifat.ensures in
     filled-after validation c.grow_minifat.new.allocator c.extend_listed.new.self c.args.minifat_sectors.now.items c.grow_minifat.new.sectors.items
-    (ok.holds told validation h) ok.behind (c.extend_listed.ensures.others told) c.in_ok-extend_listed.ensures.lengthened.taken.same_version (ok.filled told validation h)
+    (ok.holds told validation h) ok.behind (c.extend_listed.ensures.takes.others told) c.in_ok-extend_listed.ensures.extends.lengthened.taken.same_version (ok.filled told validation h)
 
 pub returns-clause-filled_stream : goal.returns-clause-filled_stream
 returns-clause-filled_stream g c told validation h = c.in_ok-extend_listed.ensures.filled told validation (c.in_ok-grow_minifat.ensures.holds told validation h)
 
 pub returns-clause-holds : goal.returns-clause-holds
-returns-clause-holds g c told validation h = c.in_ok-extend_listed.ensures.holds told validation (c.in_ok-grow_minifat.ensures.holds told validation h)
+returns-clause-holds g c told validation h = c.in_ok-extend_listed.ensures.takes.holds told validation (c.in_ok-grow_minifat.ensures.holds told validation h)
 
 pub returns-clause-held : goal.returns-clause-held
 returns-clause-held g c told late validation s table listed kept h =
     let ok = c.in_ok-extend_listed.ensures in
     let between = c.in_ok-grow_minifat.ensures.held told late validation s table listed h in
     both-held late validation s c.grow_minifat.new.sectors.items c.args.stream.now.items c.extend_listed.new.ids.items c.args.more.mini_stream c.grow_minifat.new.allocator
-    c.extend_listed.new.self between kept ok.lengthened c.extend_listed.ensures.chain (ok.filled told validation between.directory.tables)
-    (c.extend_listed.ensures.others told) (c.extend_listed.ensures.spares told) (ok.holds told validation between.directory.tables) c.file_len-fact.ensures.sizes
+    c.extend_listed.new.self between kept ok.extends.lengthened c.extend_listed.ensures.extends.chain (ok.filled told validation between.directory.tables)
+    (c.extend_listed.ensures.takes.others told) (c.extend_listed.ensures.takes.spares told) (ok.takes.holds told validation between.directory.tables) c.file_len-fact.ensures.sizes
 
 pub returns-clause-in_use : goal.returns-clause-in_use
 returns-clause-in_use g c told =
@@ -233,24 +233,24 @@ returns-clause-in_use g c told =
     let d = c.extend_listed.new.self in
     let xs = c.args.minifat_sectors.now.items in
     in_use_then a b d (ends_of xs) (gained xs c.grow_minifat.new.sectors.items) c.in_ok-grow_minifat.ensures.lengthened.taken (c.grow_minifat.ensures.in_use told)
-    (in_use_others b d (c.extend_listed.ensures.others told))
+    (in_use_others b d (c.extend_listed.ensures.takes.others told))
 
 pub returns-clause-spares : goal.returns-clause-spares
 returns-clause-spares g c told =
     both-spare c.args.minifat_sectors.now.items c.args.stream.now.items c.args.allocator.now c.grow_minifat.new.allocator c.extend_listed.new.self
-    (c.grow_minifat.ensures.spares told) (c.extend_listed.ensures.spares told)
+    (c.grow_minifat.ensures.spares told) (c.extend_listed.ensures.takes.spares told)
 
 pub returns-clause-bounds : goal.returns-clause-bounds
 returns-clause-bounds g c =
     let b = c.grow_minifat.new.allocator.tables in
     let d = c.extend_listed.new.self.tables in
     both-bounds c.args.allocator.now.tables b d c.grow_minifat.ensures.bounds
-    (bounds_taken c.args.more.mini_stream c.args.stream.now.items c.extend_listed.new.ids.items b d c.in_ok-extend_listed.ensures.lengthened)
+    (bounds_taken c.args.more.mini_stream c.args.stream.now.items c.extend_listed.new.ids.items b d c.in_ok-extend_listed.ensures.extends.lengthened)
 
 pub returns-clause-begun : goal.returns-clause-begun
 returns-clause-begun g c =
     both-raised c.args.more.minifat c.args.more.mini_stream c.args.allocator.now.file c.grow_minifat.new.allocator.file c.extend_listed.new.self.file
-    c.in_ok-grow_minifat.ensures.begun c.in_ok-extend_listed.ensures.begun
+    c.in_ok-grow_minifat.ensures.begun c.in_ok-extend_listed.ensures.takes.begun
 
 pub returns-clause-counts : goal.returns-clause-counts
-returns-clause-counts g c told = c.in_ok-extend_listed.ensures.counts told ∙ c.in_ok-grow_minifat.ensures.counts told
+returns-clause-counts g c told = c.in_ok-extend_listed.ensures.takes.counts told ∙ c.in_ok-grow_minifat.ensures.counts told

@@ -32,13 +32,13 @@ returns-in_err-extend_listed-clause-listed g c =
     let a = c.args.allocator.now in
     let b = c.extend_listed.new.self in
     after_any ((b.file.begun ≡ true) × Lengthens c.args.count xs ys a.tables b.tables) ((b ≡ a) × (ys ≡ xs)) (ys ≡ xs ++ gained xs ys)
-    c.in_err-extend_listed.field-0.0 c.in_err-extend_listed.ensures.refused (λ made. made.1.listed) (λ kept. same_listed xs ys kept.1)
+    c.in_err-extend_listed.field-0.0 c.in_err-extend_listed.ensures.takes.refused (λ made. made.1.listed) (λ kept. same_listed xs ys kept.1)
 
 pub returns-in_err-extend_listed-clause-header : goal.returns-in_err-extend_listed-clause-header
-returns-in_err-extend_listed-clause-header g c told = outside_others c.args.allocator.now c.extend_listed.new.self (c.extend_listed.ensures.others told)
+returns-in_err-extend_listed-clause-header g c told = outside_others c.args.allocator.now c.extend_listed.new.self (c.extend_listed.ensures.takes.others told)
 
 pub returns-in_err-extend_listed-clause-in_use : goal.returns-in_err-extend_listed-clause-in_use
-returns-in_err-extend_listed-clause-in_use g c told = in_use_others c.args.allocator.now c.extend_listed.new.self (c.extend_listed.ensures.others told)
+returns-in_err-extend_listed-clause-in_use g c told = in_use_others c.args.allocator.now c.extend_listed.new.self (c.extend_listed.ensures.takes.others told)
 
 pub returns-in_err-extend_listed-clause-bounds : goal.returns-in_err-extend_listed-clause-bounds
 returns-in_err-extend_listed-clause-bounds g c =
@@ -47,29 +47,29 @@ returns-in_err-extend_listed-clause-bounds g c =
     let xs = c.args.sectors.now.items in
     let ys = c.extend_listed.new.ids.items in
     after_any ((b.file.begun ≡ true) × Lengthens c.args.count xs ys a.tables b.tables) ((b ≡ a) × (ys ≡ xs)) (KeepsBounds a.tables b.tables)
-    c.in_err-extend_listed.field-0.0 c.in_err-extend_listed.ensures.refused
+    c.in_err-extend_listed.field-0.0 c.in_err-extend_listed.ensures.takes.refused
     (λ made. bounds_taken c.args.count xs ys a.tables b.tables made.1)
     (λ kept. subst (λ (s : AllocatorState). KeepsBounds a.tables s.tables) (sym kept.0) (bounds_refl a.tables))
 
 -- ---- none is to be added
 
 pub returns-then-count-eq0-clause-listed : goal.returns-then-count-eq0-clause-listed
-returns-then-count-eq0-clause-listed g c = c.in_ok-extend_listed.ensures.lengthened.listed
+returns-then-count-eq0-clause-listed g c = c.in_ok-extend_listed.ensures.extends.lengthened.listed
 
 pub returns-then-count-eq0-clause-first_kept : goal.returns-then-count-eq0-clause-first_kept
 returns-then-count-eq0-clause-first_kept g c told long was =
-    let none = c.extend_listed.ensures.none c.if-count-eq0.true in
+    let none = c.extend_listed.ensures.extends.none c.if-count-eq0.true in
     ap (λ (s : AllocatorState). word_at s.file.bytes 60) none.0 ∙ was ∙ ap first_or_end (sym none.1)
 
 pub returns-then-count-eq0-clause-header : goal.returns-then-count-eq0-clause-header
-returns-then-count-eq0-clause-header g c told = outside_others c.args.allocator.now c.extend_listed.new.self (c.extend_listed.ensures.others told)
+returns-then-count-eq0-clause-header g c told = outside_others c.args.allocator.now c.extend_listed.new.self (c.extend_listed.ensures.takes.others told)
 
 pub returns-then-count-eq0-clause-in_use : goal.returns-then-count-eq0-clause-in_use
-returns-then-count-eq0-clause-in_use g c told = in_use_others c.args.allocator.now c.extend_listed.new.self (c.extend_listed.ensures.others told)
+returns-then-count-eq0-clause-in_use g c told = in_use_others c.args.allocator.now c.extend_listed.new.self (c.extend_listed.ensures.takes.others told)
 
 pub returns-then-count-eq0-clause-bounds : goal.returns-then-count-eq0-clause-bounds
 returns-then-count-eq0-clause-bounds g c =
-    bounds_taken c.args.count c.args.sectors.now.items c.extend_listed.new.ids.items c.args.allocator.now.tables c.extend_listed.new.self.tables c.in_ok-extend_listed.ensures.lengthened
+    bounds_taken c.args.count c.args.sectors.now.items c.extend_listed.new.ids.items c.args.allocator.now.tables c.extend_listed.new.self.tables c.in_ok-extend_listed.ensures.extends.lengthened
 
 -- ---- they are named in the header
 
@@ -78,21 +78,21 @@ returns-clause-lengthened g c =
     let a = c.args.allocator.now in
     let xs = c.args.sectors.now.items in
     let ys = c.extend_listed.new.ids.items in
-    all_ok c.name_minifat.result (subst (λ (t : TableState). Lengthens c.args.count xs ys a.tables t) (sym c.name_minifat.ensures.tables) c.in_ok-extend_listed.ensures.lengthened)
+    all_ok c.name_minifat.result (subst (λ (t : TableState). Lengthens c.args.count xs ys a.tables t) (sym c.name_minifat.ensures.tables) c.in_ok-extend_listed.ensures.extends.lengthened)
 
 pub returns-clause-listed : goal.returns-clause-listed
-returns-clause-listed g c = c.in_ok-extend_listed.ensures.lengthened.listed
+returns-clause-listed g c = c.in_ok-extend_listed.ensures.extends.lengthened.listed
 
 pub returns-clause-chain : goal.returns-clause-chain
 returns-clause-chain g c chain =
-    subst (λ (t : TableState). IsListedChain t c.extend_listed.new.ids.items) (sym c.name_minifat.ensures.tables) (c.extend_listed.ensures.chain chain)
+    subst (λ (t : TableState). IsListedChain t c.extend_listed.new.ids.items) (sym c.name_minifat.ensures.tables) (c.extend_listed.ensures.extends.chain chain)
 
 pub returns-clause-behind : goal.returns-clause-behind
 returns-clause-behind g c =
     let xs = c.args.sectors.now.items in
     let ys = c.extend_listed.new.ids.items in
     all_ok c.name_minifat.result
-    (subst (λ (t : TableState). IsListedChain t (ends_of xs ++ gained xs ys)) (sym c.name_minifat.ensures.tables) c.in_ok-extend_listed.ensures.behind)
+    (subst (λ (t : TableState). IsListedChain t (ends_of xs ++ gained xs ys)) (sym c.name_minifat.ensures.tables) c.in_ok-extend_listed.ensures.extends.behind)
 
 pub returns-clause-long : goal.returns-clause-long
 returns-clause-long g c told some = c.name_minifat.ensures.long told
@@ -101,25 +101,25 @@ pub returns-clause-header : goal.returns-clause-header
 returns-clause-header g c told =
     let a = c.args.allocator.now in
     let b = c.extend_listed.new.self in
-    let others = c.extend_listed.ensures.others told in
+    let others = c.extend_listed.ensures.takes.others told in
     outside_named a.file.bytes b.file.bytes c.name_minifat.new.allocator.file.bytes (outside_others a b others) others.no_shorter (c.name_minifat.ensures.others told)
 
 pub returns-clause-in_use : goal.returns-clause-in_use
 returns-clause-in_use g c told =
     let a = c.args.allocator.now in
     let b = c.extend_listed.new.self in
-    in_use_named a b c.name_minifat.new.allocator (in_use_others a b (c.extend_listed.ensures.others told)) (c.name_minifat.ensures.others told)
+    in_use_named a b c.name_minifat.new.allocator (in_use_others a b (c.extend_listed.ensures.takes.others told)) (c.name_minifat.ensures.others told)
 
 pub returns-clause-spares : goal.returns-clause-spares
 returns-clause-spares g c told =
     spares-then (ends_of c.args.sectors.now.items) [] c.args.allocator.now c.extend_listed.new.self c.name_minifat.new.allocator (λ i m. absurd (Contains-nil i m))
-    (c.extend_listed.ensures.spares told) (c.name_minifat.ensures.spares told)
+    (c.extend_listed.ensures.takes.spares told) (c.name_minifat.ensures.spares told)
 
 pub returns-clause-bounds : goal.returns-clause-bounds
 returns-clause-bounds g c =
     let a = c.args.allocator.now in
     subst (λ (t : TableState). KeepsBounds a.tables t) (sym c.name_minifat.ensures.tables)
-    (bounds_taken c.args.count c.args.sectors.now.items c.extend_listed.new.ids.items a.tables c.extend_listed.new.self.tables c.in_ok-extend_listed.ensures.lengthened)
+    (bounds_taken c.args.count c.args.sectors.now.items c.extend_listed.new.ids.items a.tables c.extend_listed.new.self.tables c.in_ok-extend_listed.ensures.extends.lengthened)
 
 pub returns-clause-filled : goal.returns-clause-filled
 returns-clause-filled g c told validation h =
@@ -156,12 +156,12 @@ returns-clause-first_kept g c told long was = go c.is_empty-is_new.result refl
         let b = c.extend_listed.new.self in
         let xs = c.args.sectors.now.items in
         let ys = c.extend_listed.new.ids.items in
-        let others = c.extend_listed.ensures.others told in
+        let others = c.extend_listed.ensures.takes.others told in
         let longer = others.no_shorter in
         let len : vec_len c.args.sectors.now ≡ length xs = omega (arith, c.args.sectors.now.ok.0) in
         all_ok c.name_minifat.result
         (c.name_minifat.ensures.first_kept told e (omega (arith, long, longer)) ∙ word_kept a b 60 others (omega arith) (omega arith) long ∙ was
-        ∙ sym (first_still xs ys (gained xs ys) c.in_ok-extend_listed.ensures.lengthened.listed
+        ∙ sym (first_still xs ys (gained xs ys) c.in_ok-extend_listed.ensures.extends.lengthened.listed
         (not_new (vec_len c.args.sectors.now) xs c.is_empty-is_new.result len c.is_empty-is_new.ensures e)))
 
 pub returns-clause-refused : goal.returns-clause-refused
@@ -171,7 +171,7 @@ returns-clause-refused g c =
     let xs = c.args.sectors.now.items in
     let ys = c.extend_listed.new.ids.items in
     let begun : n.file.begun ≡ true = ap (λ (f : SectorFile). f.begun) c.name_minifat.ensures.kept in
-    let made = subst (λ (t : TableState). Lengthens c.args.count xs ys a.tables t) (sym c.name_minifat.ensures.tables) c.in_ok-extend_listed.ensures.lengthened in
+    let made = subst (λ (t : TableState). Lengthens c.args.count xs ys a.tables t) (sym c.name_minifat.ensures.tables) c.in_ok-extend_listed.ensures.extends.lengthened in
     err_map IsMediumError (ListBreaksOff (Lengthens c.args.count) xs ys a n)
     (λ e m. medium-broke ((n.file.begun ≡ true) × Lengthens c.args.count xs ys a.tables n.tables) ((n ≡ a) × (ys ≡ xs)) (begun, made) e m) c.name_minifat.result
     c.name_minifat.ensures.err
@@ -189,7 +189,7 @@ returns-clause-err g c =
 
 pub returns-then-count-eq0-clause-held : goal.returns-then-count-eq0-clause-held
 returns-then-count-eq0-clause-held g c told late validation s table listed h =
-    let none = c.extend_listed.ensures.none c.if-count-eq0.true in
+    let none = c.extend_listed.ensures.extends.none c.if-count-eq0.true in
     minifat-still late validation s c.extend_listed.new.self c.extend_listed.new.ids.items (none.0 ∙ sym table) (none.1 ∙ sym listed) h
 
 pub returns-clause-held : goal.returns-clause-held
@@ -205,11 +205,11 @@ returns-clause-held g c told late validation s table listed h =
     subst (λ (l : List ℕ). IsListedChain a.tables l) listed (subst (λ (z : AllocatorState). IsListedChain z.tables s.minifat_sectors) table h.chain) in
     let grows : Grows Fat xs ys a b = record {
       count = c.args.count;
-      lengthened = ok.lengthened;
-      chain = c.extend_listed.ensures.chain chain;
+      lengthened = ok.extends.lengthened;
+      chain = c.extend_listed.ensures.extends.chain chain;
       filled = ok.filled told validation tables;
-      others = c.extend_listed.ensures.others told;
-      spares = c.extend_listed.ensures.spares told;
+      others = c.extend_listed.ensures.takes.others told;
+      spares = c.extend_listed.ensures.takes.spares told;
     } in
     let grown : Grows Fat s.minifat_sectors ys (table_of s) b =
     subst (λ (l : List ℕ). Grows Fat l ys (table_of s) b) (sym listed) (subst (λ (z : AllocatorState). Grows Fat xs ys z b) (sym table) grows) in
@@ -222,4 +222,4 @@ returns-clause-held g c told late validation s table listed h =
     (HoldsMiniBut late validation (with_minifat_sectors (with_table s n) ys)) c.name_minifat.result
     (λ first_is count_is holds. but-minifat-grows validation late s h ys b n grown c.name_minifat.ensures.tables holds c.name_minifat.ensures.sizes
     (c.name_minifat.ensures.others told) first_is count_is)
-    (returns-clause-first_kept g c told long first) count (c.name_minifat.ensures.holds told validation (ok.holds told validation tables))
+    (returns-clause-first_kept g c told long first) count (c.name_minifat.ensures.holds told validation (ok.takes.holds told validation tables))

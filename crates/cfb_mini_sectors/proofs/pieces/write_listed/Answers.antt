@@ -44,6 +44,6 @@ returns-clause-among g c told =
 pub returns-clause-holds : goal.returns-clause-holds
 returns-clause-holds g c told validation h free =
     let sectors = c.args.sectors.now in
-    c.write_contiguous.ensures.holds told validation h
+    c.write_contiguous.ensures.there.holds told validation h
     (outside_tables c.args.allocator.now (slice_index sectors c.args.index) c.args.offset (length c.args.from.now) c.file_len-len.ensures.placed.same_version
     c.requires.within (free _ (Contains-get_or sectors c.args.index 0 c.requires.listed)))

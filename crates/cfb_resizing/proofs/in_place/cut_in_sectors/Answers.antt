@@ -54,9 +54,9 @@ returns-in_err-cut_listed-clause-spares g c told = record {
       cut-spares-others c.args.mini.now c.args.entry c.args.size c.div_ceil-wanted.result c.content_in-start.result.0 c.content_in-start.result.1 c.sector_len.result
       c.allocator_mut-allocator.result.now c.open_whole_chain.new.allocator c.cut_listed.new.self c.in_ok-ids.ids.items c.cut_listed.new.ids.items c.requires.stream c.requires.large c.requires.shorter
       c.allocator_mut-allocator.ensures.value (c.open_whole_chain.ensures.unchanged ∙ c.allocator_mut-allocator.ensures.value) c.content_in-start.ensures.start c.content_in-start.ensures.len c.in_ok-ids.ensures.whole c.sector_len.ensures c.div_ceil-wanted.ensures
-      (c.cut_listed.ensures.spares told) v change;
+      (c.cut_listed.ensures.cuts.spares told) v change;
   header =
-      table-keeps-header _ c.args.mini.now c.open_whole_chain.new.allocator c.cut_listed.new.self (c.open_whole_chain.ensures.unchanged ∙ c.allocator_mut-allocator.ensures.value) (c.cut_listed.ensures.spares told);
+      table-keeps-header _ c.args.mini.now c.open_whole_chain.new.allocator c.cut_listed.new.self (c.open_whole_chain.ensures.unchanged ∙ c.allocator_mut-allocator.ensures.value) (c.cut_listed.ensures.cuts.spares told);
   unwritten = λ calm.
       after_any _ _ _ c.in_err-cut_listed.field-0.0 c.in_err-cut_listed.ensures.refused (λ broken. absurd (not-both c.cut_listed.new.self.file.begun broken.0 calm))
       (λ kept. ap (λ (a : AllocatorState). a.file.bytes) (kept.0 ∙ c.open_whole_chain.ensures.unchanged ∙ c.allocator_mut-allocator.ensures.value));
@@ -79,7 +79,7 @@ returns-clause-turned g c told =
           (cut-turned c.args.mini.now c.args.entry c.args.size c.div_ceil-wanted.result c.content_in-start.result.0 c.content_in-start.result.1 c.sector_len.result
           c.allocator_mut-allocator.result.now c.open_whole_chain.new.allocator c.cut_listed.new.self c.in_ok-ids.ids.items c.cut_listed.new.ids.items c.requires.stream c.requires.large c.requires.shorter
           c.allocator_mut-allocator.ensures.value (c.open_whole_chain.ensures.unchanged ∙ c.allocator_mut-allocator.ensures.value) c.content_in-start.ensures.start c.content_in-start.ensures.len c.in_ok-ids.ensures.whole c.sector_len.ensures c.div_ceil-wanted.ensures
-          c.in_ok-cut_listed.ensures.shortened (c.cut_listed.ensures.changes told) v change held (c.cut_listed.ensures.chain (subst (λ (a : AllocatorState). IsChain a.tables.fat (first_or_end c.in_ok-ids.ids.items) c.in_ok-ids.ids.items) (sym c.open_whole_chain.ensures.unchanged)
+          c.in_ok-cut_listed.ensures.cuts.shortened (c.cut_listed.ensures.cuts.changes told) v change held (c.cut_listed.ensures.chain (subst (λ (a : AllocatorState). IsChain a.tables.fat (first_or_end c.in_ok-ids.ids.items) c.in_ok-ids.ids.items) (sym c.open_whole_chain.ensures.unchanged)
           (subst (λ n. IsChain c.allocator_mut-allocator.result.now.tables.fat n c.in_ok-ids.ids.items)
           (begins c.allocator_mut-allocator.result.now.tables.fat c.content_in-start.result.0 c.in_ok-ids.ids.items c.in_ok-ids.ensures.whole.chain.follows) c.in_ok-ids.ensures.whole.chain))));
       holds = λ v change.
@@ -90,24 +90,24 @@ returns-clause-turned g c told =
           (cut-held c.args.mini.now c.args.entry c.args.size c.div_ceil-wanted.result c.content_in-start.result.0 c.content_in-start.result.1 c.sector_len.result
           c.allocator_mut-allocator.result.now c.open_whole_chain.new.allocator c.cut_listed.new.self c.in_ok-ids.ids.items c.cut_listed.new.ids.items c.requires.stream c.requires.large c.requires.shorter
           c.allocator_mut-allocator.ensures.value (c.open_whole_chain.ensures.unchanged ∙ c.allocator_mut-allocator.ensures.value) c.content_in-start.ensures.start c.content_in-start.ensures.len c.in_ok-ids.ensures.whole c.sector_len.ensures c.div_ceil-wanted.ensures
-          c.in_ok-cut_listed.ensures.shortened (c.cut_listed.ensures.changes told) v change held (c.cut_listed.ensures.spares told));
+          c.in_ok-cut_listed.ensures.cuts.shortened (c.cut_listed.ensures.cuts.changes told) v change held (c.cut_listed.ensures.cuts.spares told));
       snug_mini = λ v change snug.
           let same = c.open_whole_chain.ensures.unchanged ∙ c.allocator_mut-allocator.ensures.value in
           (table-snug c.args.mini.now c.cut_listed.new.self
-          (ap (λ (t : TableState). t.version) c.in_ok-cut_listed.ensures.shortened.given_back.rest ∙ ap (λ (a : AllocatorState). a.tables.version) same) snug);
+          (ap (λ (t : TableState). t.version) c.in_ok-cut_listed.ensures.cuts.shortened.given_back.rest ∙ ap (λ (a : AllocatorState). a.tables.version) same) snug);
       tidy = λ v change. record {
         counted =
             let same = c.open_whole_chain.ensures.unchanged ∙ c.allocator_mut-allocator.ensures.value in
-            table-count v c.args.mini.now c.open_whole_chain.new.allocator c.cut_listed.new.self same change.held (c.cut_listed.ensures.changes told).header;
+            table-count v c.args.mini.now c.open_whole_chain.new.allocator c.cut_listed.new.self same change.held (c.cut_listed.ensures.cuts.changes told).header;
         whole = λ was.
             let same = c.open_whole_chain.ensures.unchanged ∙ c.allocator_mut-allocator.ensures.value in
             let held = cut-keeps-tables c.args.mini.now c.args.entry c.args.size c.div_ceil-wanted.result c.content_in-start.result.0 c.content_in-start.result.1 c.sector_len.result
             c.allocator_mut-allocator.result.now c.open_whole_chain.new.allocator c.cut_listed.new.self c.in_ok-ids.ids.items c.cut_listed.new.ids.items c.requires.stream c.requires.large c.requires.shorter
             c.allocator_mut-allocator.ensures.value same c.content_in-start.ensures.start c.content_in-start.ensures.len c.in_ok-ids.ensures.whole c.sector_len.ensures c.div_ceil-wanted.ensures
             (λ w. c.in_ok-cut_listed.ensures.holds told w) v change in
-            let given = c.in_ok-cut_listed.ensures.shortened.given_back in
+            let given = c.in_ok-cut_listed.ensures.cuts.shortened.given_back in
             same-whole v c.open_whole_chain.new.allocator c.cut_listed.new.self held (ap (λ (t : TableState). t.version) given.rest) given.given.same_length
-            (c.cut_listed.ensures.changes told).no_shorter (subst IsOfWholeSectors (sym same) was);
+            (c.cut_listed.ensures.cuts.changes told).no_shorter (subst IsOfWholeSectors (sym same) was);
       };
     })
 
@@ -118,13 +118,13 @@ returns-clause-spares g c told =
           (cut-spares-others c.args.mini.now c.args.entry c.args.size c.div_ceil-wanted.result c.content_in-start.result.0 c.content_in-start.result.1 c.sector_len.result
           c.allocator_mut-allocator.result.now c.open_whole_chain.new.allocator c.cut_listed.new.self c.in_ok-ids.ids.items c.cut_listed.new.ids.items c.requires.stream c.requires.large c.requires.shorter
           c.allocator_mut-allocator.ensures.value (c.open_whole_chain.ensures.unchanged ∙ c.allocator_mut-allocator.ensures.value) c.content_in-start.ensures.start c.content_in-start.ensures.len c.in_ok-ids.ensures.whole c.sector_len.ensures c.div_ceil-wanted.ensures
-          (c.cut_listed.ensures.spares told) v change);
+          (c.cut_listed.ensures.cuts.spares told) v change);
       header =
-          (table-keeps-header _ c.args.mini.now c.open_whole_chain.new.allocator c.cut_listed.new.self (c.open_whole_chain.ensures.unchanged ∙ c.allocator_mut-allocator.ensures.value) (c.cut_listed.ensures.spares told));
+          (table-keeps-header _ c.args.mini.now c.open_whole_chain.new.allocator c.cut_listed.new.self (c.open_whole_chain.ensures.unchanged ∙ c.allocator_mut-allocator.ensures.value) (c.cut_listed.ensures.cuts.spares told));
       unwritten = λ calm.
           elim (cases_lt c.div_ceil-wanted.result (length c.in_ok-ids.ids.items)) [
-            | inl fewer ↦ absurd (not-both c.cut_listed.new.self.file.begun (c.in_ok-cut_listed.ensures.begun.1 fewer) calm)
-            | inr all ↦ ap (λ (a : AllocatorState). a.file.bytes) ((c.cut_listed.ensures.none all).0 ∙ c.open_whole_chain.ensures.unchanged ∙ c.allocator_mut-allocator.ensures.value)
+            | inl fewer ↦ absurd (not-both c.cut_listed.new.self.file.begun (c.in_ok-cut_listed.ensures.cuts.begun.1 fewer) calm)
+            | inr all ↦ ap (λ (a : AllocatorState). a.file.bytes) ((c.cut_listed.ensures.cuts.none all).0 ∙ c.open_whole_chain.ensures.unchanged ∙ c.allocator_mut-allocator.ensures.value)
           ];
     })
 
@@ -132,7 +132,7 @@ pub returns-clause-tight : goal.returns-clause-tight
 returns-clause-tight g c =
     rw c.end_chain.ensures (shortened-tight c.args.mini.now c.cut_listed.new.self c.div_ceil-wanted.result c.in_ok-ids.ids.items c.cut_listed.new.ids.items
     (subst (λ (a : AllocatorState). Shortens c.div_ceil-wanted.result c.in_ok-ids.ids.items c.cut_listed.new.ids.items a.tables c.cut_listed.new.self.tables) (c.open_whole_chain.ensures.unchanged ∙ c.allocator_mut-allocator.ensures.value)
-    c.in_ok-cut_listed.ensures.shortened))
+    c.in_ok-cut_listed.ensures.cuts.shortened))
 
 pub returns-clause-enough : goal.returns-clause-enough
 returns-clause-enough g c =
@@ -147,7 +147,7 @@ returns-clause-few g c list chain =
     let few = cut-takes-few c.allocator_mut-allocator.result.now.tables.version c.allocator_mut-allocator.result.now.tables.fat c.cut_listed.new.self.tables.fat c.allocator_mut-allocator.result.now.file.len
     c.content_in-start.result.0 c.content_in-start.result.1 c.args.size c.div_ceil-wanted.result c.sector_len.result c.in_ok-ids.ids.items c.cut_listed.new.ids.items list
     (omega (arith, large)) (omega (arith, c.requires.shorter, c.content_in-start.ensures.len)) c.in_ok-ids.ensures.whole (c.sector_len.ensures ∙ sym same) c.div_ceil-wanted.ensures
-    c.in_ok-cut_listed.ensures.shortened.listed (c.cut_listed.ensures.chain (subst (λ (a : AllocatorState). IsChain a.tables.fat (first_or_end c.in_ok-ids.ids.items) c.in_ok-ids.ids.items) (sym c.open_whole_chain.ensures.unchanged)
+    c.in_ok-cut_listed.ensures.cuts.shortened.listed (c.cut_listed.ensures.chain (subst (λ (a : AllocatorState). IsChain a.tables.fat (first_or_end c.in_ok-ids.ids.items) c.in_ok-ids.ids.items) (sym c.open_whole_chain.ensures.unchanged)
     (subst (λ n. IsChain c.allocator_mut-allocator.result.now.tables.fat n c.in_ok-ids.ids.items)
     (begins c.allocator_mut-allocator.result.now.tables.fat c.content_in-start.result.0 c.in_ok-ids.ids.items c.in_ok-ids.ensures.whole.chain.follows) c.in_ok-ids.ensures.whole.chain)))
     (subst (λ (a : AllocatorState). IsChain a.tables.fat c.content_in-start.result.0 list) c.end_chain.ensures chain) in

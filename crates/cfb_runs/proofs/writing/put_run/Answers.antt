@@ -42,7 +42,7 @@ returns-clause-spares g c told =
     let ids = c.args.ids.now in
     let n = length c.args.from.now in
     let here = placed_at v a.file.version c.file_len-len.ensures.placed.same_version ids c.args.index c.args.offset c.requires.short in
-    c.write_contiguous.ensures.spares told ids
+    c.write_contiguous.ensures.there.spares told ids
     (subst (λ (p : ℕ). LieAmong ids v p n) (sym here) (run_among v ids (c.args.index * sector_len v + c.args.offset) n c.requires.some c.requires.run))
 
 pub returns-clause-holds : goal.returns-clause-holds
@@ -52,7 +52,7 @@ returns-clause-holds g c told validation h free =
     let ids = c.args.ids.now in
     let n = length c.args.from.now in
     let here = placed_at v a.file.version c.file_len-len.ensures.placed.same_version ids c.args.index c.args.offset c.requires.short in
-    c.write_contiguous.ensures.holds told validation h
+    c.write_contiguous.ensures.there.holds told validation h
     (subst (λ (p : ℕ). LieOutside (table_sectors a.tables) v p n) (sym here)
     (run_outside v ids (table_sectors a.tables) (c.args.index * sector_len v + c.args.offset) n c.requires.some c.requires.run free))
 

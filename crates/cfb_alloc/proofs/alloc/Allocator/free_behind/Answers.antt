@@ -56,14 +56,22 @@ returns-clause-holds g c told validation h unnamed =
     (λ b. record { holds = b; clean = clean })
     (c.write_values.ensures.ok told validation [] late)
 
-pub returns-clause-spares : goal.returns-clause-spares
-returns-clause-spares g c told =
-    let ids = c.args.ids.now in
-    let s0 = c.self.inside.sectors in
-    let s1 = c.write_values.new.sectors in
-    let t0 = c.self.inside.tables in
-    let t = c.cut_listed.new.self in
-    let e = c.cut_listed.ensures in
-    let chain = subst (λ (a : AllocatorState). IsChain a.tables.fat (first_or_end ids) ids) (sym c.self.view_is) c.requires.chain in
-    listed_cut_spares t0 t e.cuts.rest ids c.args.left chain c.requires.fewer e.cuts.cut s1 c.self.view_is
-    (changes_said t0 t e.cuts.rest c.args.self.now s0 s1.bytes c.self.view_is c.self.invariant.0 (c.write_values.ensures.writes.changes told))
+pub returns-clause-frees : goal.returns-clause-frees
+returns-clause-frees g c = record {
+  given_back = first_of (search rules, grind (arith, common_steps));
+  changes = first_of (search rules, grind (arith, common_steps));
+  spares = λ told. (
+      let ids = c.args.ids.now in
+      let s0 = c.self.inside.sectors in
+      let s1 = c.write_values.new.sectors in
+      let t0 = c.self.inside.tables in
+      let t = c.cut_listed.new.self in
+      let e = c.cut_listed.ensures in
+      let chain = subst (λ (a : AllocatorState). IsChain a.tables.fat (first_or_end ids) ids) (sym c.self.view_is) c.requires.chain in
+      listed_cut_spares t0 t e.cuts.rest ids c.args.left chain c.requires.fewer e.cuts.cut s1 c.self.view_is
+      (changes_said t0 t e.cuts.rest c.args.self.now s0 s1.bytes c.self.view_is c.self.invariant.0 (c.write_values.ensures.writes.changes told))
+  );
+  begun = first_of (search rules, grind (arith, common_steps));
+  err = first_of (search rules, grind (arith, common_steps));
+  counts = first_of (search rules, grind (arith, common_steps));
+}

@@ -18,6 +18,6 @@ returns-clause-content g c told validation h whole =
     let e = c.grow_from.ensures in
     on_three _ _ _ _ c.grow_from.result
     (λ listed counted put. content_grown validation (allocator_of now).now (allocator_of grown).now (start_sector_of now) (ids_of now) (ids_of grown) now.chained h whole
-    e.version c.args.count (init_of now) (gained (ids_of now) (ids_of grown)) listed counted (e.others told)
+    e.version c.args.count (init_of now) (gained (ids_of now) (ids_of grown)) listed counted (e.takes.others told)
     (filled_each (version_of grown) (init_of now) (allocator_of grown).now.file.bytes (gained (ids_of now) (ids_of grown)) put))
     e.ids e.count (e.put told validation h)

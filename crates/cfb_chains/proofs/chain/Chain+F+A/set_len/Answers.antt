@@ -84,7 +84,7 @@ returns-clause-counts g c told =
 pub returns-then-sectors-have-clause-foreign : goal.returns-then-sectors-have-clause-foreign
 returns-then-sectors-have-clause-foreign g c told =
     let now = c.args.self.now in
-    own_taken (ids_of now) (allocator_of now).now (allocator_of c.grow.new.self).now (c.grow.ensures.others told)
+    own_taken (ids_of now) (allocator_of now).now (allocator_of c.grow.new.self).now (c.grow.ensures.takes.others told)
 
 pub returns-in_err-cut-clause-foreign : goal.returns-in_err-cut-clause-foreign
 returns-in_err-cut-clause-foreign g c told =
@@ -145,7 +145,7 @@ returns-then-sectors-have-clause-places g c told validation h =
     let more = c.if-sectors-have.true in
     on_three _ _ _ _ c.grow.result
     (λ listed counted filled. grown_resized now grown (gained (ids_of now) (ids_of grown)) e.version listed (omega (arith, counted, more))
-    (keeps_own validation (allocator_of now).now (allocator_of grown).now (start_sector_of now) (ids_of now) now.chained h (e.others told)) filled c.args.len)
+    (keeps_own validation (allocator_of now).now (allocator_of grown).now (start_sector_of now) (ids_of now) now.chained h (e.takes.others told)) filled c.args.len)
     e.ids e.count (e.filled told validation h)
 
 pub returns-clause-places : goal.returns-clause-places
@@ -174,7 +174,7 @@ returns-clause-spares g c told =
     (c.cut.ensures.spares told) (c.zero_tail.ensures.spares told)
 
 pub returns-then-sectors-have-clause-others : goal.returns-then-sectors-have-clause-others
-returns-then-sectors-have-clause-others g c told i busy out other = (c.grow.ensures.others told).sectors i busy out (Contains-nil i)
+returns-then-sectors-have-clause-others g c told i busy out other = (c.grow.ensures.takes.others told).sectors i busy out (Contains-nil i)
 
 pub returns-clause-freed : goal.returns-clause-freed
 returns-clause-freed g c fewer =

@@ -89,7 +89,7 @@ returns-then-missing-eq0-clause-none g c zero =
 pub returns-in_err-grow_from-clause-foreign : goal.returns-in_err-grow_from-clause-foreign
 returns-in_err-grow_from-clause-foreign g c told =
     let now = c.args.self.now in
-    own_taken (ids_of now) (allocator_of now).now (allocator_of c.grow_from.new.self).now (c.grow_from.ensures.others told)
+    own_taken (ids_of now) (allocator_of now).now (allocator_of c.grow_from.new.self).now (c.grow_from.ensures.takes.others told)
 
 pub returns-in_err-grow_from-clause-none : goal.returns-in_err-grow_from-clause-none
 returns-in_err-grow_from-clause-none g c zero =
@@ -121,7 +121,7 @@ returns-in_err-written-clause-others g c told i busy out other =
     let e = c.in_ok-grow_from.ensures in
     let first = take left from in
     let size = length-take left from in
-    SectorStays_next (version_of now) (version_of grown) i _ _ _ e.version ((e.others told).sectors i busy out (Contains-nil i))
+    SectorStays_next (version_of now) (version_of grown) i _ _ _ e.version ((e.takes.others told).sectors i busy out (Contains-nil i))
     (c.write_within-2.ensures.sectors told i
     (was_wanted now grown (gained (ids_of now) (ids_of grown)) (length first) i e.version e.position e.ids (λ k m. e.taken.fresh k (first_of_three _ _ _ k m)) busy
     (more_wanted now (length first) (length from) i (omega (arith, size)) other)))
@@ -136,7 +136,7 @@ returns-in_err-written-clause-foreign g c told =
     let e = c.in_ok-grow_from.ensures in
     let w = c.write_within-2.ensures in
     let old = (allocator_of now).now in
-    own_wanted (ids_of now) old grown mid (length (take left from)) (own_taken (ids_of now) old (allocator_of grown).now (c.grow_from.ensures.others told)) e.version
+    own_wanted (ids_of now) old grown mid (length (take left from)) (own_taken (ids_of now) old (allocator_of grown).now (c.grow_from.ensures.takes.others told)) e.version
     (own_gained (ids_of now) old (allocator_of grown).now (ending (last_or_end (ids_of now))) (ids_of grown) (gained (ids_of now) (ids_of grown)) e.ids e.taken)
     (w.sectors told) (w.others told)
 
@@ -158,7 +158,7 @@ returns-clause-others g c told i busy out other =
     let e = c.in_ok-grow_from.ensures in
     let first = take left from in
     let size = length-take left from in
-    SectorStays_next (version_of now) (version_of grown) i _ _ _ e.version ((e.others told).sectors i busy out (Contains-nil i))
+    SectorStays_next (version_of now) (version_of grown) i _ _ _ e.version ((e.takes.others told).sectors i busy out (Contains-nil i))
     (c.write_within-2.ensures.sectors told i
     (was_wanted now grown (gained (ids_of now) (ids_of grown)) (length first) i e.version e.position e.ids (λ k m. e.taken.fresh k (first_of_three _ _ _ k m)) busy
     (more_wanted now (length first) (length from) i (omega (arith, size)) other)))
@@ -173,7 +173,7 @@ returns-clause-foreign g c told =
     let e = c.in_ok-grow_from.ensures in
     let w = c.write_within-2.ensures in
     let old = (allocator_of now).now in
-    own_wanted (ids_of now) old grown mid (length (take left from)) (own_taken (ids_of now) old (allocator_of grown).now (c.grow_from.ensures.others told)) e.version
+    own_wanted (ids_of now) old grown mid (length (take left from)) (own_taken (ids_of now) old (allocator_of grown).now (c.grow_from.ensures.takes.others told)) e.version
     (own_gained (ids_of now) old (allocator_of grown).now (ending (last_or_end (ids_of now))) (ids_of grown) (gained (ids_of now) (ids_of grown)) e.ids e.taken)
     (w.sectors told) (w.others told)
 
@@ -261,7 +261,7 @@ returns-clause-none g c zero =
     absurd (c.if-missing-eq0.false (c.missing-missing.ensures ∙ none_needed (version_of now) (position_of now) (length (ids_of now)) (length c.args.from.now) zero now.within))
 
 pub returns-clause-holds : goal.returns-clause-holds
-returns-clause-holds g c told validation h = c.in_ok-written.ensures.holds told validation (c.in_ok-grow_from.ensures.holds told validation h)
+returns-clause-holds g c told validation h = c.in_ok-written.ensures.holds told validation (c.in_ok-grow_from.ensures.takes.holds told validation h)
 
 pub returns-clause-places : goal.returns-clause-places
 returns-clause-places g c told validation h =
@@ -287,9 +287,9 @@ returns-clause-places g c told validation h =
     let place = e.position in
     let low : n ≤ left = (let by = o.count in omega (arith, by, size)) in
     let wrote = put_behind now grown more from left e.version e.ids (omega (arith, counted, missing))
-    (keeps_own validation (allocator_of now).now (allocator_of grown).now (start_sector_of now) (ids_of now) now.chained h (e.others told))
+    (keeps_own validation (allocator_of now).now (allocator_of grown).now (start_sector_of now) (ids_of now) now.chained h (e.takes.others told))
     (filled_as (version_of grown) (version_of grown) (init_of now) from _ _ left left refl refl (e.put told validation h))
-    e.position within left-is few (omega (arith, room, behind, place)) (e.others told).no_shorter mid n m (ap (λ (t : TableState). t.version) w.tables) w.chain.0 low
+    e.position within left-is few (omega (arith, room, behind, place)) (e.takes.others told).no_shorter mid n m (ap (λ (t : TableState). t.version) w.tables) w.chain.0 low
     c.reached-count.ensures.reached (w.others told).no_shorter (o.places told) in
     record { places = wrote.places; written = wrote.written; stays = wrote.stays; gap = wrote.gap; fresh = wrote.fresh }
 
@@ -317,9 +317,9 @@ returns-clause-content g c told validation h whole some all =
     let place = e.position in
     let low : n ≤ left = (let by = o.count in omega (arith, by, size)) in
     let wrote = put_behind now grown more from left e.version e.ids (omega (arith, counted, missing))
-    (keeps_own validation (allocator_of now).now (allocator_of grown).now (start_sector_of now) (ids_of now) now.chained h (e.others told))
+    (keeps_own validation (allocator_of now).now (allocator_of grown).now (start_sector_of now) (ids_of now) now.chained h (e.takes.others told))
     (filled_as (version_of grown) (version_of grown) (init_of now) from _ _ left left refl refl (e.put told validation h))
-    e.position within left-is few (omega (arith, room, behind, place)) (e.others told).no_shorter mid n m (ap (λ (t : TableState). t.version) w.tables) w.chain.0 low
+    e.position within left-is few (omega (arith, room, behind, place)) (e.takes.others told).no_shorter mid n m (ap (λ (t : TableState). t.version) w.tables) w.chain.0 low
     c.reached-count.ensures.reached (w.others told).no_shorter (o.places told) in
     let init = init_bytes (version_of now) (init_of now) in
     let full : m ≡ length from = elim all [ inl is ↦ is | inr none ↦ absurd (missing (c.missing-missing.ensures ∙ none)) ] in
@@ -327,7 +327,7 @@ returns-clause-content g c told validation h whole some all =
     let listed : ids_of mid ≡ ids_of now ++ more = w.chain.0 ∙ e.ids in
     let len : len_of mid ≡ len_of grown = λ j. length (w.chain.0 j) * sector_len (w.tables j).version in
     let has = gained_has (version_of now) (version_of mid) (ids_of now) (ids_of mid) more (drop left from) (allocator_of now).now.file.bytes (allocator_of grown).now.file.bytes
-    (allocator_of mid).now.file.bytes (init_of now) version listed whole (e.others told).no_shorter (w.others told).no_shorter
+    (allocator_of mid).now.file.bytes (init_of now) version listed whole (e.takes.others told).no_shorter (w.others told).no_shorter
     (filled_as (version_of now) (version_of grown) (init_of now) from _ _ left left e.version refl (e.put told validation h)) in
     let content = put_content now mid more from version listed whole has within (omega (arith, few, left-is, within)) (omega (arith, room, behind, place, len))
     (subst (λ (k : ℕ). HasWritten k from now mid) full wrote) in (
@@ -395,5 +395,5 @@ returns-clause-begun g c some =
     let missing = c.if-missing-eq0.false in
     elim (cases_lt 0 left) [
       | inl first ↦ w.begun (omega (arith, first, few, size, room))
-      | inr none ↦ ap (λ (a : AllocatorState). a.file.begun) (w.none (omega (arith, none, size))).1 ∙ e.begun.1 (omega (arith, missing))
+      | inr none ↦ ap (λ (a : AllocatorState). a.file.begun) (w.none (omega (arith, none, size))).1 ∙ e.takes.begun.1 (omega (arith, missing))
     ]
