@@ -1,5 +1,6 @@
 //! The sectors of both tables (MS-CFB 2.5).
 ghost use Rattle.std.specs.Prelude.{◌≡◌, ◌+◌, ◌-◌, ◌*◌, ◌<◌, ◌≤◌, ◌++◌, ◌∷◌, [], true, false, length, max, slice_index_or, slice_set, flat_map, replicate, vec_len, IsTrue, IfOk, IfErr, OnOk, ◌==◌};
+ghost use Rattle.cfb_reading.specs.Steps.{FollowsTrail, ReadsTrail};
 ghost use Rattle.cfb_sectors.specs.Reading.{OnlyReadsSectors};
 ghost use Rattle.std.specs.List.{list_all, suffix_len};
 ghost use Rattle.cfb_format.specs.Bytes.{words_per_sector, is_regular_or_free, free_sector};
@@ -154,22 +155,11 @@ fn advance<F: ReadMedium, A: Heap>(
 ) -> Result<(), Error>
     requires { length buffer.old ≡ words_per_sector sectors.old.version }
         ensures reads { OnlyReadsSectors F.tells F.read_faults sectors.old sectors.new result }
-    ensures own { OnOk result (trail.new.difat_sectors.items
-        ≡ trail.old.difat_sectors.items ++ trail.old.next ∷ []) }
-    ensures fresh { OnOk result (slice_index_or trail.old.met.items trail.old.next false ≡ false) }
-    ensures met { OnOk result (trail.new.met.items
-        ≡ slice_set trail.old.met.items trail.old.next true) }
-    ensures there { OnOk result (has_sector sectors.old trail.old.next ≡ true) }
-    ensures count { OnOk result (vec_len trail.new.entries
-        ≡ vec_len trail.old.entries + (words_per_sector sectors.old.version - 1)) }
-    ensures entries { IsTrue F.tells
-        → OnOk result (trail.new.entries.items ≡ trail.old.entries.items
-        ++ difat_entries sectors.old.version sectors.old.bytes trail.old.next) }
-    ensures next { IsTrue F.tells → OnOk result (trail.new.next
-        ≡ next_difat sectors.old.version sectors.old.bytes trail.old.next) }
-    ensures words { IsTrue F.tells
-        → OnOk result (AreDifatWords validation (difat_entries sectors.old.version sectors.old.bytes
-        trail.old.next) (next_difat sectors.old.version sectors.old.bytes trail.old.next)) }
+        ensures follows { FollowsTrail sectors.old trail.old.difat_sectors.items
+            trail.new.difat_sectors.items trail.old.met.items trail.new.met.items trail.old.next
+            trail.old.entries trail.new.entries result }
+        ensures words { ReadsTrail F.tells validation sectors.old trail.old.next trail.new.next
+            trail.old.entries trail.new.entries result }
     ensures err { IfErr result
         (PartRefused F.tells F.read_faults (slice_index_or trail.old.met.items trail.old.next false
         ≡ false → has_sector sectors.old trail.old.next ≡ true

@@ -1,5 +1,6 @@
 //! The words of the FAT sectors (MS-CFB 2.3).
 ghost use Rattle.std.specs.Prelude.{◌≡◌, ◌↔◌, ◌+◌, ◌-◌, ◌<◌, ◌≤◌, ◌++◌, ℕ, [], true, false, length, replicate, slice_index, slice_index_or, take, drop, vec_len, IsTrue, IfOk, IfErr, IsOk, OnOk};
+ghost use Rattle.cfb_reading.specs.Steps.{TakesSectorWords, CanTakeWords, KeepsSectorWords};
 ghost use Rattle.cfb_sectors.specs.Reading.{OnlyReadsSectors};
 ghost use Rattle.std.specs.List.{list_all};
 ghost use Rattle.cfb_format.specs.Bytes.{is_regular, sector_words, words_per_sector};
@@ -80,27 +81,13 @@ fn take_sector<F: ReadMedium, A: Heap>(
     buffer: &mut [u32],
     validation: Validation,
 ) -> Result<(), Error>
-    requires buffer { length buffer.old ≡ words_per_sector sectors.old.version }
-    requires count { vec_len taking.old.checked ≡ sectors.old.num_sectors }
-    requires few { vec_len taking.old.words ≤ vec_len taking.old.checked }
+        requires fits { CanTakeWords sectors.old taking.old.words taking.old.checked buffer.old }
         ensures reads { OnlyReadsSectors F.tells F.read_faults sectors.old sectors.new result }
-    ensures few { OnOk result (vec_len taking.new.words ≤ vec_len taking.new.checked) }
-    ensures len { OnOk result (vec_len taking.new.checked ≡ vec_len taking.old.checked) }
-    ensures met { vec_len taking.old.words ≡ vec_len taking.old.checked
-        → OnOk result (slice_index_or taking.new.checked.items sector false ≡ true) }
+        ensures takes { TakesSectorWords F.tells sector validation sectors.old taking.old.words
+            taking.new.words taking.old.checked taking.new.checked result }
     ensures once { vec_len taking.old.words ≡ vec_len taking.old.checked
         → slice_index_or taking.old.checked.items sector false ≡ true
         → IsOk result × (taking.new ≡ taking.old) × (sectors.new ≡ sectors.old) }
-    ensures there { AreThere sectors.old taking.old.checked.items
-        → OnOk result ((has_sector sectors.old sector ≡ true)
-        × AreThere sectors.old taking.new.checked.items) }
-    ensures words { IsTrue F.tells → OnOk result (taking.new.words.items
-        ≡ taking.old.words.items ++ take (vec_len taking.old.checked
-        - vec_len taking.old.words) (sector_words sectors.old.version sectors.old.bytes sector)) }
-    ensures padding { IsTrue F.tells → ArePadding validation sectors.old taking.old.checked.items
-        → OnOk result ((list_all (is_padding_in validation) (drop (vec_len taking.old.checked
-        - vec_len taking.old.words) (sector_words sectors.old.version sectors.old.bytes sector))
-        ≡ true) × ArePadding validation sectors.old taking.new.checked.items) }
     ensures err { IfErr result (PartRefused F.tells F.read_faults (has_sector sectors.old sector
         ≡ true → list_all (is_padding_in validation) (drop (vec_len taking.old.checked
         - vec_len taking.old.words) (sector_words sectors.old.version sectors.old.bytes sector))
@@ -130,12 +117,8 @@ fn keep_words<F: ReadMedium, A: Heap>(
 ) -> Result<(), Error>
     requires { length buffer.old ≡ words_per_sector sectors.old.version }
         ensures reads { OnlyReadsSectors F.tells F.read_faults sectors.old sectors.new result }
-    ensures few { OnOk result (vec_len words.new ≤ vec_len words.old + room) }
-    ensures there { OnOk result (has_sector sectors.old sector ≡ true) }
-    ensures words { IsTrue F.tells → OnOk result (words.new.items ≡ words.old.items
-        ++ take room (sector_words sectors.old.version sectors.old.bytes sector)) }
-    ensures padding { IsTrue F.tells → OnOk result (list_all (is_padding_in validation)
-        (drop room (sector_words sectors.old.version sectors.old.bytes sector)) ≡ true) }
+        ensures keeps { KeepsSectorWords F.tells sector room validation sectors.old words.old
+            words.new result }
     ensures err { IfErr result (PartRefused F.tells F.read_faults (has_sector sectors.old sector
         ≡ true → list_all (is_padding_in validation)
         (drop room (sector_words sectors.old.version sectors.old.bytes sector)) ≡ true → ⊥)) }
