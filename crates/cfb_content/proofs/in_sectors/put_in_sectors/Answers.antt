@@ -1,7 +1,7 @@
 use Rattle.cfb_content.proofs.in_sectors.put_in_sectors.Goals as goal
 
 pub returns-clause-tables : goal.returns-clause-tables
-returns-clause-tables g c = c.write_along.ensures.kept.tables
+returns-clause-tables g c = c.write_along.ensures.writes.kept.tables
 
 pub returns-clause-kept : goal.returns-clause-kept
-returns-clause-kept g c = c.write_along.ensures.kept.file
+returns-clause-kept g c = c.write_along.ensures.writes.kept.file

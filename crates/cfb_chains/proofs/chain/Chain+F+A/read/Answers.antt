@@ -29,9 +29,9 @@ invariant_of-self-2-clause-within g c =
     let ids = ids_of now in
     let e = c.in_ok-count.ensures in
     let n = c.in_ok-count.count in
-    let r = subst (λ (xs : List ℕ). IsReadAtOnce v xs (allocator_of now).now.file.len (position_of now) (length c.args.into.now) n) c.numbers.ensures e.count in
+    let r = subst (λ (xs : List ℕ). IsReadAtOnce v xs (allocator_of now).now.file.len (position_of now) (length c.args.into.now) n) c.numbers.ensures e.run.longest in
     let run = shorter_run v ids (position_of now) r.wanted n (omega (arith, r.there)) r.longest.run in
-    subst (λ (t : TableState). position_of now + n ≤ length ids * sector_len t.version) (sym e.kept.tables) (run_fits v ids (position_of now) n e.some.0 run)
+    subst (λ (t : TableState). position_of now + n ≤ length ids * sector_len t.version) (sym e.reads.kept.tables) (run_fits v ids (position_of now) n e.run.some.0 run)
 
 pub returns-clause-count : goal.returns-clause-count
 returns-clause-count g c =
@@ -40,10 +40,10 @@ returns-clause-count g c =
     let ids = ids_of now in
     let e = c.in_ok-count.ensures in
     let n = c.in_ok-count.count in
-    let r = subst (λ (xs : List ℕ). IsReadAtOnce v xs (allocator_of now).now.file.len (position_of now) (length c.args.into.now) n) c.numbers.ensures e.count in
+    let r = subst (λ (xs : List ℕ). IsReadAtOnce v xs (allocator_of now).now.file.len (position_of now) (length c.args.into.now) n) c.numbers.ensures e.run.longest in
     let run = shorter_run v ids (position_of now) r.wanted n (omega (arith, r.there)) r.longest.run in
-    let fits = run_fits v ids (position_of now) n e.some.0 run in
-    let few = e.some.1 in
+    let fits = run_fits v ids (position_of now) n e.run.some.0 run in
+    let few = e.run.some.1 in
     omega (arith, fits, few)
 
 pub returns-clause-within : goal.returns-clause-within
@@ -53,7 +53,7 @@ returns-clause-within g c j low =
     let ids = ids_of now in
     let e = c.in_ok-count.ensures in
     let n = c.in_ok-count.count in
-    let r = subst (λ (xs : List ℕ). IsReadAtOnce v xs (allocator_of now).now.file.len (position_of now) (length c.args.into.now) n) c.numbers.ensures e.count in
+    let r = subst (λ (xs : List ℕ). IsReadAtOnce v xs (allocator_of now).now.file.len (position_of now) (length c.args.into.now) n) c.numbers.ensures e.run.longest in
     let there = r.there in
     let follow = r.longest.run.follow j (omega (arith, there, low)) in
     omega (arith, there, low, follow)
@@ -66,11 +66,11 @@ returns-clause-ok g c told =
     let e = c.in_ok-count.ensures in
     let n = c.in_ok-count.count in
     let bytes = (allocator_of now).now.file.bytes in
-    let r = subst (λ (xs : List ℕ). IsReadAtOnce v xs (allocator_of now).now.file.len (position_of now) (length c.args.into.now) n) c.numbers.ensures e.count in
+    let r = subst (λ (xs : List ℕ). IsReadAtOnce v xs (allocator_of now).now.file.len (position_of now) (length c.args.into.now) n) c.numbers.ensures e.run.longest in
     let run = shorter_run v ids (position_of now) r.wanted n (omega (arith, r.there)) r.longest.run in
     let into = c.read_run.new.into in
-    run_is_placed v bytes ids (position_of now) n into run (omega (arith, e.some.1, c.read_run.auto.into))
-    (subst (λ (xs : List ℕ). take n into ≡ part bytes (place_along v xs (position_of now)) n) c.numbers.ensures (e.ok told))
+    run_is_placed v bytes ids (position_of now) n into run (omega (arith, e.run.some.1, c.read_run.auto.into))
+    (subst (λ (xs : List ℕ). take n into ≡ part bytes (place_along v xs (position_of now)) n) c.numbers.ensures (e.run.read told))
 
 pub returns-clause-content : goal.returns-clause-content
 returns-clause-content g c told whole =
@@ -80,11 +80,11 @@ returns-clause-content g c told whole =
     let e = c.in_ok-count.ensures in
     let n = c.in_ok-count.count in
     let bytes = (allocator_of now).now.file.bytes in
-    let r = subst (λ (xs : List ℕ). IsReadAtOnce v xs (allocator_of now).now.file.len (position_of now) (length c.args.into.now) n) c.numbers.ensures e.count in
+    let r = subst (λ (xs : List ℕ). IsReadAtOnce v xs (allocator_of now).now.file.len (position_of now) (length c.args.into.now) n) c.numbers.ensures e.run.longest in
     let run = shorter_run v ids (position_of now) r.wanted n (omega (arith, r.there)) r.longest.run in
     let into = c.read_run.new.into in
-    subst (λ (xs : List ℕ). take n into ≡ part bytes (place_along v xs (position_of now)) n) c.numbers.ensures (e.ok told)
-    ∙ run_content v bytes ids (position_of now) n whole e.some.0 run
+    subst (λ (xs : List ℕ). take n into ≡ part bytes (place_along v xs (position_of now)) n) c.numbers.ensures (e.run.read told)
+    ∙ run_content v bytes ids (position_of now) n whole e.run.some.0 run
 
 pub returns-in_err-count-clause-cut : goal.returns-in_err-count-clause-cut
 returns-in_err-count-clause-cut g c some past =

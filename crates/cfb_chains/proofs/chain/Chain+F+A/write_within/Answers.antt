@@ -49,8 +49,8 @@ invariant_of-self-2-clause-within g c =
     let ids = ids_of now in
     let e = c.in_ok-written.ensures in
     let n = c.in_ok-written.written in
-    let longest = subst (λ (xs : List ℕ). IsLongestRun v xs (position_of now) (length c.args.from.now) n) c.numbers.ensures e.count in
-    subst (λ (t : TableState). position_of now + n ≤ length ids * sector_len t.version) (sym e.kept.tables) (run_fits v ids (position_of now) n e.some.0 longest.run)
+    let longest = subst (λ (xs : List ℕ). IsLongestRun v xs (position_of now) (length c.args.from.now) n) c.numbers.ensures e.run.longest in
+    subst (λ (t : TableState). position_of now + n ≤ length ids * sector_len t.version) (sym e.writes.kept.tables) (run_fits v ids (position_of now) n e.run.some.0 longest.run)
 
 pub returns-clause-count : goal.returns-clause-count
 returns-clause-count g c =
@@ -59,9 +59,9 @@ returns-clause-count g c =
     let ids = ids_of now in
     let e = c.in_ok-written.ensures in
     let n = c.in_ok-written.written in
-    let longest = subst (λ (xs : List ℕ). IsLongestRun v xs (position_of now) (length c.args.from.now) n) c.numbers.ensures e.count in
-    let fits = run_fits v ids (position_of now) n e.some.0 longest.run in
-    let few = e.some.1 in
+    let longest = subst (λ (xs : List ℕ). IsLongestRun v xs (position_of now) (length c.args.from.now) n) c.numbers.ensures e.run.longest in
+    let fits = run_fits v ids (position_of now) n e.run.some.0 longest.run in
+    let few = e.run.some.1 in
     omega (arith, fits, few)
 
 pub returns-clause-ok : goal.returns-clause-ok
@@ -73,7 +73,7 @@ returns-clause-ok g c told some =
       bytes = written file.bytes (place_along (version_of now) xs (position_of now)) (take n c.args.from.now);
       len = max file.len (place_along (version_of now) xs (position_of now) + n);
       begun = true;
-    }) c.numbers.ensures (c.in_ok-written.ensures.ok told)
+    }) c.numbers.ensures (c.in_ok-written.ensures.run.done told)
 
 pub returns-clause-places : goal.returns-clause-places
 returns-clause-places g c told =
@@ -83,16 +83,16 @@ returns-clause-places g c told =
     let file = (allocator_of now).now.file in
     let e = c.in_ok-written.ensures in
     let n = c.in_ok-written.written in
-    let longest = subst (λ (xs : List ℕ). IsLongestRun v xs (position_of now) (length c.args.from.now) n) c.numbers.ensures e.count in
-    let put = ap (λ (f : SectorFile). f.bytes) (e.ok told)
+    let longest = subst (λ (xs : List ℕ). IsLongestRun v xs (position_of now) (length c.args.from.now) n) c.numbers.ensures e.run.longest in
+    let put = ap (λ (f : SectorFile). f.bytes) (e.run.done told)
     ∙ ap (λ (xs : List ℕ). written file.bytes (place_along v xs (position_of now)) (take n c.args.from.now)) c.numbers.ensures in
-    wrote_run now _ n c.args.from.now (ap (λ (t : TableState). t.version) e.kept.tables) refl (found_chain _ _ _ now.chained).distinct put longest.run e.some.1
+    wrote_run now _ n c.args.from.now (ap (λ (t : TableState). t.version) e.writes.kept.tables) refl (found_chain _ _ _ now.chained).distinct put longest.run e.run.some.1
 
 pub returns-clause-holds : goal.returns-clause-holds
 returns-clause-holds g c told validation h =
     let now = c.args.self.now in
     let a = (allocator_of now).now in
-    c.in_ok-written.ensures.holds told validation h
+    c.in_ok-written.ensures.writes.holds told validation h
     (subst (λ (xs : List ℕ). AreDisjoint xs (table_sectors a.tables)) (sym c.numbers.ensures)
     (λ i m t. no_table_sector validation a (start_sector_of now) (ids_of now) now.chained h i m t))
 
@@ -106,11 +106,11 @@ returns-clause-content g c told whole some =
     let n = c.in_ok-written.written in
     let from = c.args.from.now in
     let size = length-take n from in
-    let full : length (take n from) ≡ n = omega (arith, size, e.some.1) in
-    let longest = subst (λ (xs : List ℕ). IsLongestRun v xs (position_of now) (length from) n) c.numbers.ensures e.count in
-    let put = ap (λ (f : SectorFile). f.bytes) (e.ok told) ∙ ap (λ (xs : List ℕ). written file.bytes (place_along v xs (position_of now)) (take n from)) c.numbers.ensures in
+    let full : length (take n from) ≡ n = omega (arith, size, e.run.some.1) in
+    let longest = subst (λ (xs : List ℕ). IsLongestRun v xs (position_of now) (length from) n) c.numbers.ensures e.run.longest in
+    let put = ap (λ (f : SectorFile). f.bytes) (e.run.done told) ∙ ap (λ (xs : List ℕ). written file.bytes (place_along v xs (position_of now)) (take n from)) c.numbers.ensures in
     content_put v (c.write_run.new.allocator).tables.version file.bytes (c.write_run.new.allocator).file.bytes ids ids (position_of now) (take n from)
-    (ap (λ (t : TableState). t.version) e.kept.tables) refl (found_chain _ _ _ now.chained).distinct whole (omega (arith, full, some))
+    (ap (λ (t : TableState). t.version) e.writes.kept.tables) refl (found_chain _ _ _ now.chained).distinct whole (omega (arith, full, some))
     (subst (λ m. IsRun v ids (position_of now) m) (sym full) longest.run) put
 
 pub returns-in_err-written-clause-sectors : goal.returns-in_err-written-clause-sectors
@@ -119,7 +119,7 @@ returns-in_err-written-clause-sectors g c told =
     let bytes = (allocator_of now).now.file.bytes in
     let new = (c.write_run.new.allocator).file.bytes in
     run_sectors now new (length c.args.from.now)
-    (subst (λ (xs : List ℕ). ChangesOnlyRun (version_of now) xs (position_of now) (length c.args.from.now) bytes new) c.numbers.ensures (c.write_run.ensures.others told))
+    (subst (λ (xs : List ℕ). ChangesOnlyRun (version_of now) xs (position_of now) (length c.args.from.now) bytes new) c.numbers.ensures (c.write_run.ensures.run.others told))
 
 pub returns-clause-sectors : goal.returns-clause-sectors
 returns-clause-sectors g c told =
@@ -127,7 +127,7 @@ returns-clause-sectors g c told =
     let bytes = (allocator_of now).now.file.bytes in
     let new = (c.write_run.new.allocator).file.bytes in
     run_sectors now new (length c.args.from.now)
-    (subst (λ (xs : List ℕ). ChangesOnlyRun (version_of now) xs (position_of now) (length c.args.from.now) bytes new) c.numbers.ensures (c.write_run.ensures.others told))
+    (subst (λ (xs : List ℕ). ChangesOnlyRun (version_of now) xs (position_of now) (length c.args.from.now) bytes new) c.numbers.ensures (c.write_run.ensures.run.others told))
 
 pub returns-in_err-written-clause-others : goal.returns-in_err-written-clause-others
 returns-in_err-written-clause-others g c told =
@@ -135,7 +135,7 @@ returns-in_err-written-clause-others g c told =
     let bytes = (allocator_of now).now.file.bytes in
     let new = (c.write_run.new.allocator).file.bytes in
     run_wanted now _ (length c.args.from.now)
-    (subst (λ (xs : List ℕ). ChangesOnlyRun (version_of now) xs (position_of now) (length c.args.from.now) bytes new) c.numbers.ensures (c.write_run.ensures.others told))
+    (subst (λ (xs : List ℕ). ChangesOnlyRun (version_of now) xs (position_of now) (length c.args.from.now) bytes new) c.numbers.ensures (c.write_run.ensures.run.others told))
 
 pub returns-clause-others : goal.returns-clause-others
 returns-clause-others g c told =
@@ -143,14 +143,14 @@ returns-clause-others g c told =
     let bytes = (allocator_of now).now.file.bytes in
     let new = (c.write_run.new.allocator).file.bytes in
     run_wanted now _ (length c.args.from.now)
-    (subst (λ (xs : List ℕ). ChangesOnlyRun (version_of now) xs (position_of now) (length c.args.from.now) bytes new) c.numbers.ensures (c.write_run.ensures.others told))
+    (subst (λ (xs : List ℕ). ChangesOnlyRun (version_of now) xs (position_of now) (length c.args.from.now) bytes new) c.numbers.ensures (c.write_run.ensures.run.others told))
 
 pub returns-in_err-written-clause-spares : goal.returns-in_err-written-clause-spares
 returns-in_err-written-clause-spares g c told =
     let now = c.args.self.now in
-    subst (λ (xs : List ℕ). Spares xs (allocator_of now).now c.write_run.new.allocator) c.numbers.ensures (c.write_run.ensures.spares told)
+    subst (λ (xs : List ℕ). Spares xs (allocator_of now).now c.write_run.new.allocator) c.numbers.ensures (c.write_run.ensures.writes.spares told)
 
 pub returns-clause-spares : goal.returns-clause-spares
 returns-clause-spares g c told =
     let now = c.args.self.now in
-    subst (λ (xs : List ℕ). Spares xs (allocator_of now).now c.write_run.new.allocator) c.numbers.ensures (c.write_run.ensures.spares told)
+    subst (λ (xs : List ℕ). Spares xs (allocator_of now).now c.write_run.new.allocator) c.numbers.ensures (c.write_run.ensures.writes.spares told)

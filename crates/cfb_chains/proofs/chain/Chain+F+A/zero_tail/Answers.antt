@@ -87,16 +87,16 @@ returns-clause-ok g c told some =
     let inside = not_end v p (length ids) c.requires (λ none. omega (arith, some, none)) in
     let e = c.in_ok-_zeroed.ensures in
     let n = c.in_ok-_zeroed._zeroed in
-    let is = whole_tail v ids c.numbers.result.now c.numbers.ensures p c.sector_len-sector_len.result c.sector_len-sector_len.ensures n inside e.count in
+    let is = whole_tail v ids c.numbers.result.now c.numbers.ensures p c.sector_len-sector_len.result c.sector_len-sector_len.ensures n inside e.run.longest in
     subst (λ (m : ℕ). c.zero_run.new.allocator.file ≡ record file { bytes = written file.bytes (place_along v ids p) (replicate m 0); len = max file.len (place_along v ids p + m); begun = true }) is
     (subst (λ (xs : List ℕ). c.zero_run.new.allocator.file
-    ≡ record file { bytes = written file.bytes (place_along v xs p) (replicate n 0); len = max file.len (place_along v xs p + n); begun = true }) c.numbers.ensures (e.ok told))
+    ≡ record file { bytes = written file.bytes (place_along v xs p) (replicate n 0); len = max file.len (place_along v xs p + n); begun = true }) c.numbers.ensures (e.run.done told))
 
 pub returns-clause-holds : goal.returns-clause-holds
 returns-clause-holds g c told validation h =
     let now = c.args.self.now in
     let a = (allocator_of now).now in
-    c.in_ok-_zeroed.ensures.holds told validation h
+    c.in_ok-_zeroed.ensures.writes.holds told validation h
     (subst (λ (xs : List ℕ). AreDisjoint xs (table_sectors a.tables)) (sym c.numbers.ensures)
     (λ i m t. no_table_sector validation a (start_sector_of now) (ids_of now) now.chained h i m t))
 
@@ -111,12 +111,12 @@ returns-clause-content g c told whole some =
     let inside = not_end v p (length ids) c.requires (λ none. omega (arith, some, none)) in
     let e = c.in_ok-_zeroed.ensures in
     let n = c.in_ok-_zeroed._zeroed in
-    let is = whole_tail v ids c.numbers.result.now c.numbers.ensures p c.sector_len-sector_len.result c.sector_len-sector_len.ensures n inside e.count in
+    let is = whole_tail v ids c.numbers.result.now c.numbers.ensures p c.sector_len-sector_len.result c.sector_len-sector_len.ensures n inside e.run.longest in
     let size = length-replicate {A = ℕ} tail 0 in
     let left = some_left v p (sector_len v) refl in
-    let put = ap (λ (f : SectorFile). f.bytes) (e.ok told) ∙ (λ j. written file.bytes (place_along v (c.numbers.ensures j) p) (replicate (is j) 0)) in
+    let put = ap (λ (f : SectorFile). f.bytes) (e.run.done told) ∙ (λ j. written file.bytes (place_along v (c.numbers.ensures j) p) (replicate (is j) 0)) in
     (content_put v (c.zero_run.new.allocator).tables.version file.bytes (c.zero_run.new.allocator).file.bytes ids ids p (replicate tail 0)
-    (ap (λ (t : TableState). t.version) e.kept.tables) refl (found_chain _ _ _ now.chained).distinct whole (omega (arith, size, left))
+    (ap (λ (t : TableState). t.version) e.writes.kept.tables) refl (found_chain _ _ _ now.chained).distinct whole (omega (arith, size, left))
     (subst (λ m. IsRun v ids p m) (sym size) (sector_run v ids p tail inside (rest_fits v p (sector_len v) refl))) put).1
 
 pub returns-clause-whole : goal.returns-clause-whole
@@ -129,8 +129,8 @@ returns-clause-whole g c told whole =
     let b = c.zero_run.new.allocator in
     let inside = not_end v p (length ids) c.requires (λ zero. c.if-rest-eq0.false (ap (λ (k : ℕ). p % k) c.sector_len-sector_len.ensures ∙ zero)) in
     let only = tail_only v ids c.numbers.result.now c.numbers.ensures p c.sector_len-sector_len.result c.sector_len-sector_len.ensures inside a.file.bytes b.file.bytes
-    (c.zero_run.ensures.others told) in
-    subst (λ (t : TableState). HasSectors t.version b.file.bytes ids) (sym c.zero_run.ensures.kept.tables) (sectors_stay v a.file.bytes b.file.bytes ids whole only.no_shorter)
+    (c.zero_run.ensures.run.others told) in
+    subst (λ (t : TableState). HasSectors t.version b.file.bytes ids) (sym c.zero_run.ensures.writes.kept.tables) (sectors_stay v a.file.bytes b.file.bytes ids whole only.no_shorter)
 
 pub returns-in_err-_zeroed-clause-others : goal.returns-in_err-_zeroed-clause-others
 returns-in_err-_zeroed-clause-others g c told =
@@ -140,7 +140,7 @@ returns-in_err-_zeroed-clause-others g c told =
     let p = c.args.offset in
     let inside = not_end v p (length ids) c.requires (λ zero. c.if-rest-eq0.false (ap (λ (k : ℕ). p % k) c.sector_len-sector_len.ensures ∙ zero)) in
     tail_only v ids c.numbers.result.now c.numbers.ensures p c.sector_len-sector_len.result c.sector_len-sector_len.ensures inside (allocator_of now).now.file.bytes
-    (c.zero_run.new.allocator).file.bytes (c.zero_run.ensures.others told)
+    (c.zero_run.new.allocator).file.bytes (c.zero_run.ensures.run.others told)
 
 pub returns-clause-others : goal.returns-clause-others
 returns-clause-others g c told =
@@ -150,7 +150,7 @@ returns-clause-others g c told =
     let p = c.args.offset in
     let inside = not_end v p (length ids) c.requires (λ zero. c.if-rest-eq0.false (ap (λ (k : ℕ). p % k) c.sector_len-sector_len.ensures ∙ zero)) in
     tail_only v ids c.numbers.result.now c.numbers.ensures p c.sector_len-sector_len.result c.sector_len-sector_len.ensures inside (allocator_of now).now.file.bytes
-    (c.zero_run.new.allocator).file.bytes (c.zero_run.ensures.others told)
+    (c.zero_run.new.allocator).file.bytes (c.zero_run.ensures.run.others told)
 
 pub returns-in_err-_zeroed-clause-sectors : goal.returns-in_err-_zeroed-clause-sectors
 returns-in_err-_zeroed-clause-sectors g c told i other =
@@ -160,7 +160,7 @@ returns-in_err-_zeroed-clause-sectors g c told i other =
     let p = c.args.offset in
     let inside = not_end v p (length ids) c.requires (λ zero. c.if-rest-eq0.false (ap (λ (k : ℕ). p % k) c.sector_len-sector_len.ensures ∙ zero)) in
     let only = tail_only v ids c.numbers.result.now c.numbers.ensures p c.sector_len-sector_len.result c.sector_len-sector_len.ensures inside (allocator_of now).now.file.bytes
-    (c.zero_run.new.allocator).file.bytes (c.zero_run.ensures.others told) in
+    (c.zero_run.new.allocator).file.bytes (c.zero_run.ensures.run.others told) in
     other_sector v (slice_index ids (p / sector_len v)) i (p % sector_len v) _ _ _ _ refl only (rest_fits v p (sector_len v) refl) other
 
 pub returns-clause-sectors : goal.returns-clause-sectors
@@ -171,15 +171,15 @@ returns-clause-sectors g c told i other =
     let p = c.args.offset in
     let inside = not_end v p (length ids) c.requires (λ zero. c.if-rest-eq0.false (ap (λ (k : ℕ). p % k) c.sector_len-sector_len.ensures ∙ zero)) in
     let only = tail_only v ids c.numbers.result.now c.numbers.ensures p c.sector_len-sector_len.result c.sector_len-sector_len.ensures inside (allocator_of now).now.file.bytes
-    (c.zero_run.new.allocator).file.bytes (c.zero_run.ensures.others told) in
+    (c.zero_run.new.allocator).file.bytes (c.zero_run.ensures.run.others told) in
     other_sector v (slice_index ids (p / sector_len v)) i (p % sector_len v) _ _ _ _ refl only (rest_fits v p (sector_len v) refl) other
 
 pub returns-in_err-_zeroed-clause-spares : goal.returns-in_err-_zeroed-clause-spares
 returns-in_err-_zeroed-clause-spares g c told =
     let now = c.args.self.now in
-    subst (λ (xs : List ℕ). Spares xs (allocator_of now).now c.zero_run.new.allocator) c.numbers.ensures (c.zero_run.ensures.spares told)
+    subst (λ (xs : List ℕ). Spares xs (allocator_of now).now c.zero_run.new.allocator) c.numbers.ensures (c.zero_run.ensures.writes.spares told)
 
 pub returns-clause-spares : goal.returns-clause-spares
 returns-clause-spares g c told =
     let now = c.args.self.now in
-    subst (λ (xs : List ℕ). Spares xs (allocator_of now).now c.zero_run.new.allocator) c.numbers.ensures (c.zero_run.ensures.spares told)
+    subst (λ (xs : List ℕ). Spares xs (allocator_of now).now c.zero_run.new.allocator) c.numbers.ensures (c.zero_run.ensures.writes.spares told)

@@ -15,7 +15,7 @@ returns-clause-stretch g c =
     let len = length-take count c.args.into.now in
     let table : c.allocator.result.now ≡ table_of s = c.allocator.ensures ∙ ap (λ (w : MiniState). table_of w) c.self.view_is in
     let stream = stream-is s c.deref.result.now c.in-Some.stream c.self.inside.mini_stream c.deref.ensures.value c.in-Some.is (ap (λ (w : MiniState). w.mini_stream) c.self.view_is) in
-    answered_stretch c.read_run.result s c.args.mini c.args.offset count _ (omega (arith, len)) c.read_run.ensures.some
+    answered_stretch c.read_run.result s c.args.mini c.args.offset count _ (omega (arith, len)) c.read_run.ensures.run.some
     (stretch_of_run s c.allocator.result.now c.deref.result.now c.args.mini c.args.offset count table stream c.requires.inside c.stretch_len-count.ensures.run c.stretch_len-count.ensures.known)
 
 pub returns-clause-ok : goal.returns-clause-ok
@@ -28,11 +28,11 @@ returns-clause-ok g c told =
     let place = stretch_place s a c.deref-2.result.now c.args.mini c.args.offset table stream c.requires.inside in
     begun_ok c.read_run.result c.stretch_len-count.result c.args.into.now c.read_run.new.into (part a.file.bytes (place_along a.tables.version c.deref-2.result.now at))
     (part (bytes_of s) (mini_place s c.args.mini + c.args.offset)) (λ n j. part (table j).file.bytes (place j) n)
-    c.read_run.auto.into c.read_run.ensures.some (c.read_run.ensures.ok told)
+    c.read_run.auto.into c.read_run.ensures.run.some (c.read_run.ensures.run.read told)
 
 pub returns-clause-rest : goal.returns-clause-rest
 returns-clause-rest g c =
-    begun_rest c.read_run.result c.stretch_len-count.result c.args.into.now c.read_run.new.into c.read_run.auto.into c.read_run.ensures.some c.read_run.ensures.rest
+    begun_rest c.read_run.result c.stretch_len-count.result c.args.into.now c.read_run.new.into c.read_run.auto.into c.read_run.ensures.run.some c.read_run.ensures.run.rest
 
 pub returns-clause-cut : goal.returns-clause-cut
 returns-clause-cut g c none =

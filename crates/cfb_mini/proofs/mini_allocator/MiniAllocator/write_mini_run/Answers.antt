@@ -42,7 +42,7 @@ returns-clause-stretch g c =
     let len = length-take count c.args.from.now in
     let table : c.allocator.result.now ≡ table_of s = c.allocator.ensures ∙ ap (λ (w : MiniState). table_of w) c.self.view_is in
     let stream = stream-is s c.deref.result.now c.in-Some.stream c.self.inside.mini_stream c.deref.ensures.value c.in-Some.is (ap (λ (w : MiniState). w.mini_stream) c.self.view_is) in
-    answered_stretch c.write_run.result s c.args.mini c.args.offset count _ (omega (arith, len)) c.write_run.ensures.some
+    answered_stretch c.write_run.result s c.args.mini c.args.offset count _ (omega (arith, len)) c.write_run.ensures.run.some
     (stretch_of_run s c.allocator.result.now c.deref.result.now c.args.mini c.args.offset count table stream c.requires.inside c.stretch_len-count.ensures.run c.stretch_len-count.ensures.known)
 
 pub returns-clause-cut : goal.returns-clause-cut
@@ -71,7 +71,7 @@ returns-clause-others g c told =
     (change_of_run s a b c.deref-2.result.now c.args.mini c.args.offset count _ (length c.args.from.now) table stream c.requires.inside
     (stretch_of_run s c.allocator.result.now c.deref.result.now c.args.mini c.args.offset count here listed c.requires.inside c.stretch_len-count.ensures.run
     c.stretch_len-count.ensures.known)
-    (omega (arith, len)) (omega (arith, len)) (c.write_run.ensures.others told))
+    (omega (arith, len)) (omega (arith, len)) (c.write_run.ensures.run.others told))
 
 pub returns-clause-mini_spares : goal.returns-clause-mini_spares
 returns-clause-mini_spares g c told validation h own all =
@@ -87,7 +87,7 @@ returns-clause-mini_spares g c told validation h own all =
     let change = change_of_run s a b c.deref-2.result.now c.args.mini c.args.offset count _ (length c.args.from.now) table stream c.requires.inside
     (stretch_of_run s c.allocator.result.now c.deref.result.now c.args.mini c.args.offset count here listed c.requires.inside c.stretch_len-count.ensures.run
     c.stretch_len-count.ensures.known)
-    (omega (arith, len)) (omega (arith, len)) (c.write_run.ensures.others told) in
+    (omega (arith, len)) (omega (arith, len)) (c.write_run.ensures.run.others told) in
     subst (λ (w : MiniState). SparesMini own s (with_table w b)) (sym c.self.view_is)
     (stretch_spares validation s b own c.args.mini c.args.offset (length c.args.from.now) h change all)
 
@@ -100,9 +100,9 @@ returns-clause-holds g c told validation h =
     let table : a ≡ table_of s = c.allocator_mut.ensures.value ∙ ap (λ (w : MiniState). table_of w) c.self.view_is in
     let stream = stream-is s c.deref-2.result.now c.in-Some.stream c.self.inside.mini_stream c.deref-2.ensures.value c.in-Some.is (ap (λ (w : MiniState). w.mini_stream) c.self.view_is) in
     subst (λ (w : MiniState). OnOk c.write_run.result (HoldsMini validation (with_table w b))) (sym c.self.view_is)
-    (write-holds c.write_run.result validation s a b c.deref-2.result.now h table stream was.kept.tables
-    (λ held free. was.holds told validation held (λ i mine table_sector. elim (Contains-append_cases a.tables.fat_sectors a.tables.difat_sectors i table_sector) [
+    (write-holds c.write_run.result validation s a b c.deref-2.result.now h table stream was.writes.kept.tables
+    (λ held free. was.writes.holds told validation held (λ i mine table_sector. elim (Contains-append_cases a.tables.fat_sectors a.tables.difat_sectors i table_sector) [
       | inl fat ↦ (free i mine).0 fat
       | inr difat ↦ (free i mine).1 difat
     ]))
-    (was.spares told) (header_stays a.tables.version c.deref-2.result.now _ _ a.file.bytes b.file.bytes (was.others told)))
+    (was.writes.spares told) (header_stays a.tables.version c.deref-2.result.now _ _ a.file.bytes b.file.bytes (was.run.others told)))
