@@ -1,5 +1,6 @@
 //! The directory of a file (MS-CFB 2.6): its entries in memory, and each change of them written into the slots of its sectors.
 ghost use Rattle.std.specs.Prelude.{◌≡◌, ◌≢◌, ◌↔◌, ◌⊎◌, ℕ, ◌*◌, ◌%◌, ◌<◌, ◌≤◌, ◌∷◌, List, [], length, map, min, chars, true, false, Contains, IsTrue, MatchOption, vec_len, IfOk, IfErr, IfSome, OnOk};
+ghost use Rattle.cfb_directory.specs.Changing.{RemovesSafely, ChangesDirectory, ChangesRoot, HoldsChanged, SetsEntryFields, FieldsHold, InsertsInDirectory};
 ghost use Rattle.cfb_alloc.specs.Writing.{FlushesFile};
 ghost use Rattle.cfb_alloc.specs.Freeing.{FreesTheChain};
 ghost use Rattle.cfb_alloc.specs.Taking.{TakesOneSector, BeginsChain, ExtendsChain};
@@ -351,17 +352,10 @@ impl<F: Medium, A: Heap + Clone> Directory<F, A> {
         moment: Timestamp,
     ) -> Result<u32, Error>
         requires { CanInsert self.old parent (chars name.now) kind }
-        ensures inserted { IfOk result (λ n.
-            InsertsObject self.old self.new parent n (chars name.now) kind moment) }
-        ensures kept { KeepsSectorsIfFree self.old self.new }
-        ensures written { IsTrue F.tells → OnOk result (WritesDirectory self.old self.new) }
-        ensures spared { IsTrue F.tells → SparesRest self.old self.new parent }
+        ensures inserts { InsertsInDirectory F.tells F.write_faults parent (chars name.now) kind
+            moment self.old self.new result }
         ensures limits { KeepsDirectoryLimits self.old self.new }
         ensures refused { IfErr result (DirectoryStopsShort self.old self.new) }
-        ensures err { IfErr result (ChangeRefused (IsDirectoryNotHeld self.old)
-            (IsFullForEntry self.old → ⊥) (IsFullForEntry self.old) Unit) }
-        ensures counts { IsTrue F.tells → CountsFailure
-            F.write_faults result self.old.table.file.failures self.new.table.file.failures }
     {
         insert_entry(
             &mut self.allocator,
@@ -389,26 +383,13 @@ impl<F: Medium, A: Heap + Clone> Directory<F, A> {
         requires there { (list : List ℕ) → HasChildren self.old.cases self.old.entries parent list
             → (n : ℕ) × IsChildNamed self.old.cases self.old.entries (chars name.now) list n
             × ((entry_at self.old.entries n).child ≡ no_stream) }
-        ensures removed { OnOk result (RemovesEntry self.old.cases self.old.entries self.new.entries
-            parent (chars name.now)) }
-        ensures balanced { OnOk result (KeepsBalance self.old.entries self.new.entries parent) }
-        ensures red_apart { OnOk result (StaysRedApart self.old self.new parent) }
+        ensures removes { RemovesSafely parent (chars name.now) self.old self.new result }
         ensures kept { (self.new.sectors ≡ self.old.sectors)
             × (directory_tables self.new ≡ directory_tables self.old) }
-        ensures holds { IsTrue F.tells
-            → (validation : Validation) → HoldsDirectory validation self.old
-            → OnOk result (HoldsDirectory validation self.new) }
-        ensures spares { IsTrue F.tells → Spares self.old.sectors self.old.table self.new.table }
-        ensures header { IsTrue F.tells → KeepsWholeHeader self.old self.new }
-        ensures others { IsTrue F.tells → KeepsOtherSectors self.old self.new }
+        ensures holds { HoldsChanged F.tells self.old self.new result }
+        ensures changes { ChangesDirectory F.tells F.write_faults self.old self.new result }
         ensures slots { IsTrue F.tells → (validation : Validation)
             → HoldsDirectory validation self.old → KeepsOtherSlots parent self.old self.new }
-        ensures limits { KeepsDirectoryLimits self.old self.new }
-        ensures begun { OnOk result (self.new.table.file.begun ≡ true) }
-        ensures refused { IfErr result (DirectoryStopsShort self.old self.new) }
-        ensures err { IfErr result (ChangeRefused (IsDirectoryNotHeld self.old) Unit ⊥ Unit) }
-        ensures counts { IsTrue F.tells → CountsFailure
-            F.write_faults result self.old.table.file.failures self.new.table.file.failures }
     {
         remove_entry(
             &mut self.allocator,
@@ -435,21 +416,11 @@ impl<F: Medium, A: Heap + Clone> Directory<F, A> {
             (HasCleared self.old.entries self.new.entries top inside.now) }
         ensures kept { (self.new.sectors ≡ self.old.sectors)
             × (directory_tables self.new ≡ directory_tables self.old) }
-        ensures holds { IsTrue F.tells
-            → (validation : Validation) → HoldsDirectory validation self.old
-            → OnOk result (HoldsDirectory validation self.new) }
-        ensures spares { IsTrue F.tells → Spares self.old.sectors self.old.table self.new.table }
-        ensures header { IsTrue F.tells → KeepsWholeHeader self.old self.new }
-        ensures others { IsTrue F.tells → KeepsOtherSectors self.old self.new }
+        ensures holds { HoldsChanged F.tells self.old self.new result }
+        ensures changes { ChangesDirectory F.tells F.write_faults self.old self.new result }
         ensures slots { IsTrue F.tells → (validation : Validation)
             → HoldsDirectory validation self.old
             → KeepsSlotsOutside (top ∷ inside.now) self.old self.new }
-        ensures limits { KeepsDirectoryLimits self.old self.new }
-        ensures begun { OnOk result (self.new.table.file.begun ≡ true) }
-        ensures refused { IfErr result (DirectoryStopsShort self.old self.new) }
-        ensures err { IfErr result (ChangeRefused (IsDirectoryNotHeld self.old) Unit ⊥ Unit) }
-        ensures counts { IsTrue F.tells → CountsFailure
-            F.write_faults result self.old.table.file.failures self.new.table.file.failures }
     {
         clear_storage(
             &mut self.allocator,
@@ -479,31 +450,13 @@ impl<F: Medium, A: Heap> Directory<F, A> {
         requires callable { W.IsAlwaysCallable change }
         requires root_len { number ≡ 0 → (f : Fields)
             → W.post change (fields_in (entry_at self.old.entries 0)) f → f.stream_len % 64 ≡ 0 }
-        ensures changed { OnOk result ((f : Fields)
-            × W.post change (fields_in (entry_at self.old.entries number)) f
-            × (self.new.entries ≡ entries_with_fields self.old.entries number f)) }
-        ensures entries { (self.new.entries ≡ self.old.entries)
-            ⊎ ((f : Fields) × W.post change (fields_in (entry_at self.old.entries number)) f
-            × (self.new.entries ≡ entries_with_fields self.old.entries number f)) }
+        ensures sets { SetsEntryFields F.tells number self.old self.new
+            (W.post change (fields_in (entry_at self.old.entries number))) result }
         ensures kept { (self.new.sectors ≡ self.old.sectors)
             × (directory_tables self.new ≡ directory_tables self.old) }
-        ensures holds { IsTrue F.tells
-            → (validation : Validation) → HoldsDirectory validation self.old → ((f : Fields)
-            → W.post change (fields_in (entry_at self.old.entries number)) f → IsValidEntry
-            (directory_version self.old) (entry_with_fields (entry_at self.old.entries number) f))
-            → OnOk result (HoldsDirectory validation self.new) }
-        ensures spares { IsTrue F.tells → Spares self.old.sectors self.old.table self.new.table }
-        ensures header { IsTrue F.tells → KeepsWholeHeader self.old self.new }
-        ensures others { IsTrue F.tells → KeepsOtherSectors self.old self.new }
-        ensures slots { IsTrue F.tells → (validation : Validation)
-            → HoldsDirectory validation self.old → KeepsSlotsBut number self.old self.new }
-        ensures limits { KeepsDirectoryLimits self.old self.new }
-        ensures begun { OnOk result (self.new.table.file.begun ≡ true) }
-        ensures refused { IfErr result (DirectoryStopsShort self.old self.new) }
-        ensures err { IfErr result (ChangeRefused (IsDirectoryNotHeld self.old) ⊥ ⊥ Unit) }
-        ensures placed { ArePlaced self.old → IfErr result IsMediumError }
-        ensures counts { IsTrue F.tells → CountsFailure
-            F.write_faults result self.old.table.file.failures self.new.table.file.failures }
+        ensures holds { FieldsHold F.tells number self.old self.new
+            (W.post change (fields_in (entry_at self.old.entries number))) result }
+        ensures changes { ChangesDirectory F.tells F.write_faults self.old self.new result }
     {
         change_fields(
             &mut self.allocator,
@@ -523,30 +476,13 @@ impl<F: Medium, A: Heap> Directory<F, A> {
         requires callable { W.IsAlwaysCallable change }
         requires root_len { (f : Fields)
             → W.post change (fields_in (entry_at self.old.entries 0)) f → f.stream_len % 64 ≡ 0 }
-        ensures changed { OnOk result ((f : Fields)
-            × W.post change (fields_in (entry_at self.old.entries 0)) f
-            × (self.new.entries ≡ entries_with_fields self.old.entries 0 f)) }
-        ensures entries { (self.new.entries ≡ self.old.entries)
-            ⊎ ((f : Fields) × W.post change (fields_in (entry_at self.old.entries 0)) f
-            × (self.new.entries ≡ entries_with_fields self.old.entries 0 f)) }
+        ensures sets { SetsEntryFields F.tells 0 self.old self.new
+            (W.post change (fields_in (entry_at self.old.entries 0))) result }
         ensures kept { (self.new.sectors ≡ self.old.sectors)
             × (directory_tables self.new ≡ directory_tables self.old) }
-        ensures holds { IsTrue F.tells
-            → (validation : Validation) → HoldsDirectory validation self.old → ((f : Fields)
-            → W.post change (fields_in (entry_at self.old.entries 0)) f → IsValidEntry
-            (directory_version self.old) (entry_with_fields (entry_at self.old.entries 0) f))
-            → OnOk result (HoldsDirectory validation self.new) }
-        ensures spares { IsTrue F.tells → Spares self.old.sectors self.old.table self.new.table }
-        ensures header { IsTrue F.tells → KeepsWholeHeader self.old self.new }
-        ensures slots { IsTrue F.tells → (validation : Validation)
-            → HoldsDirectory validation self.old → KeepsSlotsBut 0 self.old self.new }
-        ensures limits { KeepsDirectoryLimits self.old self.new }
-        ensures begun { OnOk result (self.new.table.file.begun ≡ true) }
-        ensures refused { IfErr result (DirectoryStopsShort self.old self.new) }
-        ensures err { IfErr result (ChangeRefused (IsDirectoryNotHeld self.old) ⊥ ⊥ Unit) }
-        ensures placed { ArePlaced self.old → IfErr result IsMediumError }
-        ensures counts { IsTrue F.tells → CountsFailure
-            F.write_faults result self.old.table.file.failures self.new.table.file.failures }
+        ensures holds { FieldsHold F.tells 0 self.old self.new
+            (W.post change (fields_in (entry_at self.old.entries 0))) result }
+        ensures changes { ChangesRoot F.tells F.write_faults self.old self.new result }
     {
         let _fact = self.root_dir_entry();
         self.with_dir_entry_mut(0, change)

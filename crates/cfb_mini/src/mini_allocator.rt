@@ -1,6 +1,7 @@
 //! The allocator of mini sectors (MS-CFB 2.4): mini chains are begun, extended, cut and freed, in the MiniFAT, in the mini stream and in
 //! the root's entry.
 ghost use Rattle.std.specs.Prelude.{◌≡◌, ◌≢◌, ◌↔◌, ◌⊎◌, ℕ, ◌+◌, ◌-◌, ◌/◌, ◌%◌, ◌^◌, ◌<◌, ◌≤◌, ◌∷◌, ◌++◌, List, [], Option, length, map, max, min, chars, take, drop, true, false, Contains, IsTrue, MatchOption, vec_len, option_map, unwrap_or, IfOk, IfErr, IfSome, IsErrAnd, OnOk, OnErr};
+ghost use Rattle.cfb_mini.specs.cfb_directory.Changing.{RemovesSafely, SetsEntryFields, FieldsRefused, InsertsInDirectory};
 ghost use Rattle.cfb_mini.specs.cfb_alloc.Writing.{FlushesFile};
 ghost use Rattle.cfb_mini.specs.cfb_alloc.Freeing.{FreesTheChain};
 ghost use Rattle.cfb_mini.specs.cfb_alloc.Taking.{TakesOneForMini, BeginsChain, ExtendsChain};
@@ -847,22 +848,13 @@ impl<F: Medium, A: Heap + Clone> MiniAllocator<F, A> {
         moment: Timestamp,
     ) -> Result<u32, Error>
         requires { CanInsert self.old.directory parent (chars name.now) kind }
-        ensures inserted { IfOk result (λ n. InsertsObject self.old.directory self.new.directory
-            parent n (chars name.now) kind moment) }
-        ensures kept { KeepsSectorsIfFree self.old.directory self.new.directory }
-        ensures written { IsTrue F.tells
-            → OnOk result (WritesDirectory self.old.directory self.new.directory) }
+        ensures inserts { InsertsInDirectory F.tells F.write_faults parent (chars name.now) kind
+            moment self.old.directory self.new.directory result }
         ensures holds { IsTrue F.tells → (validation : Validation)
             → HoldsMini validation self.old → OnOk result (HoldsMini validation self.new) }
-        ensures spared { IsTrue F.tells
-            → SparesRest self.old.directory self.new.directory parent }
         ensures limits { KeepsLimits self.old self.new }
         ensures mini { KeepsMini self.old self.new }
         ensures refused { IfErr result (StopsShort self.old self.new) }
-        ensures err { IfErr result (ChangeRefused (IsDirectoryNotHeld self.old.directory)
-            (IsFullForEntry self.old.directory → ⊥) (IsFullForEntry self.old.directory) Unit) }
-        ensures counts { IsTrue F.tells → CountsFailure F.write_faults result
-            (table_of self.old).file.failures (table_of self.new).file.failures }
     {
         self.directory.insert_dir_entry(parent, name, kind, moment)
     }
@@ -880,12 +872,8 @@ impl<F: Medium, A: Heap + Clone> MiniAllocator<F, A> {
             → HasChildren self.old.directory.cases self.old.directory.entries parent list
             → (n : ℕ) × IsChildNamed self.old.directory.cases self.old.directory.entries
             (chars name.now) list n × ((entry_at self.old.directory.entries n).child ≡ no_stream) }
-        ensures removed { OnOk result (RemovesEntry self.old.directory.cases
-            self.old.directory.entries self.new.directory.entries parent (chars name.now)) }
-        ensures balanced { OnOk result
-            (KeepsBalance self.old.directory.entries self.new.directory.entries parent) }
-        ensures red_apart { OnOk result
-            (StaysRedApart self.old.directory self.new.directory parent) }
+        ensures removes { RemovesSafely parent (chars name.now) self.old.directory
+            self.new.directory result }
         ensures kept { (self.new.directory.sectors ≡ self.old.directory.sectors)
             × (tables_in self.new ≡ tables_in self.old) }
         ensures holds { IsTrue F.tells → (validation : Validation)
@@ -969,14 +957,8 @@ impl<F: Medium, A: Heap> MiniAllocator<F, A> {
         requires root_len { number ≡ 0
             → (f : Fields) → W.post change (fields_in (entry_at self.old.directory.entries 0)) f
             → f.stream_len % 64 ≡ 0 }
-        ensures changed { OnOk result ((f : Fields)
-            × W.post change (fields_in (entry_at self.old.directory.entries number)) f
-            × (self.new.directory.entries
-            ≡ entries_with_fields self.old.directory.entries number f)) }
-        ensures entries { (self.new.directory.entries ≡ self.old.directory.entries) ⊎ ((f : Fields)
-            × W.post change (fields_in (entry_at self.old.directory.entries number)) f
-            × (self.new.directory.entries
-            ≡ entries_with_fields self.old.directory.entries number f)) }
+        ensures sets { SetsEntryFields F.tells number self.old.directory self.new.directory
+            (W.post change (fields_in (entry_at self.old.directory.entries number))) result }
         ensures kept { (self.new.directory.sectors ≡ self.old.directory.sectors)
             × (tables_in self.new ≡ tables_in self.old) }
         ensures holds { IsTrue F.tells
@@ -992,16 +974,11 @@ impl<F: Medium, A: Heap> MiniAllocator<F, A> {
         ensures header { IsTrue F.tells → KeepsWholeHeader self.old.directory self.new.directory }
         ensures others { IsTrue F.tells
             → KeepsOtherSectors self.old.directory self.new.directory }
-        ensures slots { IsTrue F.tells
-            → (validation : Validation) → HoldsDirectory validation self.old.directory
-            → KeepsSlotsBut number self.old.directory self.new.directory }
         ensures limits { KeepsLimits self.old self.new }
         ensures mini { KeepsMini self.old self.new }
         ensures begun { OnOk result ((table_of self.new).file.begun ≡ true) }
         ensures refused { IfErr result (StopsShort self.old self.new) }
-        ensures err { IfErr result
-            (ChangeRefused (IsDirectoryNotHeld self.old.directory) ⊥ ⊥ Unit) }
-        ensures placed { ArePlaced self.old.directory → IfErr result IsMediumError }
+        ensures error { FieldsRefused self.old.directory result }
         ensures counts { IsTrue F.tells → CountsFailure F.write_faults result
             (table_of self.old).file.failures (table_of self.new).file.failures }
     {

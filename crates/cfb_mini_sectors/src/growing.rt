@@ -16,7 +16,7 @@ ghost use Rattle.cfb_mini_sectors.specs.cfb_tables.Tables.{AreFullTables, AreSiz
 ghost use Rattle.cfb_mini_sectors.specs.cfb_alloc.Alloc.{HoldsTables, IsUsable};
 ghost use Rattle.cfb_mini_sectors.specs.cfb_alloc.Frame.{Spares};
 ghost use Rattle.cfb_mini_sectors.specs.cfb_alloc.ListedChain.{Lengthens, ListBreaksOff};
-ghost use Rattle.cfb_directory.specs.Growing.{IsListedChain, KeepsBounds};
+ghost use Rattle.cfb_directory.specs.Growing.{IsListedChain, KeepsBounds, WritesHeaderBytes};
 ghost use Rattle.cfb_mini_sectors.specs.State.{MiniState, table_of};
 ghost use Rattle.cfb_mini_sectors.specs.Held.{HoldsMiniBut, with_mini_stream, with_minifat_sectors, with_table};
 ghost use Rattle.cfb_mini_sectors.specs.Growing.{BothBreakOff, BreaksOffBegun, EndApart, GainsFilled, GrowsBoth, KeepsInUse, KeepsOutsideMini};
@@ -114,15 +114,8 @@ pub(crate) fn name_minifat<F: Medium, A: Heap>(
         → OnOk result (word_at allocator.new.file.bytes 64 ≡ length sectors.now) }
     ensures long { IsTrue F.tells → OnOk result (68 ≤ length allocator.new.file.bytes) }
     ensures sizes { AreSizes allocator.new.tables.version (sizes_of allocator.new.tables) }
-    ensures holds { IsTrue F.tells
-        → (validation : Validation) → HoldsTables validation allocator.old
-        → OnOk result (HoldsTables validation allocator.new) }
-    ensures others { IsTrue F.tells
-        → ChangesOnlyBytes 60 8 allocator.old.file.bytes allocator.new.file.bytes }
-    ensures spares { IsTrue F.tells → Spares [] allocator.old allocator.new }
-    ensures err { IfErr result IsMediumError }
-    ensures counts { IsTrue F.tells → CountsFailure
-        F.write_faults result allocator.old.file.failures allocator.new.file.failures }
+        ensures writes { WritesHeaderBytes F.tells F.write_faults allocator.old allocator.new 60 8
+            result }
 {
     // The tables' sizes are told with the length.
     let _fact = allocator.file_len();

@@ -1,5 +1,6 @@
 //! Words of the MiniFAT and mini sectors, by their places in sectors of the file (MS-CFB 2.4).
 ghost use Rattle.std.specs.Prelude.{◌≡◌, ◌↔◌, ℕ, ◌+◌, ◌-◌, ◌*◌, ◌/◌, ◌%◌, ◌^◌, ◌<◌, ◌≤◌, max, min, true, length, nat_eq, slice_index, take, drop, Contains, IsTrue, IsErrAnd, IfSome, IfNone, IfOk, IfErr, OnOk, OnErr};
+ghost use Rattle.cfb_mini_sectors.specs.cfb_slots.Writing.{WritesAmongSectors};
 ghost use Rattle.cfb_mini_sectors.specs.cfb_alloc.Reading.{OnlyReadsFile};
 ghost use Rattle.cfb_sectors.specs.Writing.{PutsBytes};
 ghost use Rattle.cfb_sectors.specs.Reading.{ReadsBytesFrom};
@@ -241,13 +242,8 @@ pub fn write_words<F: Medium, A: Heap>(
 ) -> Result<(), Error>
     requires known { HaveWords allocator.old.tables.version sectors.now
         (length allocator.old.tables.fat) numbers.now }
-    ensures tables { allocator.new.tables ≡ allocator.old.tables }
-    ensures kept { allocator.new.file ≡ record allocator.old.file {
-      len = allocator.new.file.len;
-      bytes = allocator.new.file.bytes;
-      failures = allocator.new.file.failures;
-      begun = allocator.new.file.begun;
-    } }
+        ensures among { WritesAmongSectors F.tells F.write_faults allocator.old allocator.new
+            sectors.now result }
     ensures words { IsTrue F.tells
         → IsDistinct nat_eq sectors.now → OnOk result ((m : ℕ) → Contains numbers.now m
         → word_of allocator.old.tables.version allocator.new.file.bytes sectors.now m
@@ -265,16 +261,9 @@ pub fn write_words<F: Medium, A: Heap>(
     ensures header { IsTrue F.tells → (i : ℕ)
         → i < length allocator.old.file.bytes → i < sector_len allocator.old.tables.version
         → slice_index allocator.new.file.bytes i ≡ slice_index allocator.old.file.bytes i }
-    ensures spares { IsTrue F.tells → Spares sectors.now allocator.old allocator.new }
-    ensures holds { IsTrue F.tells
-        → (validation : Validation) → HoldsTables validation allocator.old
-        → ((i : ℕ) → Contains sectors.now i → IsNoTableSector allocator.old.tables i)
-        → OnOk result (HoldsTables validation allocator.new) }
     ensures begun { IsRaised (0 < length numbers.now) allocator.old.file allocator.new.file }
     ensures none { length numbers.now ≡ 0 → (allocator.new ≡ allocator.old) × OnErr result ⊥ }
     ensures err { IfErr result IsMediumError }
-    ensures counts { IsTrue F.tells → CountsFailure
-        F.write_faults result allocator.old.file.failures allocator.new.file.failures }
 {
     let version = allocator.version();
     let mut done = 0;
@@ -428,13 +417,8 @@ pub fn wipe<F: Medium, A: Heap>(
 ) -> Result<(), Error>
     requires known { HaveMinis allocator.old.tables.version stream.now
         (length allocator.old.tables.fat) minis.now }
-    ensures tables { allocator.new.tables ≡ allocator.old.tables }
-    ensures kept { allocator.new.file ≡ record allocator.old.file {
-      len = allocator.new.file.len;
-      bytes = allocator.new.file.bytes;
-      failures = allocator.new.file.failures;
-      begun = allocator.new.file.begun;
-    } }
+        ensures among { WritesAmongSectors F.tells F.write_faults allocator.old allocator.new
+            stream.now result }
     ensures zeros { IsTrue F.tells
         → OnOk result ((m : ℕ) → Contains minis.now m → AreZeros allocator.new.file.bytes
         (mini_start allocator.old.tables.version stream.now m)) }
@@ -450,16 +434,9 @@ pub fn wipe<F: Medium, A: Heap>(
     ensures header { IsTrue F.tells → (i : ℕ)
         → i < length allocator.old.file.bytes → i < sector_len allocator.old.tables.version
         → slice_index allocator.new.file.bytes i ≡ slice_index allocator.old.file.bytes i }
-    ensures spares { IsTrue F.tells → Spares stream.now allocator.old allocator.new }
-    ensures holds { IsTrue F.tells
-        → (validation : Validation) → HoldsTables validation allocator.old
-        → ((i : ℕ) → Contains stream.now i → IsNoTableSector allocator.old.tables i)
-        → OnOk result (HoldsTables validation allocator.new) }
     ensures begun { IsRaised (0 < length minis.now) allocator.old.file allocator.new.file }
     ensures none { length minis.now ≡ 0 → (allocator.new ≡ allocator.old) × OnErr result ⊥ }
     ensures err { IfErr result IsMediumError }
-    ensures counts { IsTrue F.tells → CountsFailure
-        F.write_faults result allocator.old.file.failures allocator.new.file.failures }
 {
     let mut done = 0;
     while done < minis.len() {

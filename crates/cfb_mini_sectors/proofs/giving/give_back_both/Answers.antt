@@ -82,7 +82,7 @@ returns-in_err-name_minifat-clause-sectors g c told i out =
     let v = a.tables.version in
     SectorStays_next v v i a.file.bytes b.file.bytes n.file.bytes refl
     ((c.cut_longer.ensures.changes told).sectors i (λ m. out (Contains-append_left a.tables.fat_sectors a.tables.difat_sectors i m)))
-    (after_header v i 60 8 b.file.bytes n.file.bytes (c.name_minifat.ensures.others told) (omega arith))
+    (after_header v i 60 8 b.file.bytes n.file.bytes (c.name_minifat.ensures.writes.others told) (omega arith))
 
 pub returns-clause-sectors : goal.returns-clause-sectors
 returns-clause-sectors g c told i out =
@@ -97,7 +97,7 @@ returns-clause-sectors g c told i out =
     SectorStays_next v v i a.file.bytes n.file.bytes e.file.bytes refl
     (SectorStays_next v v i a.file.bytes b.file.bytes n.file.bytes refl
     ((c.cut_longer.ensures.changes told).sectors i (λ m. out (Contains-append_left a.tables.fat_sectors a.tables.difat_sectors i m)))
-    (after_header v i 60 8 b.file.bytes n.file.bytes (c.name_minifat.ensures.others told) (omega arith))) second
+    (after_header v i 60 8 b.file.bytes n.file.bytes (c.name_minifat.ensures.writes.others told) (omega arith))) second
 
 -- the header, where it speaks neither of the tables nor of the MiniFAT
 pub returns-in_err-cut_longer-clause-header : goal.returns-in_err-cut_longer-clause-header
@@ -106,12 +106,12 @@ returns-in_err-cut_longer-clause-header g c told = outside-changed _ _ _ _ (c.cu
 pub returns-in_err-name_minifat-clause-header : goal.returns-in_err-name_minifat-clause-header
 returns-in_err-name_minifat-clause-header g c told =
     let change = c.cut_longer.ensures.changes told in
-    outside_named _ _ _ (outside-changed _ _ _ _ change) change.no_shorter (c.name_minifat.ensures.others told)
+    outside_named _ _ _ (outside-changed _ _ _ _ change) change.no_shorter (c.name_minifat.ensures.writes.others told)
 
 pub returns-clause-header : goal.returns-clause-header
 returns-clause-header g c told i lt out =
     let change = c.cut_longer.ensures.changes told in
-    let named = c.name_minifat.ensures.others told in
+    let named = c.name_minifat.ensures.writes.others told in
     let one = change.no_shorter in
     let two = named.no_shorter in
     outside-changed _ _ _ _ (c.cut_longer-2.ensures.changes told) i (omega (arith, lt, one, two)) out
@@ -130,7 +130,7 @@ returns-in_err-name_minifat-clause-spares g c told =
     let stream = c.args.stream.now.items in
     spares-then (sectors ++ stream) [] c.args.allocator.now c.cut_longer.new.allocator c.name_minifat.new.allocator (λ i m. absurd (Contains-nil i m))
     (spares-less stream (sectors ++ stream) c.args.allocator.now c.cut_longer.new.allocator (Contains-append_right sectors stream) (c.cut_longer.ensures.spares told))
-    (c.name_minifat.ensures.spares told)
+    (c.name_minifat.ensures.writes.spares told)
 
 pub returns-clause-spares : goal.returns-clause-spares
 returns-clause-spares g c told =
@@ -140,7 +140,7 @@ returns-clause-spares g c told =
     (λ i m. inr (Contains-append_left sectors stream i m))
     (spares-then (sectors ++ stream) [] c.args.allocator.now c.cut_longer.new.allocator c.name_minifat.new.allocator (λ i m. absurd (Contains-nil i m))
     (spares-less stream (sectors ++ stream) c.args.allocator.now c.cut_longer.new.allocator (Contains-append_right sectors stream) (c.cut_longer.ensures.spares told))
-    (c.name_minifat.ensures.spares told))
+    (c.name_minifat.ensures.writes.spares told))
     (c.cut_longer-2.ensures.spares told)
 
 -- ---- the header's words
@@ -184,7 +184,7 @@ returns-clause-held g c told late validation s table listed stream_is h unnamed 
     let tables : HoldsTables validation a = subst (HoldsTables validation) table h.directory.tables in
     let tables_b : HoldsTables validation b = c.in_ok-cut_longer.ensures.holds told validation tables
     (λ z. subst (λ (l : List ℕ). IsUnnamed a.tables.fat (first_or_end l)) is (unnamed_stream z)) in
-    let tables_n : HoldsTables validation n = c.in_ok-name_minifat.ensures.holds told validation tables_b in
+    let tables_n : HoldsTables validation n = c.in_ok-name_minifat.ensures.writes.holds told validation tables_b in
     let left_unnamed : m ≡ 0 → IsUnnamed n.tables.fat (first_or_end sectors) = λ z.
     subst (λ (t : TableState). IsUnnamed t.fat (first_or_end sectors)) (sym c.name_minifat.ensures.tables)
     (unnamed-left (ends_of (take k stream)) (drop k stream) a.tables b.tables (first_or_end sectors) c.in_ok-cut_longer.ensures.shortened.given_back
@@ -198,7 +198,7 @@ returns-clause-held g c told late validation s table listed stream_is h unnamed 
     n.file.bytes b.file.bytes m sectors kept c.is_empty.ensures (c.in_ok-name_minifat.ensures.first told) (λ old. c.name_minifat.ensures.first_kept told old long) was in
     let count_is : word_at n.file.bytes 64 ≡ length (take m sectors) = c.in_ok-name_minifat.ensures.count told ∙ ap (λ (l : List ℕ). length l) kept in
     on_both _ _ _ c.cut_longer-2.result
-    (λ second holds. both-given validation late s h m k sectors' stream' b n e first tables_b spares change room c.name_minifat.ensures.tables (c.name_minifat.ensures.others told)
+    (λ second holds. both-given validation late s h m k sectors' stream' b n e first tables_b spares change room c.name_minifat.ensures.tables (c.name_minifat.ensures.writes.others told)
     (subst (λ (l : List ℕ). Shortens m l sectors' n.tables e.tables) (sym listed) second) holds
     (subst (λ (l : List ℕ). Spares l n e) (sym listed) (c.cut_longer-2.ensures.spares told)) (c.cut_longer-2.ensures.changes told) few
     (first_is ∙ ap first_or_end (sym second.listed)) (count_is ∙ ap (λ (l : List ℕ). length l) (sym second.listed)))

@@ -102,18 +102,18 @@ returns-clause-header g c told =
     let a = c.args.allocator.now in
     let b = c.extend_listed.new.self in
     let others = c.extend_listed.ensures.takes.others told in
-    outside_named a.file.bytes b.file.bytes c.name_minifat.new.allocator.file.bytes (outside_others a b others) others.no_shorter (c.name_minifat.ensures.others told)
+    outside_named a.file.bytes b.file.bytes c.name_minifat.new.allocator.file.bytes (outside_others a b others) others.no_shorter (c.name_minifat.ensures.writes.others told)
 
 pub returns-clause-in_use : goal.returns-clause-in_use
 returns-clause-in_use g c told =
     let a = c.args.allocator.now in
     let b = c.extend_listed.new.self in
-    in_use_named a b c.name_minifat.new.allocator (in_use_others a b (c.extend_listed.ensures.takes.others told)) (c.name_minifat.ensures.others told)
+    in_use_named a b c.name_minifat.new.allocator (in_use_others a b (c.extend_listed.ensures.takes.others told)) (c.name_minifat.ensures.writes.others told)
 
 pub returns-clause-spares : goal.returns-clause-spares
 returns-clause-spares g c told =
     spares-then (ends_of c.args.sectors.now.items) [] c.args.allocator.now c.extend_listed.new.self c.name_minifat.new.allocator (λ i m. absurd (Contains-nil i m))
-    (c.extend_listed.ensures.takes.spares told) (c.name_minifat.ensures.spares told)
+    (c.extend_listed.ensures.takes.spares told) (c.name_minifat.ensures.writes.spares told)
 
 pub returns-clause-bounds : goal.returns-clause-bounds
 returns-clause-bounds g c =
@@ -129,7 +129,7 @@ returns-clause-filled g c told validation h =
     let n = c.name_minifat.new.allocator in
     all_ok c.name_minifat.result
     (subst (λ (t : TableState). GainsFilled Fat xs ys t.version n.file.bytes) (sym c.name_minifat.ensures.tables)
-    (filled_named Fat xs ys b.tables.version b.file.bytes n.file.bytes (c.name_minifat.ensures.others told) (c.in_ok-extend_listed.ensures.filled told validation h)))
+    (filled_named Fat xs ys b.tables.version b.file.bytes n.file.bytes (c.name_minifat.ensures.writes.others told) (c.in_ok-extend_listed.ensures.filled told validation h)))
 
 -- the first one, where there was none
 is_new : (n : ℕ) (xs : List ℕ) (b : Bool) → n ≡ length xs → b ≡ nat_eq n 0 → xs ≡ [] → b ≡ true
@@ -174,7 +174,7 @@ returns-clause-refused g c =
     let made = subst (λ (t : TableState). Lengthens c.args.count xs ys a.tables t) (sym c.name_minifat.ensures.tables) c.in_ok-extend_listed.ensures.extends.lengthened in
     err_map IsMediumError (ListBreaksOff (Lengthens c.args.count) xs ys a n)
     (λ e m. medium-broke ((n.file.begun ≡ true) × Lengthens c.args.count xs ys a.tables n.tables) ((n ≡ a) × (ys ≡ xs)) (begun, made) e m) c.name_minifat.result
-    c.name_minifat.ensures.err
+    c.name_minifat.ensures.writes.err
 
 pub returns-clause-err : goal.returns-clause-err
 returns-clause-err g c =
@@ -183,7 +183,7 @@ returns-clause-err g c =
     err_map IsMediumError
     (ChangeRefused ((IsUsable a.tables → ⊥) ⊎ (EndsChain a.tables.fat xs → ⊥)) (IsTooFew a.tables c.args.count → ⊥) (IsTooFew a.tables c.args.count) (Unit {0}))
     (λ e m. medium_changed ((IsUsable a.tables → ⊥) ⊎ (EndsChain a.tables.fat xs → ⊥)) (IsTooFew a.tables c.args.count → ⊥) (IsTooFew a.tables c.args.count) e m)
-    c.name_minifat.result c.name_minifat.ensures.err
+    c.name_minifat.result c.name_minifat.ensures.writes.err
 
 -- ---- what the bytes hold of the mini sectors
 
@@ -221,5 +221,5 @@ returns-clause-held g c told late validation s table listed h =
     on_three (word_at n.file.bytes 60 ≡ first_or_end ys) (word_at n.file.bytes 64 ≡ length ys) (HoldsTables validation n)
     (HoldsMiniBut late validation (with_minifat_sectors (with_table s n) ys)) c.name_minifat.result
     (λ first_is count_is holds. but-minifat-grows validation late s h ys b n grown c.name_minifat.ensures.tables holds c.name_minifat.ensures.sizes
-    (c.name_minifat.ensures.others told) first_is count_is)
-    (returns-clause-first_kept g c told long first) count (c.name_minifat.ensures.holds told validation (ok.takes.holds told validation tables))
+    (c.name_minifat.ensures.writes.others told) first_is count_is)
+    (returns-clause-first_kept g c told long first) count (c.name_minifat.ensures.writes.holds told validation (ok.takes.holds told validation tables))

@@ -1,4 +1,5 @@
-use Rattle.std.proofs.Common.{◌≡◌, ◌≤◌, sym, ◌∙◌, ap, subst, length, [], arith}
+use Rattle.std.proofs.lemmas.Grind.{common_steps}
+use Rattle.std.proofs.Common.{◌≡◌, ◌≤◌, sym, ◌∙◌, ap, subst, length, [], arith, rules}
 use Rattle.cfb_format.specs.Bytes.{word_at}
 use Rattle.cfb_format.proofs.ByteLemmas.{ChangesOnly_wider}
 use Rattle.cfb_sectors.specs.Sectors.{SectorFile}
@@ -11,16 +12,26 @@ use Rattle.cfb_mini_sectors.proofs.MinifatNamed.{both_words, first_named, first_
 use Rattle.cfb_mini_sectors.proofs.growing.name_minifat.Goals as goal
 use Rattle.cfb_format.proofs.Members.{Contains-nil}
 
-pub returns-in_err-name_first-clause-others : goal.returns-in_err-name_first-clause-others
-returns-in_err-name_first-clause-others g c told = ChangesOnly_wider 60 8 60 4 _ _ (omega arith) (omega arith) (c.name_first.ensures.others told)
+pub returns-in_err-name_first-clause-writes : goal.returns-in_err-name_first-clause-writes
+returns-in_err-name_first-clause-writes g c = record {
+  holds = first_of (search rules, grind (arith, common_steps));
+  others = λ told. ChangesOnly_wider 60 8 60 4 _ _ (omega arith) (omega arith) (c.name_first.ensures.others told);
+  spares = first_of (search rules, grind (arith, common_steps));
+  err = first_of (search rules, grind (arith, common_steps));
+  counts = first_of (search rules, grind (arith, common_steps));
+}
 
-pub returns-clause-others : goal.returns-clause-others
-returns-clause-others g c told = both_words _ _ _ (c.name_first.ensures.others told) (c.write_header_word.ensures.writes.others told)
-
-pub returns-clause-spares : goal.returns-clause-spares
-returns-clause-spares g c told =
-    spares-then [] [] c.args.allocator.now c.name_first.new.allocator c.write_header_word.new.self (λ i m. absurd (Contains-nil i m))
-    (c.name_first.ensures.spares told) (c.write_header_word.ensures.writes.spares told)
+pub returns-clause-writes : goal.returns-clause-writes
+returns-clause-writes g c = record {
+  holds = first_of (search rules, grind (arith, common_steps));
+  others = λ told. both_words _ _ _ (c.name_first.ensures.others told) (c.write_header_word.ensures.writes.others told);
+  spares = λ told. (
+      spares-then [] [] c.args.allocator.now c.name_first.new.allocator c.write_header_word.new.self (λ i m. absurd (Contains-nil i m))
+      (c.name_first.ensures.spares told) (c.write_header_word.ensures.writes.spares told)
+  );
+  err = first_of (search rules, grind (arith, common_steps));
+  counts = first_of (search rules, grind (arith, common_steps));
+}
 
 pub returns-clause-first : goal.returns-clause-first
 returns-clause-first g c told new = all_ok c.write_header_word.result

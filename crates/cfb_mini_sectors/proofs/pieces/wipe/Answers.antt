@@ -1,4 +1,5 @@
-use Rattle.std.proofs.Common.{◌≡◌, ◌+◌, ◌-◌, inl, inr, refl, sym, ◌∙◌, ap, subst, arith, length, get_or}
+use Rattle.std.proofs.lemmas.Grind.{common_steps}
+use Rattle.std.proofs.Common.{◌≡◌, ◌+◌, ◌-◌, inl, inr, refl, sym, ◌∙◌, ap, subst, arith, length, get_or, rules}
 use Rattle.std.proofs.lemmas.Bool.{cases_lt}
 use Rattle.std.proofs.lemmas.List.{get_or_default}
 use Rattle.cfb_format.specs.declared.version.Version.{Version}
@@ -64,6 +65,7 @@ loop-done-preserved g c =
     }
 
 -- the write that failed
+
 pub returns-in_err-count-clause-others : goal.returns-in_err-count-clause-others
 returns-in_err-count-clause-others g c told =
     let inv = c.loop-done.invariant in
@@ -87,15 +89,23 @@ returns-in_err-count-clause-header g c told =
     let inv = c.loop-done.invariant in
     (among_after c.args.stream.now c.args.allocator.now c.loop-done.allocator c.wipe_row.new.allocator inv.tables (inv.among told) (c.wipe_row.ensures.among told)).header
 
-pub returns-in_err-count-clause-spares : goal.returns-in_err-count-clause-spares
-returns-in_err-count-clause-spares g c told =
-    let inv = c.loop-done.invariant in
-    (among_after c.args.stream.now c.args.allocator.now c.loop-done.allocator c.wipe_row.new.allocator inv.tables (inv.among told) (c.wipe_row.ensures.among told)).spares
+pub returns-in_err-count-clause-among : goal.returns-in_err-count-clause-among
+returns-in_err-count-clause-among g c = record {
+  tables = first_of (search rules, grind (arith, common_steps));
+  kept = first_of (search rules, grind (arith, common_steps));
+  holds = first_of (search rules, grind (arith, common_steps));
+  spares = λ told. (
+      let inv = c.loop-done.invariant in
+      (among_after c.args.stream.now c.args.allocator.now c.loop-done.allocator c.wipe_row.new.allocator inv.tables (inv.among told) (c.wipe_row.ensures.among told)).spares
+  );
+  counts = first_of (search rules, grind (arith, common_steps));
+}
 
 pub returns-in_err-count-clause-none : goal.returns-in_err-count-clause-none
 returns-in_err-count-clause-none g c zero_long = let lt = c.loop-done-test.true in absurd (omega (arith, lt, zero_long))
 
 -- all of them are written
+
 pub returns-clause-zeros : goal.returns-clause-zeros
 returns-clause-zeros g c told m member =
     let a = c.args.allocator.now in
@@ -119,8 +129,14 @@ returns-clause-sectors g c told = (c.loop-done.invariant.among told).others
 pub returns-clause-header : goal.returns-clause-header
 returns-clause-header g c told = (c.loop-done.invariant.among told).header
 
-pub returns-clause-spares : goal.returns-clause-spares
-returns-clause-spares g c told = (c.loop-done.invariant.among told).spares
+pub returns-clause-among : goal.returns-clause-among
+returns-clause-among g c = record {
+  tables = first_of (search rules, grind (arith, common_steps));
+  kept = first_of (search rules, grind (arith, common_steps));
+  holds = first_of (search rules, grind (arith, common_steps));
+  spares = λ told. (c.loop-done.invariant.among told).spares;
+  counts = first_of (search rules, grind (arith, common_steps));
+}
 
 pub returns-clause-begun : goal.returns-clause-begun
 returns-clause-begun g c =

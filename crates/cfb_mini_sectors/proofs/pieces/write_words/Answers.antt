@@ -1,4 +1,5 @@
-use Rattle.std.proofs.Common.{◌≡◌, ◌<◌, ◌≤◌, ◌+◌, ◌-◌, ◌*◌, ◌%◌, ◌^◌, inl, inr, ℕ, List, refl, sym, ◌∙◌, ap, subst, arith, length, get_or, take, length-take, get_or-take}
+use Rattle.std.proofs.lemmas.Grind.{common_steps}
+use Rattle.std.proofs.Common.{◌≡◌, ◌<◌, ◌≤◌, ◌+◌, ◌-◌, ◌*◌, ◌%◌, ◌^◌, inl, inr, ℕ, List, refl, sym, ◌∙◌, ap, subst, arith, length, get_or, take, length-take, get_or-take, rules}
 use Rattle.std.proofs.lemmas.Bool.{cases_lt}
 use Rattle.std.proofs.lemmas.List.{get_or_default}
 use Rattle.std.proofs.lemmas.List.Elements.{Contains-get_or}
@@ -114,6 +115,7 @@ loop-done-preserved g c =
     }
 
 -- the write that failed
+
 pub returns-in_err-write_run-clause-others : goal.returns-in_err-write_run-clause-others
 returns-in_err-write_run-clause-others g c told =
     let a = c.args.allocator.now in
@@ -165,15 +167,23 @@ returns-in_err-write_run-clause-header g c told =
     let inv = c.loop-done.invariant in
     (among_after c.args.sectors.now c.args.allocator.now c.loop-done.allocator c.write_run.new.allocator inv.tables (inv.among told) (c.write_run.ensures.among told)).header
 
-pub returns-in_err-write_run-clause-spares : goal.returns-in_err-write_run-clause-spares
-returns-in_err-write_run-clause-spares g c told =
-    let inv = c.loop-done.invariant in
-    (among_after c.args.sectors.now c.args.allocator.now c.loop-done.allocator c.write_run.new.allocator inv.tables (inv.among told) (c.write_run.ensures.among told)).spares
+pub returns-in_err-write_run-clause-among : goal.returns-in_err-write_run-clause-among
+returns-in_err-write_run-clause-among g c = record {
+  tables = first_of (search rules, grind (arith, common_steps));
+  kept = first_of (search rules, grind (arith, common_steps));
+  holds = first_of (search rules, grind (arith, common_steps));
+  spares = λ told. (
+      let inv = c.loop-done.invariant in
+      (among_after c.args.sectors.now c.args.allocator.now c.loop-done.allocator c.write_run.new.allocator inv.tables (inv.among told) (c.write_run.ensures.among told)).spares
+  );
+  counts = first_of (search rules, grind (arith, common_steps));
+}
 
 pub returns-in_err-write_run-clause-none : goal.returns-in_err-write_run-clause-none
 returns-in_err-write_run-clause-none g c zero_long = let lt = c.loop-done-test.true in absurd (omega (arith, lt, zero_long))
 
 -- all of them are written
+
 pub returns-clause-words : goal.returns-clause-words
 returns-clause-words g c told once m member =
     let a = c.args.allocator.now in
@@ -197,8 +207,14 @@ returns-clause-sectors g c told = (c.loop-done.invariant.among told).others
 pub returns-clause-header : goal.returns-clause-header
 returns-clause-header g c told = (c.loop-done.invariant.among told).header
 
-pub returns-clause-spares : goal.returns-clause-spares
-returns-clause-spares g c told = (c.loop-done.invariant.among told).spares
+pub returns-clause-among : goal.returns-clause-among
+returns-clause-among g c = record {
+  tables = first_of (search rules, grind (arith, common_steps));
+  kept = first_of (search rules, grind (arith, common_steps));
+  holds = first_of (search rules, grind (arith, common_steps));
+  spares = λ told. (c.loop-done.invariant.among told).spares;
+  counts = first_of (search rules, grind (arith, common_steps));
+}
 
 pub returns-clause-begun : goal.returns-clause-begun
 returns-clause-begun g c =

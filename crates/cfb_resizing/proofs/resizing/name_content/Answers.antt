@@ -18,10 +18,10 @@ returns-clause-named g c =
     let s = c.args.mini.now in
     let i = c.args.entry in
     on_ok_weaker c.with_dir_entry_mut.result
-    (λ w. named-at s i c.args.start c.args.size c.requires.stream c.with_dir_entry_mut.new.self w.0 (search rules) w.2) c.with_dir_entry_mut.ensures.changed
+    (λ w. named-at s i c.args.start c.args.size c.requires.stream c.with_dir_entry_mut.new.self w.0 (search rules) w.2) c.with_dir_entry_mut.ensures.sets.changed
 
 pub returns-clause-entries : goal.returns-clause-entries
-returns-clause-entries g c = elim c.with_dir_entry_mut.ensures.entries [
+returns-clause-entries g c = elim c.with_dir_entry_mut.ensures.sets.entries [
   | inl same ↦ same-entries-moved c.args.mini.now c.with_dir_entry_mut.new.self c.args.entry same
   | inr w ↦ named-moves c.args.mini.now c.args.entry c.args.start c.args.size c.requires.stream c.with_dir_entry_mut.new.self w.0 (search rules) w.2
 ]
@@ -35,7 +35,7 @@ returns-clause-holds g c told validation held small =
     (λ zero. absurd (stream-is-no-root s i c.requires.stream zero))
 
 pub returns-clause-root : goal.returns-clause-root
-returns-clause-root g c = elim c.with_dir_entry_mut.ensures.entries [
+returns-clause-root g c = elim c.with_dir_entry_mut.ensures.sets.entries [
   | inl same ↦ ap (λ (es : List Entry). entry_at es 0) same
   | inr w ↦ named-root c.args.mini.now c.args.entry c.args.start c.args.size c.requires.stream c.with_dir_entry_mut.new.self w.0 (search rules) w.2
 ]

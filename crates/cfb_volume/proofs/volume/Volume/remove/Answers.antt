@@ -205,7 +205,7 @@ removed g c told =
     was-removed c.args.self.now mid c.remove_dir_entry.new.self c.args.parent c.args.child (chars c.args.name.now)
     (subst (λ (m : MiniState). WasEmptied m mid c.args.child) e (c.in_ok-empty_object.ensures.gives.emptied told))
     (subst (λ (m : MiniState). (entry_at (entries_of m) c.args.child).obj_type ≢ Stream → mid ≡ m) e c.empty_object.ensures.gives.none)
-    c.requires.child.storage c.requires.child.named w.removed w.balanced w.kept w.mini w.limits (w.spares told) (w.header told) (λ v held. w.holds told v held)
+    c.requires.child.storage c.requires.child.named w.removes.removed w.removes.balanced w.kept w.mini w.limits (w.spares told) (w.header told) (λ v held. w.holds told v held)
 
 pub returns-clause-object : goal.returns-clause-object
 returns-clause-object g c =
@@ -267,7 +267,7 @@ returns-clause-takes g c = record {
       let e = ap (λ (f : FileState). f.base) c.self.view_is in
       let moves = subst (λ (m : MiniState). MovesAlone m c.empty_object.new.mini c.args.child) e c.empty_object.ensures.changes.moves in
       subst (λ (m : MiniState). TakesNoSlot old.base m) (sym c.end_change.ensures) (record {
-        slots = w.removed.removed.longer ∙ moves.entries.same_length;
+        slots = w.removes.removed.removed.longer ∙ moves.entries.same_length;
         fat = ap (λ (t : TableState). length t.fat) w.kept.1 ∙ c.empty_object.ensures.changes.takes_none ∙ ap (λ (m : MiniState). length (tables_in m).fat) e;
       })
       );

@@ -84,7 +84,7 @@ returns-in_err-with_dir_entry_mut-clause-err g c told holds =
     let p = err_from_is_err_and c.from_residual.result c.from_residual.ensures.1 in
     let back = sym (ap (λ (f : FileState). f.base) c.self.view_is) in
     let held = subst (λ (m : MiniState). HoldsMini Permissive m) back (holds.sound c.requires.can_change.sound).held in
-    rw (p.1, p.2) (mark-refused s mid (IsDirectoryNotHeld s.directory) (λ none. none Permissive held.directory) c.in_err-with_dir_entry_mut.field-0.0 c.in_err-with_dir_entry_mut.ensures.err
+    rw (p.1, p.2) (mark-refused s mid (IsDirectoryNotHeld s.directory) (λ none. none Permissive held.directory) c.in_err-with_dir_entry_mut.field-0.0 c.in_err-with_dir_entry_mut.ensures.error.err
     c.in_err-with_dir_entry_mut.ensures.refused)
 
 -- ---- other fields
@@ -101,7 +101,7 @@ marked g c =
     let e = ap (λ (f : FileState). f.base) c.self.view_is in
     let order : AreInOrder (cases_of s) (entries_of s) = c.entries-entries.ensures.in_order in
     let reached = subst (λ (m : MiniState). (o : Outline) → IsOutline (cases_of m) (entries_of m) o → IsReached o n) (sym e) c.requires.can_set.reached in
-    let changed = subst (λ (m : MiniState). (f : Fields) × g.W.FnOnce.post c.args.change (fields_in (entry_at (entries_of m) n), tt) f × (entries_of mid ≡ entries_with_fields (entries_of m) n f)) e w.changed in
+    let changed = subst (λ (m : MiniState). (f : Fields) × g.W.FnOnce.post c.args.change (fields_in (entry_at (entries_of m) n), tt) f × (entries_of mid ≡ entries_with_fields (entries_of m) n f)) e w.sets.changed in
     let kept = subst (λ (m : MiniState). (mid.directory.sectors ≡ m.directory.sectors) × (tables_in mid ≡ tables_in m)) e w.kept in
     let is = subst (λ (m : MiniState). IsOutline (cases_of m) (entries_of m) order.outline) e order.is in
     let starts = subst (λ (m : MiniState). (f : Fields) → g.W.FnOnce.post c.args.change (fields_in (entry_at (entries_of m) n), tt) f → f.start_sector ≡ (entry_at (entries_of m) n).start_sector)
