@@ -33,7 +33,7 @@ returns-clause-placed g c =
     (λ both. grown-placed s t more stream lacks.minifat lacks.mini_stream
     (subst (λ (a : AllocatorState). GrowsBoth lacks.minifat lacks.mini_stream s.minifat_sectors more (mini_stream_of s) stream a.tables t.tables) c.allocator_mut.ensures.value both)
     c.requires.sectors.placed)
-    c.grow_both-grown.ensures.grown
+    c.grow_both-grown.ensures.longer.grown
 
 pub returns-clause-words : goal.returns-clause-words
 returns-clause-words g c =
@@ -49,7 +49,7 @@ returns-clause-words g c =
     (λ both. grown-words s t more stream lacks.minifat lacks.mini_stream
     (subst (λ (a : AllocatorState). GrowsBoth lacks.minifat lacks.mini_stream s.minifat_sectors more (mini_stream_of s) stream a.tables t.tables) c.allocator_mut.ensures.value both)
     c.args.count is)
-    c.grow_both-grown.ensures.grown
+    c.grow_both-grown.ensures.longer.grown
 
 pub returns-clause-minis : goal.returns-clause-minis
 returns-clause-minis g c =
@@ -66,7 +66,7 @@ returns-clause-minis g c =
     (λ both. grown-minis s t more stream lacks.minifat lacks.mini_stream
     (subst (λ (a : AllocatorState). GrowsBoth lacks.minifat lacks.mini_stream s.minifat_sectors more (mini_stream_of s) stream a.tables t.tables) c.allocator_mut.ensures.value both)
     c.args.count is)
-    c.grow_both-grown.ensures.grown
+    c.grow_both-grown.ensures.longer.grown
 
 pub returns-clause-minifat : goal.returns-clause-minifat
 returns-clause-minifat g c =
@@ -79,7 +79,7 @@ returns-clause-minifat g c =
     (λ both. grown-sectors s t more stream lacks.minifat lacks.mini_stream
     (subst (λ (a : AllocatorState). GrowsBoth lacks.minifat lacks.mini_stream s.minifat_sectors more (mini_stream_of s) stream a.tables t.tables) c.allocator_mut.ensures.value both)
     c.requires.sectors.minifat)
-    c.grow_both-grown.ensures.grown
+    c.grow_both-grown.ensures.longer.grown
 
 pub returns-clause-mini_stream : goal.returns-clause-mini_stream
 returns-clause-mini_stream g c =
@@ -92,26 +92,26 @@ returns-clause-mini_stream g c =
     (λ both. grown-stream s t more stream lacks.minifat lacks.mini_stream
     (subst (λ (a : AllocatorState). GrowsBoth lacks.minifat lacks.mini_stream s.minifat_sectors more (mini_stream_of s) stream a.tables t.tables) c.allocator_mut.ensures.value both)
     c.requires.sectors.mini_stream)
-    c.grow_both-grown.ensures.grown
+    c.grow_both-grown.ensures.longer.grown
 
 pub returns-clause-held : goal.returns-clause-held
 returns-clause-held g c told validation h =
     let s = mini_of c.args.directory.now c.args.table.now c.args.minifat_sectors.now.items (Some c.args.stream.now.items) in
-    c.grow_both-grown.ensures.held told [] validation s (sym c.allocator_mut.ensures.value) refl refl (held-but validation s h)
+    c.grow_both-grown.ensures.holds.held told [] validation s (sym c.allocator_mut.ensures.value) refl refl (held-but validation s h)
 
 pub returns-clause-spares : goal.returns-clause-spares
 returns-clause-spares g c told =
     let s = mini_of c.args.directory.now c.args.table.now c.args.minifat_sectors.now.items (Some c.args.stream.now.items) in
     let t = c.grow_both-grown.new.allocator in
     system-spares s t
-    (subst (λ (a : AllocatorState). Spares (ends_of s.minifat_sectors ++ ends_of (mini_stream_of s)) a t) c.allocator_mut.ensures.value (c.grow_both-grown.ensures.spares told))
+    (subst (λ (a : AllocatorState). Spares (ends_of s.minifat_sectors ++ ends_of (mini_stream_of s)) a t) c.allocator_mut.ensures.value (c.grow_both-grown.ensures.holds.spares told))
 
 pub returns-clause-mini_spares : goal.returns-clause-mini_spares
 returns-clause-mini_spares g c told validation h =
     let s = mini_of c.args.directory.now c.args.table.now c.args.minifat_sectors.now.items (Some c.args.stream.now.items) in
     let t = c.grow_both-grown.new.allocator in
     in-use-spares validation s t c.grow_both-grown.new.minifat_sectors.items c.grow_both-grown.new.stream.items h
-    (subst (λ (a : AllocatorState). KeepsInUse a t) c.allocator_mut.ensures.value (c.grow_both-grown.ensures.in_use told)) c.grow_both-grown.ensures.listed_stream
+    (subst (λ (a : AllocatorState). KeepsInUse a t) c.allocator_mut.ensures.value (c.grow_both-grown.ensures.holds.in_use told)) c.grow_both-grown.ensures.longer.listed_stream
 
 pub returns-clause-whole : goal.returns-clause-whole
 returns-clause-whole g c told validation h was =
@@ -125,9 +125,9 @@ returns-clause-whole g c told validation h was =
     let before = subst (λ (a : AllocatorState). HoldsTables validation a) (sym c.allocator_mut.ensures.value) h.directory.tables in
     let Zeros = GainsFilled Zero (mini_stream_of s) stream t.tables.version t.file.bytes in
     let with-zeros = on_three _ _ _ (Zeros → IsOfWholeSectors t) c.grow_both-grown.result
-    (λ both now minifat mini_stream. both-whole validation lent t lacks.minifat lacks.mini_stream s.minifat_sectors more (mini_stream_of s) stream now both (of.in_use told).no_shorter
-    minifat mini_stream (subst IsOfWholeSectors (sym c.allocator_mut.ensures.value) was)) of.grown (of.holds told validation before) (of.filled told validation before) in
-    on_both (Zeros → IsOfWholeSectors t) Zeros (IsOfWholeSectors t) c.grow_both-grown.result (λ whole zeros. whole zeros) with-zeros (of.filled_stream told validation before)
+    (λ both now minifat mini_stream. both-whole validation lent t lacks.minifat lacks.mini_stream s.minifat_sectors more (mini_stream_of s) stream now both (of.holds.in_use told).no_shorter
+    minifat mini_stream (subst IsOfWholeSectors (sym c.allocator_mut.ensures.value) was)) of.longer.grown (of.holds.holds told validation before) (of.holds.filled told validation before) in
+    on_both (Zeros → IsOfWholeSectors t) Zeros (IsOfWholeSectors t) c.grow_both-grown.result (λ whole zeros. whole zeros) with-zeros (of.holds.filled_stream told validation before)
 
 pub returns-clause-err : goal.returns-clause-err
 returns-clause-err g c =
@@ -146,7 +146,7 @@ returns-clause-err g c =
     (λ e r. both-refused s (IsTooFew tables (lacks.minifat + lacks.mini_stream)) (IsTooFewFor s c.args.count) e
     (λ few. inr (subst (IsTooFew tables) (λ j. one j + two j) few))
     (subst (λ (a : AllocatorState). refused a e) c.allocator_mut.ensures.value r))
-    c.grow_both-grown.ensures.err
+    c.grow_both-grown.ensures.ends.err
 
 pub returns-clause-above : goal.returns-clause-above
 returns-clause-above g c least =
@@ -155,12 +155,12 @@ returns-clause-above g c least =
     let words : c.len-words.result ≡ length sectors = omega (arith, c.len-words.ensures) in
     let minis : c.len-minis.result ≡ length stream = omega (arith, c.len-minis.ensures) in
     let first : take c.len-words.result c.deref.result.now ≡ sectors =
-    ap (λ n. take n c.deref.result.now) words ∙ listed-before sectors c.deref.result.now _ (c.deref.ensures.value ∙ c.grow_both-grown.ensures.listed) in
+    ap (λ n. take n c.deref.result.now) words ∙ listed-before sectors c.deref.result.now _ (c.deref.ensures.value ∙ c.grow_both-grown.ensures.longer.listed) in
     let second : take c.len-minis.result c.deref-2.result.now ≡ stream =
-    ap (λ n. take n c.deref-2.result.now) minis ∙ listed-before stream c.deref-2.result.now _ (c.deref-2.ensures.value ∙ c.grow_both-grown.ensures.listed_stream) in
+    ap (λ n. take n c.deref-2.result.now) minis ∙ listed-before stream c.deref-2.result.now _ (c.deref-2.ensures.value ∙ c.grow_both-grown.ensures.longer.listed_stream) in
     least-kept (c.deref.result.now ++ c.deref-2.result.now) (c.grow_both-grown.new.minifat_sectors.items ++ c.grow_both-grown.new.stream.items) c.above_both.result
     (λ j. sym c.deref.ensures.value j ++ sym c.deref-2.ensures.value j)
     (c.above_both.ensures (least-kept (sectors ++ stream) (take c.len-words.result c.deref.result.now ++ take c.len-minis.result c.deref-2.result.now) c.args.above.now (λ j. first j ++ second j) least))
 
 pub returns-clause-goes_on : goal.returns-clause-goes_on
-returns-clause-goes_on g c = c.grow_both-grown.ensures.listed_stream
+returns-clause-goes_on g c = c.grow_both-grown.ensures.longer.listed_stream

@@ -91,7 +91,7 @@ returns-clause-kept g c =
     let stream' = c.give_back_both.new.stream.items in
     let a = mini_of d0 c.args.table.now c.args.minifat_sectors.now.items (Some c.args.stream.now.items) in
     let d = mini_of (record d1 { table = t }) c.args.table.now sectors' (Some stream') in
-    let one = subst (λ (x : AllocatorState). KeepsSizes x.tables t.tables) c.allocator_mut.ensures.value of.sizes in
+    let one = subst (λ (x : AllocatorState). KeepsSizes x.tables t.tables) c.allocator_mut.ensures.value of.cuts.sizes in
     let sizes = subst (λ (x : TableState). KeepsSizes x t.tables) was.kept.1 one in
     let version : t.tables.version ≡ d0.table.tables.version = ap (λ (x : TableState). x.version) sizes.rest in
     let moves = root-moves a (mini_of d1 c.args.table.now sectors' (Some stream')) _ _ was.same_length was.entries was.others in
@@ -99,8 +99,8 @@ returns-clause-kept g c =
       directory = was.kept.0;
       sizes = sizes;
       stays = record {
-        minifat = cut-or-kept c.args.left.minifat (minifat_needs d) c.args.minifat_sectors.now.items sectors' (c.requires.minifat ∙ needs-words a d refl version) of.minifat;
-        mini_stream = cut-or-kept c.args.left.mini_stream (mini_stream_needs d) c.args.stream.now.items stream' (c.requires.mini_stream ∙ needs-minis a d refl version) of.mini_stream;
+        minifat = cut-or-kept c.args.left.minifat (minifat_needs d) c.args.minifat_sectors.now.items sectors' (c.requires.minifat ∙ needs-words a d refl version) of.cuts.minifat_kept;
+        mini_stream = cut-or-kept c.args.left.mini_stream (mini_stream_needs d) c.args.stream.now.items stream' (c.requires.mini_stream ∙ needs-minis a d refl version) of.cuts.stream_kept;
       };
       entries = record { same_length = moves.same_length; root = moves.root; root_len = moves.root_len; others = moves.others };
       limits = record {
@@ -125,7 +125,7 @@ returns-clause-room g c =
     let stream' = c.give_back_both.new.stream.items in
     let a = mini_of d0 c.args.table.now sectors (Some stream) in
     let d = mini_of (record d1 { table = t }) c.args.table.now sectors' (Some stream') in
-    let one = subst (λ (x : AllocatorState). KeepsSizes x.tables t.tables) c.allocator_mut.ensures.value of.sizes in
+    let one = subst (λ (x : AllocatorState). KeepsSizes x.tables t.tables) c.allocator_mut.ensures.value of.cuts.sizes in
     let sizes = subst (λ (x : TableState). KeepsSizes x t.tables) was.kept.1 one in
     let version : t.tables.version ≡ d0.table.tables.version = ap (λ (x : TableState). x.version) sizes.rest in
     on_ok _ _ c.give_back_both.result
@@ -133,10 +133,10 @@ returns-clause-room g c =
     (c.requires.mini_stream ∙ needs-minis a d refl version)
     (subst (λ (x : TableState). ShortensBoth left.minifat left.mini_stream sectors sectors' stream stream' x t.tables) was.kept.1
     (subst (λ (x : AllocatorState). ShortensBoth left.minifat left.mini_stream sectors sectors' stream stream' x.tables t.tables) c.allocator_mut.ensures.value both)))
-    of.shortened
+    of.cuts.shortened
 
 pub returns-clause-counted : goal.returns-clause-counted
-returns-clause-counted g c told = c.give_back_both.ensures.count told
+returns-clause-counted g c told = c.give_back_both.ensures.cuts.counted told
 
 pub returns-clause-named : goal.returns-clause-named
 returns-clause-named g c =
@@ -149,7 +149,7 @@ returns-clause-named g c =
     (λ both. record {
       measured = ap (λ (e : Entry). e.stream_len) named ∙ ap (λ n. mini_sector_len * n) c.len-2.ensures.len;
       start = ap (λ (e : Entry). e.start_sector) named ∙ ap first_or_end (shown ∙ sym both.first.listed);
-    }) c.give_back_both.ensures.shortened
+    }) c.give_back_both.ensures.cuts.shortened
 
 pub returns-clause-holds : goal.returns-clause-holds
 returns-clause-holds g c told validation busy h starts =
@@ -174,7 +174,7 @@ returns-clause-holds g c told validation busy h starts =
     let mid = but-root validation [] a d1 h held was.kept.1 was.kept.0 (was.spares told) (was.header told) in
     let words : left.minifat ≡ minifat_needs b = c.requires.minifat ∙ needs-words a b refl version in
     let minis : left.mini_stream ≡ mini_stream_needs b = c.requires.mini_stream ∙ needs-minis a b refl version in
-    let given = of.held told [] validation b (sym c.allocator_mut.ensures.value) refl refl mid
+    let given = of.holds.held told [] validation b (sym c.allocator_mut.ensures.value) refl refl mid
     (λ none. subst (λ (x : TableState). IsUnnamed x.fat (first_or_end sectors)) (sym tables)
     (starts (none-words b.directory.table.tables.version table.minifat (sym words ∙ none))).minifat)
     (λ none. subst (λ (x : TableState). IsUnnamed x.fat (first_or_end stream)) (sym tables)
@@ -194,7 +194,7 @@ returns-clause-minis g c told apart m has =
     let lt = mini_index d0.table.tables.version (length stream) m has.in_stream in
     let at = mini_start d0.table.tables.version stream m in
     let one = subst (λ (x : AllocatorState). (i : ℕ) → (Contains (table_sectors x.tables) i → ⊥) → SectorStays x.tables.version i x.file.bytes t.file.bytes)
-    c.allocator_mut.ensures.value (c.give_back_both.ensures.sectors told) in
+    c.allocator_mut.ensures.value (c.give_back_both.ensures.holds.others told) in
     let two = subst (λ (x : TableState). (i : ℕ) → (Contains (table_sectors x) i → ⊥) → SectorStays x.version i d1.table.file.bytes t.file.bytes) was.kept.1 one in
     Stays_trans at (at + mini_sector_len) d0.table.file.bytes d1.table.file.bytes t.file.bytes
     (apart-stays a d0.table d1.table apart refl (was.spares told) m lt) (given-stays a d1.table.file.bytes t.file.bytes m apart two lt)
@@ -212,7 +212,7 @@ returns-clause-spares g c told =
     spares-then (system_sectors a) (system_sectors a) d0.table d1.table t (λ i m. inr m)
     (spares-less front (system_sectors a) d0.table d1.table (λ i m. Contains-append_left (front ++ sectors) stream i (Contains-append_left front sectors i m)) (was.spares told))
     (spares-less (sectors ++ stream) (system_sectors a) d1.table t (behind-directory front sectors stream)
-    (subst (λ (x : AllocatorState). Spares (sectors ++ stream) x t) c.allocator_mut.ensures.value (c.give_back_both.ensures.spares told)))
+    (subst (λ (x : AllocatorState). Spares (sectors ++ stream) x t) c.allocator_mut.ensures.value (c.give_back_both.ensures.holds.spares told)))
 
 pub returns-clause-header : goal.returns-clause-header
 returns-clause-header g c told =
@@ -226,4 +226,4 @@ returns-clause-header g c told =
     let b = mini_of d1 c.args.table.now sectors (Some stream) in
     let d = mini_of (record d1 { table = t }) c.args.table.now c.give_back_both.new.minifat_sectors.items (Some c.give_back_both.new.stream.items) in
     header-then a b d (was.spares told).no_shorter (header-whole a b (was.header told))
-    (subst (λ (x : AllocatorState). KeepsOutsideMini x.file.bytes t.file.bytes) c.allocator_mut.ensures.value (c.give_back_both.ensures.header told))
+    (subst (λ (x : AllocatorState). KeepsOutsideMini x.file.bytes t.file.bytes) c.allocator_mut.ensures.value (c.give_back_both.ensures.holds.header told))

@@ -42,7 +42,7 @@ returns-in_err-wipe-clause-other_minis g c told once m has out =
     let b = c.wipe.new.allocator in
     subst (λ (a : AllocatorState). mini_sector_len * m / sector_len a.tables.version < length stream
     → RangeStays (mini_start a.tables.version stream m) (mini_start a.tables.version stream m + mini_sector_len) a.file.bytes b.file.bytes) begun
-    (λ listed. c.wipe.ensures.other_minis told (distinct-right (c.args.directory.now.sectors ++ c.args.minifat_sectors.now) stream once) m listed out)
+    (λ listed. c.wipe.ensures.wiped.other_minis told (distinct-right (c.args.directory.now.sectors ++ c.args.minifat_sectors.now) stream once) m listed out)
     (mini_index c.args.directory.now.table.tables.version (length stream) m has.in_stream)
 
 pub returns-in_err-wipe-clause-spares : goal.returns-in_err-wipe-clause-spares
@@ -81,14 +81,14 @@ returns-clause-holds g c told validation h =
     (subst (λ (x : AllocatorState). (i : ℕ) → Contains stream i → IsNoTableSector x.tables i) (sym begun) (stream-no_tables validation c.args.numbers.now s h)) in
     let once = distinct-right c.args.directory.now.sectors sectors (distinct-left (c.args.directory.now.sectors ++ sectors) stream h.apart) in
     let header_a : (i : ℕ) → i < length old.file.bytes → i < sector_len old.tables.version → slice_index a.file.bytes i ≡ slice_index old.file.bytes i =
-    subst (λ (x : AllocatorState). (i : ℕ) → i < length x.file.bytes → i < sector_len x.tables.version → slice_index a.file.bytes i ≡ slice_index x.file.bytes i) begun (c.wipe.ensures.header told) in
+    subst (λ (x : AllocatorState). (i : ℕ) → i < length x.file.bytes → i < sector_len x.tables.version → slice_index a.file.bytes i ≡ slice_index x.file.bytes i) begun (c.wipe.ensures.wiped.header told) in
     on_both _ _ _ c.write_words.result
     (λ tables_b words. settled validation c.args.numbers.now s a b h tables_a same_a spares_a header_a tables_b c.write_words.ensures.among.tables (c.write_words.ensures.among.spares told)
-    (c.write_words.ensures.header told) (λ m here. words m here ∙ ap (λ (t : List ℕ). value t m) c.values.ensures)
-    (λ m. c.write_words.ensures.other_words told once m))
+    (c.write_words.ensures.words.header told) (λ m here. words m here ∙ ap (λ (t : List ℕ). value t m) c.values.ensures)
+    (λ m. c.write_words.ensures.words.other_words told once m))
     (c.write_words.ensures.among.holds told validation tables_a
     (subst (λ (t : TableState). (i : ℕ) → Contains sectors i → IsNoTableSector t i) (sym same_a) (members-no_table validation old (first_or_end sectors) sectors h.directory.tables h.chain)))
-    (c.write_words.ensures.words told once)
+    (c.write_words.ensures.words.done told once)
 
 pub returns-clause-zeros : goal.returns-clause-zeros
 returns-clause-zeros g c told once =
@@ -101,8 +101,8 @@ returns-clause-zeros g c told once =
     let same_a : a.tables ≡ old.tables = c.wipe.ensures.among.tables ∙ ap (λ (x : AllocatorState). x.tables) begun in
     let same_b = c.write_words.ensures.among.tables ∙ same_a in
     let version : old.tables.version ≡ b.tables.version = sym (ap (λ (t : TableState). t.version) same_b) in
-    let zeros = subst (λ (x : AllocatorState). (m : ℕ) → Contains c.args.minis.now m → AreZeros a.file.bytes (mini_start x.tables.version stream m)) begun (c.in_ok-wipe.ensures.zeros told) in
-    let stays = subst (λ (t : TableState). (i : ℕ) → (Contains c.args.minifat_sectors.now i → ⊥) → SectorStays t.version i a.file.bytes b.file.bytes) same_a (c.write_words.ensures.sectors told) in
+    let zeros = subst (λ (x : AllocatorState). (m : ℕ) → Contains c.args.minis.now m → AreZeros a.file.bytes (mini_start x.tables.version stream m)) begun (c.in_ok-wipe.ensures.wiped.zeros told) in
+    let stays = subst (λ (t : TableState). (i : ℕ) → (Contains c.args.minifat_sectors.now i → ⊥) → SectorStays t.version i a.file.bytes b.file.bytes) same_a (c.write_words.ensures.words.other_sectors told) in
     all_ok c.write_words.result (λ m here. zero-mini s a b m once (c.requires.minis m here).listed version (zeros m here) stays)
 
 pub returns-clause-other_minis : goal.returns-clause-other_minis
@@ -117,8 +117,8 @@ returns-clause-other_minis g c told once m has out =
     let listed = mini_index old.tables.version (length stream) m has.in_stream in
     let first = subst (λ (x : AllocatorState). mini_sector_len * m / sector_len x.tables.version < length stream
     → RangeStays (mini_start x.tables.version stream m) (mini_start x.tables.version stream m + mini_sector_len) x.file.bytes a.file.bytes) begun
-    (λ l. c.wipe.ensures.other_minis told (distinct-right (c.args.directory.now.sectors ++ c.args.minifat_sectors.now) stream once) m l out) listed in
-    let stays = subst (λ (t : TableState). (i : ℕ) → (Contains c.args.minifat_sectors.now i → ⊥) → SectorStays t.version i a.file.bytes b.file.bytes) same_a (c.write_words.ensures.sectors told) in
+    (λ l. c.wipe.ensures.wiped.other_minis told (distinct-right (c.args.directory.now.sectors ++ c.args.minifat_sectors.now) stream once) m l out) listed in
+    let stays = subst (λ (t : TableState). (i : ℕ) → (Contains c.args.minifat_sectors.now i → ⊥) → SectorStays t.version i a.file.bytes b.file.bytes) same_a (c.write_words.ensures.words.other_sectors told) in
     other-left s a b m once listed first stays
 
 pub returns-clause-spares : goal.returns-clause-spares
@@ -141,7 +141,7 @@ returns-clause-header g c told i lt low =
     let a = c.wipe.new.allocator in
     let same_a : a.tables ≡ old.tables = c.wipe.ensures.among.tables ∙ ap (λ (x : AllocatorState). x.tables) begun in
     let first = subst (λ (x : AllocatorState). i < length x.file.bytes → i < sector_len x.tables.version → slice_index a.file.bytes i ≡ slice_index x.file.bytes i) begun
-    (c.wipe.ensures.header told i) lt low in
+    (c.wipe.ensures.wiped.header told i) lt low in
     let spares_a = begun_spares c.args.stream.now old a (subst (λ (x : AllocatorState). Spares c.args.stream.now x a) begun (c.wipe.ensures.among.spares told)) in
     let longer = spares_a.no_shorter in
-    c.write_words.ensures.header told i (omega (arith, lt, longer)) (subst (λ (t : TableState). i < sector_len t.version) (sym same_a) low) ∙ first
+    c.write_words.ensures.words.header told i (omega (arith, lt, longer)) (subst (λ (t : TableState). i < sector_len t.version) (sym same_a) low) ∙ first

@@ -20,7 +20,7 @@ returns-clause-mini_spares g c told validation h =
     let stream = stream-is s c.deref.result.now c.in-Some.stream c.self.inside.mini_stream c.deref.ensures.value c.in-Some.is (ap (λ (w : MiniState). w.mini_stream) c.self.view_is) in
     subst (λ (w : MiniState). SparesMini (c.args.mini ∷ []) s (with_table w b)) (sym c.self.view_is)
     (write-spares c.write_piece.result validation s a b c.deref.result.now c.args.mini c.args.offset (length c.args.from.now) h table stream c.requires.within
-    was.tables was.missing (was.put.others told))
+    was.writes.tables was.error.missing (was.put.others told))
 
 pub returns-clause-holds : goal.returns-clause-holds
 returns-clause-holds g c told validation h =
@@ -31,7 +31,7 @@ returns-clause-holds g c told validation h =
     let table : a ≡ table_of s = c.allocator_mut.ensures.value ∙ ap (λ (w : MiniState). table_of w) c.self.view_is in
     let stream = stream-is s c.deref.result.now c.in-Some.stream c.self.inside.mini_stream c.deref.ensures.value c.in-Some.is (ap (λ (w : MiniState). w.mini_stream) c.self.view_is) in
     subst (λ (w : MiniState). OnOk c.write_piece.result (HoldsMini validation (with_table w b))) (sym c.self.view_is)
-    (write-holds c.write_piece.result validation s a b c.deref.result.now h table stream was.tables (was.holds told validation) (was.spares told) (was.header told))
+    (write-holds c.write_piece.result validation s a b c.deref.result.now h table stream was.writes.tables (was.writes.holds told validation) (was.writes.spares told) (was.outside.header told))
 
 pub returns-clause-refused : goal.returns-clause-refused
 returns-clause-refused g c =
@@ -42,4 +42,4 @@ returns-clause-refused g c =
     let table : a ≡ table_of s = c.allocator_mut.ensures.value ∙ ap (λ (w : MiniState). table_of w) c.self.view_is in
     let stream = stream-is s c.deref.result.now c.in-Some.stream c.self.inside.mini_stream c.deref.ensures.value c.in-Some.is (ap (λ (w : MiniState). w.mini_stream) c.self.view_is) in
     subst (λ (w : MiniState). IfErr c.write_piece.result (StopsShort s (with_table w b))) (sym c.self.view_is)
-    (write-stops c.write_piece.result s a b c.deref.result.now c.args.mini table stream was.missing was.there)
+    (write-stops c.write_piece.result s a b c.deref.result.now c.args.mini table stream was.error.missing was.error.there)
