@@ -1,6 +1,7 @@
 //! The allocator of mini sectors (MS-CFB 2.4): mini chains are begun, extended, cut and freed, in the MiniFAT, in the mini stream and in
 //! the root's entry.
 ghost use Rattle.std.specs.Prelude.{◌≡◌, ◌≢◌, ◌↔◌, ◌⊎◌, ℕ, ◌+◌, ◌-◌, ◌/◌, ◌%◌, ◌^◌, ◌<◌, ◌≤◌, ◌∷◌, ◌++◌, List, [], Option, length, map, max, min, chars, take, drop, true, false, Contains, IsTrue, MatchOption, vec_len, option_map, unwrap_or, IfOk, IfErr, IfSome, IsErrAnd, OnOk, OnErr};
+ghost use Rattle.cfb_mini_changes.specs.Settling.{ChangesMiniStream, HoldsLonger, TakingRefused, CutsMinis, HoldsShorter, CuttingRefused};
 ghost use Rattle.cfb_mini.specs.cfb_directory.Changing.{RemovesSafely, SetsEntryFields, FieldsRefused, InsertsInDirectory};
 ghost use Rattle.cfb_mini.specs.cfb_alloc.Writing.{FlushesFile};
 ghost use Rattle.cfb_mini.specs.cfb_alloc.Freeing.{FreesTheChain};
@@ -544,37 +545,14 @@ impl<F: Medium, A: Heap> MiniAllocator<F, A> {
             → OnErr result ⊥ × (self.new ≡ self.old) × (ids.new.items ≡ ids.old.items) }
         ensures grown { 0 < count → OnOk result (GrowsFor count self.old self.new) }
         ensures measured { 0 < count → OnOk result (IsMeasuredMini self.new) }
-        ensures directory { self.new.directory.sectors ≡ self.old.directory.sectors }
+        ensures changes { ChangesMiniStream F.tells F.write_faults self.old self.new result }
         ensures goes_on { mini_stream_of self.new ≡ mini_stream_of self.old
             ++ gained (mini_stream_of self.old) (mini_stream_of self.new) }
-        ensures entries { MovesRoot self.old self.new }
-        ensures holds { IsTrue F.tells → (validation : Validation)
-            → HoldsMini validation self.old → OnOk result (HoldsMini validation self.new) }
-        ensures filled { IsTrue F.tells
-            → (validation : Validation) → HoldsMini validation self.old → OnOk result ((m : ℕ)
-            → Contains (gained ids.old.items ids.new.items) m → IsZeroMini self.new m) }
+        ensures holds { HoldsLonger F.tells ids.old.items ids.new.items self.old self.new result }
         ensures room { 0 < count
             → OnOk result ((m : ℕ) → m < length self.new.minifat → HasMiniSector self.new m) }
-        ensures whole { IsTrue F.tells → (validation : Validation) → HoldsMini validation self.old
-            → IsOfWholeSectors (table_of self.old)
-            → OnOk result (IsOfWholeSectors (table_of self.new)) }
-        ensures spares { IsTrue F.tells
-            → Spares (system_sectors self.old) (table_of self.old) (table_of self.new) }
-        ensures mini_spares { IsTrue F.tells → (validation : Validation)
-            → HoldsMini validation self.old → SparesMini (ends_of ids.old.items) self.old self.new }
-        ensures bytes { IsTrue F.tells → (validation : Validation)
-            → HoldsMini validation self.old → KeepsMiniBytesBut [] self.old self.new }
-        ensures header { IsTrue F.tells → KeepsHeader self.old self.new }
-        ensures limits { KeepsLimits self.old self.new }
         ensures enough { 0 < count → OnOk result (IsTooFewFor self.old count → ⊥) }
-        ensures begun { OnOk result (IsRaised (0
-            < count) (table_of self.old).file (table_of self.new).file) }
-        ensures refused { IfErr result (StopsShortOrFull count self.old self.new) }
-        ensures kept { IfErr result (AfterMedium Unit (ids.new.items ≡ ids.old.items)) }
-        ensures err { IfErr result (ChangeRefused (IsNotHeld self.old
-            ⊎ EndsNoChain self.old.minifat ids.old.items) Unit (IsTooFewFor self.old count) Unit) }
-        ensures counts { IsTrue F.tells → CountsFailure F.write_faults result
-            (table_of self.old).file.failures (table_of self.new).file.failures }
+        ensures ends { TakingRefused count ids.old.items ids.new.items self.old self.new result }
     {
         if count == 0 {
             return Ok(());
@@ -603,16 +581,12 @@ impl<F: Medium, A: Heap> MiniAllocator<F, A> {
     /// MiniFAT, of the mini stream and of the FAT.
     pub fn cut_mini_listed(&mut self, ids: &mut Vec<u32, A>, left: usize) -> Result<(), Error>
         requires chain { IsChain self.old.minifat (first_or_end ids.old.items) ids.old.items }
-        ensures chain { IsChain self.new.minifat (first_or_end ids.new.items) ids.new.items }
-        ensures listed { OnOk result (ids.new.items ≡ take left ids.old.items) }
-        ensures shorter { length ids.new.items ≤ length ids.old.items }
+        ensures cuts { CutsMinis left self.old.minifat self.new.minifat ids.old.items ids.new.items
+            result }
         ensures none { length ids.old.items ≤ left
             → OnErr result ⊥ × (self.new ≡ self.old) × (ids.new.items ≡ ids.old.items) }
-        ensures given_back { OnOk result (MiniGivesBack (ends_of (take left ids.old.items))
-            (drop left ids.old.items) self.old.minifat self.new.minifat) }
-        ensures directory { self.new.directory.sectors ≡ self.old.directory.sectors }
-        ensures sizes { KeepsSizes (tables_in self.old) (tables_in self.new) }
-        ensures stays { BeginsSystem self.old self.new }
+        ensures changes { ChangesMiniStream F.tells F.write_faults self.old self.new result }
+        ensures ends { CuttingRefused left ids.old.items ids.new.items self.old self.new result }
         ensures room { left < length ids.old.items
             → CanGiveRoomBack self.old → OnOk result (GivesRoomBack self.old self.new) }
         ensures measured { left < length ids.old.items → OnOk result (IsMeasuredMini self.new) }
@@ -622,33 +596,7 @@ impl<F: Medium, A: Heap> MiniAllocator<F, A> {
         ensures counted { IsTrue F.tells → left < length ids.old.items
             → (validation : Validation) → HoldsMini validation self.old → OnOk result
             (word_at (bytes_of self.new) 64 ≡ length self.new.minifat_sectors) }
-        ensures entries { MovesRoot self.old self.new }
-        ensures holds { IsTrue F.tells → (validation : Validation)
-            → HoldsMini validation self.old
-            → (self.new.minifat ≡ [] → AreStartsUnnamed self.old)
-            → (left ≡ 0 → IsUnnamed self.old.minifat (first_or_end ids.old.items))
-            → OnOk result (HoldsMini validation self.new) }
-        ensures wiped { IsTrue F.tells → (validation : Validation) → HoldsMini validation self.old
-            → OnOk result ((m : ℕ) → Contains (drop left ids.old.items) m
-            → IsInMiniStream self.new m → IsZeroMini self.new m) }
-        ensures erased { IsTrue F.tells → (validation : Validation) → HoldsMini validation self.old
-            → OnOk result ((m : ℕ) → Contains (drop left ids.old.items) m
-            → AreZeros (bytes_of self.new) (mini_place self.old m)) }
-        ensures spares { IsTrue F.tells
-            → Spares (system_sectors self.old) (table_of self.old) (table_of self.new) }
-        ensures mini_spares { IsTrue F.tells → (validation : Validation)
-            → HoldsMini validation self.old → SparesMini ids.old.items self.old self.new }
-        ensures bytes { IsTrue F.tells → (validation : Validation) → HoldsMini validation self.old
-            → KeepsMiniBytesBut (drop left ids.old.items) self.old self.new }
-        ensures header { IsTrue F.tells → KeepsHeader self.old self.new }
-        ensures limits { KeepsLimits self.old self.new }
-        ensures begun { OnOk result (IsRaised (left
-            < length ids.old.items) (table_of self.old).file (table_of self.new).file) }
-        ensures refused { IfErr result (StopsShort self.old self.new) }
-        ensures kept { IfErr result (AfterMedium Unit (ids.new.items ≡ ids.old.items)) }
-        ensures err { IfErr result (ChangeRefused (IsNotHeld self.old) ⊥ ⊥ Unit) }
-        ensures counts { IsTrue F.tells → CountsFailure F.write_faults result
-            (table_of self.old).file.failures (table_of self.new).file.failures }
+        ensures holds { HoldsShorter F.tells left ids.old.items self.old self.new result }
     {
         if left >= ids.len() {
             return Ok(());
@@ -684,22 +632,17 @@ impl<F: Medium, A: Heap + Clone> MiniAllocator<F, A> {
         ensures none { count ≡ 0 → self.new ≡ self.old }
         ensures grown { 0 < count → OnOk result (GrowsFor count self.old self.new) }
         ensures measured { 0 < count → OnOk result (IsMeasuredMini self.new) }
-        ensures directory { self.new.directory.sectors ≡ self.old.directory.sectors }
+        ensures changes { ChangesMiniStream F.tells F.write_faults self.old self.new result }
         ensures goes_on { mini_stream_of self.new ≡ mini_stream_of self.old
             ++ gained (mini_stream_of self.old) (mini_stream_of self.new) }
-        ensures entries { MovesRoot self.old self.new }
         ensures holds { IsTrue F.tells → (validation : Validation)
             → HoldsMini validation self.old → OnOk result (HoldsMini validation self.new) }
         ensures filled { IsTrue F.tells → (validation : Validation) → HoldsMini validation self.old
             → IfOk result (λ list. (m : ℕ) → Contains list.items m → IsZeroMini self.new m) }
-        ensures spares { IsTrue F.tells
-            → Spares (system_sectors self.old) (table_of self.old) (table_of self.new) }
         ensures mini_spares { IsTrue F.tells → (validation : Validation)
             → HoldsMini validation self.old → SparesMini (ending last) self.old self.new }
         ensures bytes { IsTrue F.tells → (validation : Validation)
             → HoldsMini validation self.old → KeepsMiniBytesBut [] self.old self.new }
-        ensures header { IsTrue F.tells → KeepsHeader self.old self.new }
-        ensures limits { KeepsLimits self.old self.new }
         ensures enough { 0 < count → OnOk result (IsTooFewFor self.old count → ⊥) }
         ensures begun { OnOk result (IsRaised (0
             < count) (table_of self.old).file (table_of self.new).file) }
@@ -707,8 +650,6 @@ impl<F: Medium, A: Heap + Clone> MiniAllocator<F, A> {
         ensures err { IfErr result (ChangeRefused (IsNotHeld self.old
             ⊎ ((last ≢ end_of_chain) × (value self.old.minifat last
             ≢ end_of_chain))) Unit (IsTooFewFor self.old count) Unit) }
-        ensures counts { IsTrue F.tells → CountsFailure F.write_faults result
-            (table_of self.old).file.failures (table_of self.new).file.failures }
     {
         let mut ids = listed_end(&self.heap, last)?;
         let had = ids.len();
@@ -725,7 +666,7 @@ impl<F: Medium, A: Heap + Clone> MiniAllocator<F, A> {
         ensures freed { OnOk result ((list : List ℕ) × IsChain self.old.minifat start list
             × MiniGivesBack [] list self.old.minifat self.new.minifat) }
         ensures none { start ≡ end_of_chain → OnErr result ⊥ × (self.new ≡ self.old) }
-        ensures directory { self.new.directory.sectors ≡ self.old.directory.sectors }
+        ensures changes { ChangesMiniStream F.tells F.write_faults self.old self.new result }
         ensures sizes { KeepsSizes (tables_in self.old) (tables_in self.new) }
         ensures stays { BeginsSystem self.old self.new }
         ensures room { start ≢ end_of_chain
@@ -736,7 +677,6 @@ impl<F: Medium, A: Heap + Clone> MiniAllocator<F, A> {
         ensures counted { IsTrue F.tells → start ≢ end_of_chain
             → (validation : Validation) → HoldsMini validation self.old → OnOk result
             (word_at (bytes_of self.new) 64 ≡ length self.new.minifat_sectors) }
-        ensures entries { MovesRoot self.old self.new }
         ensures holds { IsTrue F.tells → (validation : Validation)
             → HoldsMini validation self.old
             → (self.new.minifat ≡ [] → AreStartsUnnamed self.old)
@@ -749,23 +689,17 @@ impl<F: Medium, A: Heap + Clone> MiniAllocator<F, A> {
             → HoldsMini validation self.old → (list : List ℕ) → IsChain self.old.minifat start list
             → OnOk result ((m : ℕ) → Contains list m
             → AreZeros (bytes_of self.new) (mini_place self.old m)) }
-        ensures spares { IsTrue F.tells
-            → Spares (system_sectors self.old) (table_of self.old) (table_of self.new) }
         ensures mini_spares { IsTrue F.tells
             → (validation : Validation) → HoldsMini validation self.old → (list : List ℕ)
             → IsChain self.old.minifat start list → SparesMini list self.old self.new }
         ensures bytes { IsTrue F.tells
             → (validation : Validation) → HoldsMini validation self.old → (list : List ℕ)
             → IsChain self.old.minifat start list → KeepsMiniBytesBut list self.old self.new }
-        ensures header { IsTrue F.tells → KeepsHeader self.old self.new }
-        ensures limits { KeepsLimits self.old self.new }
         ensures begun { OnOk result (IsRaised (start
             ≢ end_of_chain) (table_of self.old).file (table_of self.new).file) }
         ensures refused { IfErr result (StopsShort self.old self.new) }
         ensures err { IfErr result (ChangeRefused (IsNotHeld self.old
             ⊎ NoChain self.old.minifat start) Unit ⊥ Unit) }
-        ensures counts { IsTrue F.tells → CountsFailure F.write_faults result
-            (table_of self.old).file.failures (table_of self.new).file.failures }
     {
         if start == END_OF_CHAIN {
             return Ok(());
@@ -783,7 +717,7 @@ impl<F: Medium, A: Heap + Clone> MiniAllocator<F, A> {
         ensures cut { OnOk result ((list : List ℕ) × IsChain self.old.minifat mini (mini ∷ list)
             × MiniGivesBack (mini ∷ []) list self.old.minifat self.new.minifat) }
         ensures none { value self.old.minifat mini ≡ end_of_chain → self.new ≡ self.old }
-        ensures directory { self.new.directory.sectors ≡ self.old.directory.sectors }
+        ensures changes { ChangesMiniStream F.tells F.write_faults self.old self.new result }
         ensures sizes { KeepsSizes (tables_in self.old) (tables_in self.new) }
         ensures stays { BeginsSystem self.old self.new }
         ensures room { value self.old.minifat mini ≢ end_of_chain
@@ -795,7 +729,6 @@ impl<F: Medium, A: Heap + Clone> MiniAllocator<F, A> {
         ensures counted { IsTrue F.tells → value self.old.minifat mini ≢ end_of_chain
             → (validation : Validation) → HoldsMini validation self.old → OnOk result
             (word_at (bytes_of self.new) 64 ≡ length self.new.minifat_sectors) }
-        ensures entries { MovesRoot self.old self.new }
         ensures holds { IsTrue F.tells → (validation : Validation)
             → HoldsMini validation self.old → OnOk result (HoldsMini validation self.new) }
         ensures wiped { IsTrue F.tells → (validation : Validation) → HoldsMini validation self.old
@@ -806,23 +739,17 @@ impl<F: Medium, A: Heap + Clone> MiniAllocator<F, A> {
             → (list : List ℕ) → IsChain self.old.minifat mini (mini ∷ list)
             → OnOk result ((m : ℕ) → Contains list m
             → AreZeros (bytes_of self.new) (mini_place self.old m)) }
-        ensures spares { IsTrue F.tells
-            → Spares (system_sectors self.old) (table_of self.old) (table_of self.new) }
         ensures mini_spares { IsTrue F.tells → (validation : Validation)
             → HoldsMini validation self.old → (list : List ℕ) → IsChain self.old.minifat mini (mini
             ∷ list) → SparesMini (mini ∷ list) self.old self.new }
         ensures bytes { IsTrue F.tells → (validation : Validation) → HoldsMini validation self.old
             → (list : List ℕ) → IsChain self.old.minifat mini (mini ∷ list)
             → KeepsMiniBytesBut list self.old self.new }
-        ensures header { IsTrue F.tells → KeepsHeader self.old self.new }
-        ensures limits { KeepsLimits self.old self.new }
         ensures begun { OnOk result (IsRaised (value self.old.minifat mini
             ≢ end_of_chain) (table_of self.old).file (table_of self.new).file) }
         ensures refused { IfErr result (StopsShort self.old self.new) }
         ensures err { IfErr result (ChangeRefused (IsNotHeld self.old
             ⊎ NoLast self.old.minifat mini) Unit ⊥ Unit) }
-        ensures counts { IsTrue F.tells → CountsFailure F.write_faults result
-            (table_of self.old).file.failures (table_of self.new).file.failures }
     {
         if mini == END_OF_CHAIN {
             return Err(no_mini_chain(mini));

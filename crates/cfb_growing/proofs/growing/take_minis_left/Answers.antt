@@ -36,16 +36,16 @@ pub returns-clause-spares : goal.returns-clause-spares
 returns-clause-spares g c told = record {
   others = λ v change.
       rest-minis-others v c.args.mini.now c.extend_mini_listed.new.self c.args.entry (ends_of c.new-ids.result.items) change c.requires.stream (ap ends_of c.new-ids.ensures.items)
-      (c.extend_mini_listed.ensures.spares told) (c.extend_mini_listed.ensures.mini_spares told v change.held);
+      (c.extend_mini_listed.ensures.changes.spares told) (c.extend_mini_listed.ensures.holds.mini_spares told v change.held);
   header =
-      spared-keeps-header _ c.args.mini.now c.extend_mini_listed.new.self (c.extend_mini_listed.ensures.spares told);
+      spared-keeps-header _ c.args.mini.now c.extend_mini_listed.new.self (c.extend_mini_listed.ensures.changes.spares told);
   unwritten = λ calm.
       let s = c.args.mini.now in
       let new = c.extend_mini_listed.new.self in
       on-both-ways c.extend_mini_listed.result
-      (on_ok_weaker c.extend_mini_listed.result (λ raised. absurd (not-both (table_of new).file.begun (raised.1 (some g c)) calm)) c.extend_mini_listed.ensures.begun)
+      (on_ok_weaker c.extend_mini_listed.result (λ raised. absurd (not-both (table_of new).file.begun (raised.1 (some g c)) calm)) c.extend_mini_listed.ensures.ends.begun)
       (IfErr-weaker c.extend_mini_listed.result (StopsShortOrFull c.min.result s new) (λ e. bytes_of new ≡ bytes_of s) (λ e stops. short-unwritten s new c.min.result e stops calm)
-      c.extend_mini_listed.ensures.refused);
+      c.extend_mini_listed.ensures.ends.refused);
 }
 
 pub returns-clause-full : goal.returns-clause-full
@@ -57,19 +57,19 @@ returns-clause-full g c =
     let Rest = (length more ≡ c.min.result) × (IsTooFewFor s c.min.result → ⊥) in
     on_both _ Rest _ c.extend_mini_listed.result
     (λ taken rest. all-taken s new s.max_mini_sectors c.args.count c.minis_left-left.result (ends_of ids) more c.minis_left-left.ensures.left c.requires.few
-    c.extend_mini_listed.ensures.limits.version taken (omega (arith, rest.0, c.min.ensures)) (subst (λ n. IsTooFewFor s n → ⊥) c.min.ensures rest.1))
+    c.extend_mini_listed.ensures.changes.limits.version taken (omega (arith, rest.0, c.min.ensures)) (subst (λ n. IsTooFewFor s n → ⊥) c.min.ensures rest.1))
     (c.extend_mini_listed.ensures.taken (some g c))
     (on_both _ _ Rest c.extend_mini_listed.result (λ counted enough. (counted, enough)) c.extend_mini_listed.ensures.count (c.extend_mini_listed.ensures.enough (some g c)))
 
 pub returns-clause-begun : goal.returns-clause-begun
-returns-clause-begun g c = on_ok_weaker c.extend_mini_listed.result (λ raised. inr (raised.1 (some g c))) c.extend_mini_listed.ensures.begun
+returns-clause-begun g c = on_ok_weaker c.extend_mini_listed.result (λ raised. inr (raised.1 (some g c))) c.extend_mini_listed.ensures.ends.begun
 
 pub returns-clause-still : goal.returns-clause-still
 returns-clause-still g c =
     let s = c.args.mini.now in
     let new = c.extend_mini_listed.new.self in
     IfErr-weaker c.extend_mini_listed.result (StopsShortOrFull c.min.result s new) (λ e. IsStill s new ⊎ ((table_of new).file.begun ≡ true)) (short-still s new c.min.result)
-    c.extend_mini_listed.ensures.refused
+    c.extend_mini_listed.ensures.ends.refused
 
 pub returns-clause-refused : goal.returns-clause-refused
 returns-clause-refused g c v held =
@@ -77,7 +77,7 @@ returns-clause-refused g c v held =
     let new = c.extend_mini_listed.new.self in
     IfErr-weaker c.extend_mini_listed.result (StopsShortOrFull c.min.result s new) (StopsOrIsFull s new)
     (short-or-full v s new c.min.result c.minis_left-left.result held c.minis_left-left.ensures.within c.minis_left-left.ensures.left (omega (arith, c.min.ensures)))
-    c.extend_mini_listed.ensures.refused
+    c.extend_mini_listed.ensures.ends.refused
 
 pub returns-clause-err : goal.returns-clause-err
 returns-clause-err g c =
@@ -89,4 +89,4 @@ returns-clause-err g c =
     (λ e r. refused-as (IsNotHeld s ⊎ EndsNoChain s.minifat ids) (IsNotChangeable s) (Unit {0}) (Unit {0}) (IsTooFewFor s c.min.result) (Unit {0}) (Unit {0}) (Unit {0})
     (λ w. elim w [ inl not ↦ not-held s not | inr ends ↦ absurd (let some = ends.0 in omega (arith, some, none)) ])
     (λ u. u) (λ few. tt) (λ u. u) e r)
-    c.extend_mini_listed.ensures.err
+    c.extend_mini_listed.ensures.ends.err

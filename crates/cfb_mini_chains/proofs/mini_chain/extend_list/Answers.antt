@@ -40,12 +40,12 @@ returns-clause-grown g c =
 pub returns-clause-directory : goal.returns-clause-directory
 returns-clause-directory g c =
     let e = c.extend_mini_listed-extended.ensures in
-    record { sectors = e.directory; entries = e.entries; limits = e.limits }
+    record { sectors = e.changes.directory; entries = e.changes.entries; limits = e.changes.limits }
 
 pub returns-clause-mini_spares : goal.returns-clause-mini_spares
 returns-clause-mini_spares g c told validation h =
     let ids = c.args.ids.now.items in
-    spares-less (ends_of ids) ids c.args.minialloc.now c.extend_mini_listed-extended.new.self (ends_among ids) (c.extend_mini_listed-extended.ensures.mini_spares told validation h)
+    spares-less (ends_of ids) ids c.args.minialloc.now c.extend_mini_listed-extended.new.self (ends_among ids) (c.extend_mini_listed-extended.ensures.holds.mini_spares told validation h)
 
 pub returns-clause-kept : goal.returns-clause-kept
 returns-clause-kept g c =
@@ -57,9 +57,9 @@ returns-clause-kept g c =
       same,
       c.first_number.ensures ∙ ap first_or_end c.deref.ensures.value ∙ ap first_or_end same ∙ sym (start_is c.args.minialloc.now.minifat c.args.start.now ids c.requires.chained),
     )))
-    e.ensures.kept
+    e.ensures.ends.kept
 
 pub returns-clause-err : goal.returns-clause-err
 returns-clause-err g c =
     let e = c.extend_mini_listed-extended in
-    on_err _ _ e.result (only_first _ _ _ _ _ (ends_a_chain c.args.minialloc.now.minifat c.args.start.now c.args.ids.now.items c.requires.chained)) e.ensures.err
+    on_err _ _ e.result (only_first _ _ _ _ _ (ends_a_chain c.args.minialloc.now.minifat c.args.start.now c.args.ids.now.items c.requires.chained)) e.ensures.ends.err

@@ -14,7 +14,7 @@ cut_mini_listed-cut-requires g c = record { chain = listed_chain c.args.miniallo
 pub returns-clause-chained : goal.returns-clause-chained
 returns-clause-chained g c =
     listed_found c.cut_mini_listed-cut.new.self.minifat c.first_number.result c.cut_mini_listed-cut.new.ids.items
-    (c.first_number.ensures ∙ ap first_or_end c.deref.ensures.value) c.cut_mini_listed-cut.ensures.chain
+    (c.first_number.ensures ∙ ap first_or_end c.deref.ensures.value) c.cut_mini_listed-cut.ensures.cuts.chain
 
 pub returns-clause-few : goal.returns-clause-few
 returns-clause-few g c = chain_few _ _ _ (returns-clause-chained g c)
@@ -22,18 +22,18 @@ returns-clause-few g c = chain_few _ _ _ (returns-clause-chained g c)
 pub returns-clause-cut : goal.returns-clause-cut
 returns-clause-cut g c =
     let e = c.cut_mini_listed-cut in
-    shortened e.result c.args.count c.args.ids.now.items e.new.ids.items c.args.minialloc.now e.new.self e.ensures.listed e.ensures.given_back e.ensures.sizes e.ensures.stays
+    shortened e.result c.args.count c.args.ids.now.items e.new.ids.items c.args.minialloc.now e.new.self e.ensures.cuts.listed e.ensures.cuts.given_back e.ensures.ends.sizes e.ensures.ends.stays
     e.ensures.room e.ensures.measured e.ensures.snug
 
 pub returns-clause-directory : goal.returns-clause-directory
 returns-clause-directory g c =
     let e = c.cut_mini_listed-cut.ensures in
-    record { sectors = e.directory; entries = e.entries; limits = e.limits }
+    record { sectors = e.changes.directory; entries = e.changes.entries; limits = e.changes.limits }
 
 pub returns-clause-holds : goal.returns-clause-holds
 returns-clause-holds g c told validation h starts unnamed =
     let minifat = c.args.minialloc.now.minifat in
-    c.cut_mini_listed-cut.ensures.holds told validation h starts
+    c.cut_mini_listed-cut.ensures.holds.holds told validation h starts
     (λ none. subst (IsUnnamed minifat) (start_is minifat c.args.start.now c.args.ids.now.items c.requires.chained) (unnamed none))
 
 pub returns-clause-kept : goal.returns-clause-kept
@@ -46,7 +46,7 @@ returns-clause-kept g c =
       same,
       c.first_number.ensures ∙ ap first_or_end c.deref.ensures.value ∙ ap first_or_end same ∙ sym (start_is c.args.minialloc.now.minifat c.args.start.now ids c.requires.chained),
     )))
-    e.ensures.kept
+    e.ensures.ends.kept
 
 pub returns-clause-begun : goal.returns-clause-begun
-returns-clause-begun g c = let e = c.cut_mini_listed-cut in on_ok _ _ e.result (λ raised. raised.1 c.requires.fewer) e.ensures.begun
+returns-clause-begun g c = let e = c.cut_mini_listed-cut in on_ok _ _ e.result (λ raised. raised.1 c.requires.fewer) e.ensures.ends.begun

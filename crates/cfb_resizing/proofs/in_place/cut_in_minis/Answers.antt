@@ -47,12 +47,12 @@ returns-in_err-cut_mini_listed-clause-spares g c told = record {
       let i = c.args.entry in
       let list = c.in_ok-ids.ids.items in
       let whole = whole-minis-as s i c.content_in-start.result.0 c.content_in-start.result.1 list c.content_in-start.ensures.start c.content_in-start.ensures.len c.in_ok-ids.ensures.whole in
-      own-minis-kept v s c.cut_mini_listed.new.self i list change c.requires.stream (owned-minis s i c.requires.small list whole) (c.cut_mini_listed.ensures.spares told)
-      (c.cut_mini_listed.ensures.mini_spares told v change.held);
+      own-minis-kept v s c.cut_mini_listed.new.self i list change c.requires.stream (owned-minis s i c.requires.small list whole) (c.cut_mini_listed.ensures.changes.spares told)
+      (c.cut_mini_listed.ensures.holds.mini_spares told v change.held);
   header =
-      spared-keeps-header _ c.args.mini.now c.cut_mini_listed.new.self (c.cut_mini_listed.ensures.spares told);
+      spared-keeps-header _ c.args.mini.now c.cut_mini_listed.new.self (c.cut_mini_listed.ensures.changes.spares told);
   unwritten = λ calm.
-      after_any _ _ _ c.in_err-cut_mini_listed.field-0.0 c.in_err-cut_mini_listed.ensures.refused
+      after_any _ _ _ c.in_err-cut_mini_listed.field-0.0 c.in_err-cut_mini_listed.ensures.ends.refused
       (λ begun. absurd (not-both (table_of c.cut_mini_listed.new.self).file.begun begun calm)) (λ same. ap bytes_of same);
 }
 
@@ -67,10 +67,10 @@ returns-clause-turned g c told = record {
       let whole = whole-minis-as s i c.content_in-start.result.0 c.content_in-start.result.1 list c.content_in-start.ensures.start c.content_in-start.ensures.len c.in_ok-ids.ensures.whole in
       subst (λ n. Turns s new i c.args.size n) (sym (c.first_number.ensures ∙ ap first_or_end c.deref.ensures.value))
       (mini-cut-turns v s new i c.args.size c.div_ceil-wanted.result list list' change c.requires.stream c.requires.small c.requires.shorter whole
-      (omega (arith, c.div_ceil-wanted.ensures)) c.in_ok-cut_mini_listed.ensures.listed c.in_ok-cut_mini_listed.ensures.given_back
+      (omega (arith, c.div_ceil-wanted.ensures)) c.in_ok-cut_mini_listed.ensures.cuts.listed c.in_ok-cut_mini_listed.ensures.cuts.given_back
       (cut-settles v s new c.div_ceil-wanted.result list change.held c.in_ok-cut_mini_listed.ensures.room (λ all. (c.cut_mini_listed.ensures.none all).1))
-      c.cut_mini_listed.ensures.limits.version c.cut_mini_listed.ensures.stays c.cut_mini_listed.ensures.chain (c.cut_mini_listed.ensures.bytes told v change.held) (c.in_ok-cut_mini_listed.ensures.wiped told v change.held)
-      (c.in_ok-cut_mini_listed.ensures.erased told v change.held)
+      c.cut_mini_listed.ensures.changes.limits.version c.cut_mini_listed.ensures.ends.stays c.cut_mini_listed.ensures.cuts.chain (c.cut_mini_listed.ensures.holds.bytes told v change.held) (c.in_ok-cut_mini_listed.ensures.holds.wiped told v change.held)
+      (c.in_ok-cut_mini_listed.ensures.holds.erased told v change.held)
       (λ fewer. c.in_ok-cut_mini_listed.ensures.snug fewer v change.held));
   holds = λ v change.
       let s = c.args.mini.now in
@@ -79,12 +79,12 @@ returns-clause-turned g c told = record {
       let shorter = c.requires.shorter in
       let whole = whole-minis-as s i c.content_in-start.result.0 c.content_in-start.result.1 list c.content_in-start.ensures.start c.content_in-start.ensures.len c.in_ok-ids.ensures.whole in
       let first = (whole.there 0 (omega (arith, shorter))).listed in
-      c.in_ok-cut_mini_listed.ensures.holds told v change.held (λ none. starts-unnamed v s i change c.requires.stream) (λ zero. first-unnamed s i c.requires.small v change c.requires.stream list whole (omega (arith, first)));
+      c.in_ok-cut_mini_listed.ensures.holds.holds told v change.held (λ none. starts-unnamed v s i change c.requires.stream) (λ zero. first-unnamed s i c.requires.small v change c.requires.stream list whole (omega (arith, first)));
   snug_mini = λ v change snug.
       freed-snug c.args.mini.now c.cut_mini_listed.new.self c.div_ceil-wanted.result (length c.in_ok-ids.ids.items)
       (λ fewer. c.in_ok-cut_mini_listed.ensures.snug fewer v change.held) (λ all. (c.cut_mini_listed.ensures.none all).1) snug;
   tidy = λ v change. record {
-    counted = count-stays v c.args.mini.now c.cut_mini_listed.new.self change.held (c.cut_mini_listed.ensures.header told);
+    counted = count-stays v c.args.mini.now c.cut_mini_listed.new.self change.held (c.cut_mini_listed.ensures.changes.header told);
     whole = λ was.
         let s = c.args.mini.now in
         let i = c.args.entry in
@@ -92,9 +92,9 @@ returns-clause-turned g c told = record {
         let shorter = c.requires.shorter in
         let whole = whole-minis-as s i c.content_in-start.result.0 c.content_in-start.result.1 list c.content_in-start.ensures.start c.content_in-start.ensures.len c.in_ok-ids.ensures.whole in
         let first = (whole.there 0 (omega (arith, shorter))).listed in
-        let held = c.in_ok-cut_mini_listed.ensures.holds told v change.held (λ none. starts-unnamed v s i change c.requires.stream) (λ zero. first-unnamed s i c.requires.small v change c.requires.stream list whole (omega (arith, first))) in
-        same-whole v (table_of s) (table_of c.cut_mini_listed.new.self) held.directory.tables c.cut_mini_listed.ensures.limits.version c.cut_mini_listed.ensures.sizes.sectors
-        (c.cut_mini_listed.ensures.spares told).no_shorter was;
+        let held = c.in_ok-cut_mini_listed.ensures.holds.holds told v change.held (λ none. starts-unnamed v s i change c.requires.stream) (λ zero. first-unnamed s i c.requires.small v change c.requires.stream list whole (omega (arith, first))) in
+        same-whole v (table_of s) (table_of c.cut_mini_listed.new.self) held.directory.tables c.cut_mini_listed.ensures.changes.limits.version c.cut_mini_listed.ensures.ends.sizes.sectors
+        (c.cut_mini_listed.ensures.changes.spares told).no_shorter was;
   };
 }
 
@@ -105,25 +105,25 @@ returns-clause-spares g c told = record {
       let i = c.args.entry in
       let list = c.in_ok-ids.ids.items in
       let whole = whole-minis-as s i c.content_in-start.result.0 c.content_in-start.result.1 list c.content_in-start.ensures.start c.content_in-start.ensures.len c.in_ok-ids.ensures.whole in
-      own-minis-kept v s c.cut_mini_listed.new.self i list change c.requires.stream (owned-minis s i c.requires.small list whole) (c.cut_mini_listed.ensures.spares told)
-      (c.cut_mini_listed.ensures.mini_spares told v change.held);
+      own-minis-kept v s c.cut_mini_listed.new.self i list change c.requires.stream (owned-minis s i c.requires.small list whole) (c.cut_mini_listed.ensures.changes.spares told)
+      (c.cut_mini_listed.ensures.holds.mini_spares told v change.held);
   header =
-      spared-keeps-header _ c.args.mini.now c.cut_mini_listed.new.self (c.cut_mini_listed.ensures.spares told);
+      spared-keeps-header _ c.args.mini.now c.cut_mini_listed.new.self (c.cut_mini_listed.ensures.changes.spares told);
   unwritten = λ calm.
       elim (cases_lt c.div_ceil-wanted.result (length c.in_ok-ids.ids.items)) [
-        | inl fewer ↦ absurd (not-both (table_of c.cut_mini_listed.new.self).file.begun (c.in_ok-cut_mini_listed.ensures.begun.1 fewer) calm)
+        | inl fewer ↦ absurd (not-both (table_of c.cut_mini_listed.new.self).file.begun (c.in_ok-cut_mini_listed.ensures.ends.begun.1 fewer) calm)
         | inr all ↦ ap (λ (s : MiniState). bytes_of s) (c.cut_mini_listed.ensures.none all).1
       ];
 }
 
 pub returns-in_err-cut_mini_listed-clause-takes_none : goal.returns-in_err-cut_mini_listed-clause-takes_none
-returns-in_err-cut_mini_listed-clause-takes_none g c = c.cut_mini_listed.ensures.sizes.sectors
+returns-in_err-cut_mini_listed-clause-takes_none g c = c.cut_mini_listed.ensures.ends.sizes.sectors
 
 pub returns-clause-takes_none : goal.returns-clause-takes_none
-returns-clause-takes_none g c = c.cut_mini_listed.ensures.sizes.sectors
+returns-clause-takes_none g c = c.cut_mini_listed.ensures.ends.sizes.sectors
 
 pub returns-clause-tight : goal.returns-clause-tight
-returns-clause-tight g c = sizes-tight c.args.mini.now c.cut_mini_listed.new.self c.cut_mini_listed.ensures.sizes
+returns-clause-tight g c = sizes-tight c.args.mini.now c.cut_mini_listed.new.self c.cut_mini_listed.ensures.ends.sizes
 
 pub returns-clause-enough : goal.returns-clause-enough
 returns-clause-enough g c v held =
@@ -138,6 +138,6 @@ returns-clause-few g c list chain =
     let wanted : c.div_ceil-wanted.result ≡ rounded_up c.args.size 64 = omega (arith, c.div_ceil-wanted.ensures) in
     let left = c.cut_mini_listed.new.ids.items in
     mini-cut-takes-few c.args.mini.now c.cut_mini_listed.new.self.minifat c.content_in-start.result.0 c.content_in-start.result.1 c.args.size c.div_ceil-wanted.result
-    c.in_ok-ids.ids.items left list (omega (arith, c.requires.shorter, c.content_in-start.ensures.len)) c.in_ok-ids.ensures.whole wanted c.in_ok-cut_mini_listed.ensures.listed
-    c.cut_mini_listed.ensures.chain
+    c.in_ok-ids.ids.items left list (omega (arith, c.requires.shorter, c.content_in-start.ensures.len)) c.in_ok-ids.ensures.whole wanted c.in_ok-cut_mini_listed.ensures.cuts.listed
+    c.cut_mini_listed.ensures.cuts.chain
     (subst (λ n. IsChain c.cut_mini_listed.new.self.minifat n list) (c.first_number.ensures ∙ ap first_or_end c.deref.ensures.value) chain)

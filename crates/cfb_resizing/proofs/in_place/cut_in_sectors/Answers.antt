@@ -58,7 +58,7 @@ returns-in_err-cut_listed-clause-spares g c told = record {
   header =
       table-keeps-header _ c.args.mini.now c.open_whole_chain.new.allocator c.cut_listed.new.self (c.open_whole_chain.ensures.unchanged ∙ c.allocator_mut-allocator.ensures.value) (c.cut_listed.ensures.cuts.spares told);
   unwritten = λ calm.
-      after_any _ _ _ c.in_err-cut_listed.field-0.0 c.in_err-cut_listed.ensures.refused (λ broken. absurd (not-both c.cut_listed.new.self.file.begun broken.0 calm))
+      after_any _ _ _ c.in_err-cut_listed.field-0.0 c.in_err-cut_listed.ensures.ends.refused (λ broken. absurd (not-both c.cut_listed.new.self.file.begun broken.0 calm))
       (λ kept. ap (λ (a : AllocatorState). a.file.bytes) (kept.0 ∙ c.open_whole_chain.ensures.unchanged ∙ c.allocator_mut-allocator.ensures.value));
 }
 
@@ -66,7 +66,7 @@ pub returns-in_err-cut_listed-clause-err : goal.returns-in_err-cut_listed-clause
 returns-in_err-cut_listed-clause-err g c =
     let p = err_from_is_err_and c.from_residual-in_err-cut_listed.result c.from_residual-in_err-cut_listed.ensures.1 in
     rw (p.1, p.2) (refused-as _ _ _ _ _ _ _ _ (not-usable c.args.mini.now c.open_whole_chain.new.allocator (c.open_whole_chain.ensures.unchanged ∙ c.allocator_mut-allocator.ensures.value)) (λ no. absurd no) (λ no. absurd no) (λ u. u)
-    c.in_err-cut_listed.field-0.0 c.in_err-cut_listed.ensures.err)
+    c.in_err-cut_listed.field-0.0 c.in_err-cut_listed.ensures.ends.err)
 
 pub returns-clause-turned : goal.returns-clause-turned
 returns-clause-turned g c told =

@@ -35,7 +35,7 @@ zero_in_minis-requires g c =
 pub returns-in_err-extend_mini_listed-clause-mini_spares : goal.returns-in_err-extend_mini_listed-clause-mini_spares
 returns-in_err-extend_mini_listed-clause-mini_spares g c told v held =
     let ids = c.args.ids.now.items in
-    spares-less (ends_of ids) ids c.args.mini.now c.extend_mini_listed.new.self (ends_among ids) (c.extend_mini_listed.ensures.mini_spares told v held)
+    spares-less (ends_of ids) ids c.args.mini.now c.extend_mini_listed.new.self (ends_among ids) (c.extend_mini_listed.ensures.holds.mini_spares told v held)
 
 pub returns-in_err-extend_mini_listed-clause-err : goal.returns-in_err-extend_mini_listed-clause-err
 returns-in_err-extend_mini_listed-clause-err g c =
@@ -44,7 +44,7 @@ returns-in_err-extend_mini_listed-clause-err g c =
     let p = err_from_is_err_and c.from_residual.result c.from_residual.ensures.1 in
     rw (p.1, p.2) (refused-as _ _ _ _ _ _ _ _
     (λ w. elim w [ inl none ↦ none | inr ends ↦ absurd (ends.1 (chain_ends minifat (first_or_end ids) ids c.requires.chain ends.0)) ])
-    (λ u. u) (λ few. c.requires.enough few) (λ u. u) c.in_err-extend_mini_listed.field-0.0 c.in_err-extend_mini_listed.ensures.err)
+    (λ u. u) (λ few. c.requires.enough few) (λ u. u) c.in_err-extend_mini_listed.field-0.0 c.in_err-extend_mini_listed.ensures.ends.err)
 
 pub returns-clause-chain : goal.returns-clause-chain
 returns-clause-chain g c =
@@ -75,55 +75,55 @@ pub returns-clause-padded : goal.returns-clause-padded
 returns-clause-padded g c told v held there =
     let have : c.len.result ≡ length c.args.ids.now.items = omega (arith, c.len.ensures, c.args.ids.now.ok.0) in
     let chain = c.extend_mini_listed.ensures.chain c.requires.chain in
-    let now = c.in_ok-extend_mini_listed.ensures.holds told v held in
+    let now = c.in_ok-extend_mini_listed.ensures.holds.holds told v held in
     on_ok _ _ c.zero_in_minis.result
     (λ put. minis-lengthened-padded c.args.mini.now c.extend_mini_listed.new.self c.args.lacking c.args.ids.now.items c.extend_mini_listed.new.ids.items
     c.extend_mini_listed.ensures.listed chain c.zero_in_minis.new.mini c.zero_in_minis.ensures.kept v c.deref.result.now c.args.size c.args.len c.len.result c.saturating_mul-room.result
-    c.min.result c.deref.ensures.value held now c.requires.chain c.extend_mini_listed.ensures.limits.version c.extend_mini_listed.ensures.goes_on
-    (c.extend_mini_listed.ensures.bytes told v held) (c.in_ok-extend_mini_listed.ensures.filled told v held) have c.saturating_mul-room.ensures c.min.ensures c.ranges.size.fits
+    c.min.result c.deref.ensures.value held now c.requires.chain c.extend_mini_listed.ensures.changes.limits.version c.extend_mini_listed.ensures.goes_on
+    (c.extend_mini_listed.ensures.holds.bytes told v held) (c.in_ok-extend_mini_listed.ensures.holds.filled told v held) have c.saturating_mul-room.ensures c.min.ensures c.ranges.size.fits
     c.requires.lacking c.in_ok-extend_mini_listed.ensures.count there put (c.zero_in_minis.ensures.others told))
     (c.zero_in_minis.ensures.put told v now (subst (λ (l : List ℕ). IsDistinct nat_eq l) (sym c.deref.ensures.value) chain.distinct))
 
 pub returns-clause-holds : goal.returns-clause-holds
-returns-clause-holds g c told v held = c.zero_in_minis.ensures.holds told v (c.in_ok-extend_mini_listed.ensures.holds told v held)
+returns-clause-holds g c told v held = c.zero_in_minis.ensures.holds told v (c.in_ok-extend_mini_listed.ensures.holds.holds told v held)
 
 pub returns-clause-whole : goal.returns-clause-whole
 returns-clause-whole g c told v held was =
     let mid = c.extend_mini_listed.new.self in
     let new = c.zero_in_minis.new.mini in
-    let first = c.in_ok-extend_mini_listed.ensures.whole told v held was in
+    let first = c.in_ok-extend_mini_listed.ensures.holds.whole told v held was in
     let tables = (file-system mid mid new c.zero_in_minis.ensures.kept).tables in
     on_ok _ _ c.zero_in_minis.result
     (λ after. same-whole v (table_of mid) (table_of new) after.directory.tables (ap (λ (t : TableState). t.version) tables) (ap (λ (t : TableState). length t.fat) tables)
     (c.zero_in_minis.ensures.spares told).no_shorter first)
-    (c.zero_in_minis.ensures.holds told v (c.in_ok-extend_mini_listed.ensures.holds told v held))
+    (c.zero_in_minis.ensures.holds told v (c.in_ok-extend_mini_listed.ensures.holds.holds told v held))
 
 pub returns-clause-spares : goal.returns-clause-spares
 returns-clause-spares g c told =
     minis-lengthened-spare c.args.mini.now c.extend_mini_listed.new.self c.args.lacking c.args.ids.now.items c.extend_mini_listed.new.ids.items c.extend_mini_listed.ensures.listed
     (c.extend_mini_listed.ensures.chain c.requires.chain) c.zero_in_minis.new.mini c.zero_in_minis.ensures.kept (λ z. (c.extend_mini_listed.ensures.none z).1)
-    c.in_ok-extend_mini_listed.ensures.grown (c.extend_mini_listed.ensures.spares told) (c.zero_in_minis.ensures.spares told)
+    c.in_ok-extend_mini_listed.ensures.grown (c.extend_mini_listed.ensures.changes.spares told) (c.zero_in_minis.ensures.spares told)
 
 pub returns-clause-mini_spares : goal.returns-clause-mini_spares
 returns-clause-mini_spares g c told v held =
     minis-lengthened-mini-spare c.args.mini.now c.extend_mini_listed.new.self c.args.lacking c.args.ids.now.items c.extend_mini_listed.new.ids.items c.extend_mini_listed.ensures.listed
     (c.extend_mini_listed.ensures.chain c.requires.chain) c.zero_in_minis.new.mini c.zero_in_minis.ensures.kept v c.deref.result.now c.deref.ensures.value held
-    c.extend_mini_listed.ensures.limits.version (λ z. (c.extend_mini_listed.ensures.none z).2) c.in_ok-extend_mini_listed.ensures.taken (c.extend_mini_listed.ensures.mini_spares told v held)
-    (c.zero_in_minis.ensures.mini_spares told v (c.in_ok-extend_mini_listed.ensures.holds told v held))
+    c.extend_mini_listed.ensures.changes.limits.version (λ z. (c.extend_mini_listed.ensures.none z).2) c.in_ok-extend_mini_listed.ensures.taken (c.extend_mini_listed.ensures.holds.mini_spares told v held)
+    (c.zero_in_minis.ensures.mini_spares told v (c.in_ok-extend_mini_listed.ensures.holds.holds told v held))
 
 pub returns-clause-header : goal.returns-clause-header
 returns-clause-header g c told =
     let s = c.args.mini.now in
     let mid = c.extend_mini_listed.new.self in
     let new = c.zero_in_minis.new.mini in
-    all_ok c.zero_in_minis.result (both-outside (bytes_of s) (bytes_of mid) (bytes_of new) (c.extend_mini_listed.ensures.spares told).no_shorter (c.extend_mini_listed.ensures.header told)
+    all_ok c.zero_in_minis.result (both-outside (bytes_of s) (bytes_of mid) (bytes_of new) (c.extend_mini_listed.ensures.changes.spares told).no_shorter (c.extend_mini_listed.ensures.changes.header told)
     (minis-outside mid c.deref.result.now c.args.len _ (bytes_of mid) (bytes_of new) (c.zero_in_minis.ensures.others told)))
 
 pub returns-clause-around : goal.returns-clause-around
 returns-clause-around g c = file-around c.args.mini.now c.extend_mini_listed.new.self c.zero_in_minis.new.mini c.zero_in_minis.ensures.kept (record {
-  directory = c.extend_mini_listed.ensures.directory;
-  entries = c.extend_mini_listed.ensures.entries;
-  limits = c.extend_mini_listed.ensures.limits;
+  directory = c.extend_mini_listed.ensures.changes.directory;
+  entries = c.extend_mini_listed.ensures.changes.entries;
+  limits = c.extend_mini_listed.ensures.changes.limits;
 })
 
 pub returns-clause-tight : goal.returns-clause-tight
@@ -136,11 +136,11 @@ returns-clause-tight g c =
 pub returns-clause-unwritten : goal.returns-clause-unwritten
 returns-clause-unwritten g c told not =
     tail-unwritten c.args.mini.now c.extend_mini_listed.new.self c.zero_in_minis.new.mini c.args.len c.min.result c.args.lacking (λ no. (c.zero_in_minis.ensures.none no).1)
-    c.zero_in_minis.ensures.begun (λ z. (c.extend_mini_listed.ensures.none z).1) c.in_ok-extend_mini_listed.ensures.begun.1 not
+    c.zero_in_minis.ensures.begun (λ z. (c.extend_mini_listed.ensures.none z).1) c.in_ok-extend_mini_listed.ensures.ends.begun.1 not
 
 pub returns-clause-counts : goal.returns-clause-counts
 returns-clause-counts g c told =
-    subst (λ (n : ℕ). CountsFailure g.F.Medium.write_faults c.zero_in_minis.result n (table_of c.zero_in_minis.new.mini).file.failures) (c.in_ok-extend_mini_listed.ensures.counts told)
+    subst (λ (n : ℕ). CountsFailure g.F.Medium.write_faults c.zero_in_minis.result n (table_of c.zero_in_minis.new.mini).file.failures) (c.in_ok-extend_mini_listed.ensures.changes.counts told)
     (c.zero_in_minis.ensures.counts told)
 
 pub returns-clause-snug_mini : goal.returns-clause-snug_mini
@@ -150,4 +150,4 @@ returns-clause-snug_mini g c told v held snug =
     all_ok c.zero_in_minis.result (file-snug mid c.zero_in_minis.new.mini c.zero_in_minis.ensures.kept
     (extended-snug v s mid c.args.lacking c.args.ids.now.items c.extend_mini_listed.new.ids.items (λ z. (c.extend_mini_listed.ensures.none z).1)
     c.in_ok-extend_mini_listed.ensures.grown c.in_ok-extend_mini_listed.ensures.taken c.in_ok-extend_mini_listed.ensures.count c.in_ok-extend_mini_listed.ensures.measured
-    c.extend_mini_listed.ensures.limits (c.in_ok-extend_mini_listed.ensures.holds told v held) snug))
+    c.extend_mini_listed.ensures.changes.limits (c.in_ok-extend_mini_listed.ensures.holds.holds told v held) snug))

@@ -57,7 +57,7 @@ returns-clause-stands g c told v held apart unnamed =
     let freed-held = given-held c.args.mini.now c.allocator_mut.result.now c.free_listed.new.self c.args.list.now c.allocator_mut.ensures.value c.in_ok-free_listed.ensures.frees.freed v held apart
     (c.in_ok-free_listed.ensures.holds told v lent-held (subst (λ (b : AllocatorState). IsUnnamed b.tables.fat (first_or_end c.args.list.now)) (sym c.allocator_mut.ensures.value) unnamed))
     (c.free_listed.ensures.frees.spares told) (c.free_listed.ensures.frees.changes told) in
-    let now = c.in_ok-extend_mini_listed.ensures.holds told v freed-held in
+    let now = c.in_ok-extend_mini_listed.ensures.holds.holds told v freed-held in
     on_ok _ _ c.put_in_minis.result (minis-stand c.extend_mini_listed.new.self c.args.count c.args.ids.now.items c.extend_mini_listed.new.ids.items c.deref.result.now c.requires.fresh c.deref.ensures.value c.in_ok-extend_mini_listed.ensures.count c.put_in_minis.new.mini c.args.bytes.now c.put_in_minis.ensures.kept)
     (c.put_in_minis.ensures.put told v now (subst (λ (l : List ℕ). IsDistinct nat_eq l) (sym c.deref.ensures.value) chain.distinct))
 
@@ -67,19 +67,19 @@ returns-clause-holds g c told v held apart unnamed =
     let freed-held = given-held c.args.mini.now c.allocator_mut.result.now c.free_listed.new.self c.args.list.now c.allocator_mut.ensures.value c.in_ok-free_listed.ensures.frees.freed v held apart
     (c.in_ok-free_listed.ensures.holds told v lent-held (subst (λ (b : AllocatorState). IsUnnamed b.tables.fat (first_or_end c.args.list.now)) (sym c.allocator_mut.ensures.value) unnamed))
     (c.free_listed.ensures.frees.spares told) (c.free_listed.ensures.frees.changes told) in
-    let now = c.in_ok-extend_mini_listed.ensures.holds told v freed-held in
+    let now = c.in_ok-extend_mini_listed.ensures.holds.holds told v freed-held in
     c.put_in_minis.ensures.holds told v now
 
 pub returns-in_err-extend_mini_listed-clause-spares : goal.returns-in_err-extend_mini_listed-clause-spares
 returns-in_err-extend_mini_listed-clause-spares g c told =
     carried-spares-both c.args.mini.now c.allocator_mut.result.now c.free_listed.new.self c.args.list.now c.allocator_mut.ensures.value c.in_ok-free_listed.ensures.frees.freed
-    c.extend_mini_listed.new.self c.extend_mini_listed.new.self c.args.count c.extend_mini_listed.new.ids.items c.args.ids.now.items c.requires.fresh refl (c.free_listed.ensures.frees.spares told) (c.extend_mini_listed.ensures.spares told)
+    c.extend_mini_listed.new.self c.extend_mini_listed.new.self c.args.count c.extend_mini_listed.new.ids.items c.args.ids.now.items c.requires.fresh refl (c.free_listed.ensures.frees.spares told) (c.extend_mini_listed.ensures.changes.spares told)
 
 pub returns-clause-spares : goal.returns-clause-spares
 returns-clause-spares g c told =
     carried-spares-all c.args.mini.now c.allocator_mut.result.now c.free_listed.new.self c.args.list.now c.allocator_mut.ensures.value c.in_ok-free_listed.ensures.frees.freed
     c.extend_mini_listed.new.self c.put_in_minis.new.mini c.args.count c.extend_mini_listed.new.ids.items c.args.ids.now.items c.requires.fresh c.put_in_minis.ensures.kept (λ z. (c.extend_mini_listed.ensures.none z).1) c.in_ok-extend_mini_listed.ensures.grown (c.free_listed.ensures.frees.spares told)
-    (c.extend_mini_listed.ensures.spares told) (c.put_in_minis.ensures.spares told)
+    (c.extend_mini_listed.ensures.changes.spares told) (c.put_in_minis.ensures.spares told)
 
 pub returns-in_err-extend_mini_listed-clause-mini_spares : goal.returns-in_err-extend_mini_listed-clause-mini_spares
 returns-in_err-extend_mini_listed-clause-mini_spares g c told v held apart unnamed =
@@ -88,10 +88,10 @@ returns-in_err-extend_mini_listed-clause-mini_spares g c told v held apart unnam
     (c.in_ok-free_listed.ensures.holds told v lent-held (subst (λ (b : AllocatorState). IsUnnamed b.tables.fat (first_or_end c.args.list.now)) (sym c.allocator_mut.ensures.value) unnamed))
     (c.free_listed.ensures.frees.spares told) (c.free_listed.ensures.frees.changes told) in
     let second = subst (λ (l : List ℕ). SparesMini (ends_of l) (with_table c.args.mini.now c.free_listed.new.self) c.extend_mini_listed.new.self) c.requires.fresh
-    (c.extend_mini_listed.ensures.mini_spares told v freed-held) in
+    (c.extend_mini_listed.ensures.holds.mini_spares told v freed-held) in
     carried-minis-both c.args.mini.now c.allocator_mut.result.now c.free_listed.new.self c.args.list.now c.allocator_mut.ensures.value c.in_ok-free_listed.ensures.frees.freed
     c.extend_mini_listed.new.self c.extend_mini_listed.new.self c.args.count c.extend_mini_listed.new.ids.items c.args.ids.now.items c.requires.fresh refl v held apart (c.free_listed.ensures.frees.spares told)
-    c.extend_mini_listed.ensures.limits.version second
+    c.extend_mini_listed.ensures.changes.limits.version second
 
 pub returns-clause-mini_spares : goal.returns-clause-mini_spares
 returns-clause-mini_spares g c told v held apart unnamed =
@@ -99,15 +99,15 @@ returns-clause-mini_spares g c told v held apart unnamed =
     let freed-held = given-held c.args.mini.now c.allocator_mut.result.now c.free_listed.new.self c.args.list.now c.allocator_mut.ensures.value c.in_ok-free_listed.ensures.frees.freed v held apart
     (c.in_ok-free_listed.ensures.holds told v lent-held (subst (λ (b : AllocatorState). IsUnnamed b.tables.fat (first_or_end c.args.list.now)) (sym c.allocator_mut.ensures.value) unnamed))
     (c.free_listed.ensures.frees.spares told) (c.free_listed.ensures.frees.changes told) in
-    let now = c.in_ok-extend_mini_listed.ensures.holds told v freed-held in
+    let now = c.in_ok-extend_mini_listed.ensures.holds.holds told v freed-held in
     let second = subst (λ (l : List ℕ). SparesMini (ends_of l) (with_table c.args.mini.now c.free_listed.new.self) c.extend_mini_listed.new.self) c.requires.fresh
-    (c.extend_mini_listed.ensures.mini_spares told v freed-held) in
+    (c.extend_mini_listed.ensures.holds.mini_spares told v freed-held) in
     let taken : 0 < c.args.count → TakesMini c.args.mini.now.max_mini_sectors c.args.mini.now.minifat c.extend_mini_listed.new.self.minifat [] c.extend_mini_listed.new.ids.items =
     λ some. subst (λ (l : List ℕ). TakesMini c.args.mini.now.max_mini_sectors c.args.mini.now.minifat c.extend_mini_listed.new.self.minifat (ends_of l)
     (gained l c.extend_mini_listed.new.ids.items)) c.requires.fresh (c.in_ok-extend_mini_listed.ensures.taken some) in
     carried-minis-all c.args.mini.now c.allocator_mut.result.now c.free_listed.new.self c.args.list.now c.allocator_mut.ensures.value c.in_ok-free_listed.ensures.frees.freed
     c.extend_mini_listed.new.self c.put_in_minis.new.mini c.args.count c.extend_mini_listed.new.ids.items c.args.ids.now.items c.requires.fresh c.put_in_minis.ensures.kept v held apart (c.free_listed.ensures.frees.spares told)
-    c.extend_mini_listed.ensures.limits.version second
+    c.extend_mini_listed.ensures.changes.limits.version second
     (came-free c.args.mini.now.max_mini_sectors c.args.count c.args.mini.now.minifat c.extend_mini_listed.new.self.minifat c.args.ids.now.items c.extend_mini_listed.new.ids.items
     c.requires.fresh (λ none. (c.extend_mini_listed.ensures.none none).2) taken)
     (subst (λ (l : List ℕ). SparesMini l c.extend_mini_listed.new.self c.put_in_minis.new.mini) c.deref.ensures.value (c.put_in_minis.ensures.mini_spares told v now))
@@ -125,12 +125,12 @@ returns-clause-whole g c told v held apart unnamed was =
     let given = subst (λ (b : AllocatorState). TablesGiveBack [] c.args.list.now b.tables freed.tables × (length b.file.bytes ≤ length freed.file.bytes)) c.allocator_mut.ensures.value
     (c.in_ok-free_listed.ensures.frees.freed, (c.free_listed.ensures.frees.changes told).no_shorter) in
     let first = same-whole v (table_of s) freed freed-held.directory.tables (ap (λ (t : TableState). t.version) given.0.rest) given.0.given.same_length given.1 was in
-    let second = c.in_ok-extend_mini_listed.ensures.whole told v freed-held first in
+    let second = c.in_ok-extend_mini_listed.ensures.holds.whole told v freed-held first in
     let tables = (file-system mid mid new c.put_in_minis.ensures.kept).tables in
     on_ok _ _ c.put_in_minis.result
     (λ after. same-whole v (table_of mid) (table_of new) after.directory.tables (ap (λ (t : TableState). t.version) tables) (ap (λ (t : TableState). length t.fat) tables)
     (c.put_in_minis.ensures.spares told).no_shorter second)
-    (c.put_in_minis.ensures.holds told v (c.in_ok-extend_mini_listed.ensures.holds told v freed-held))
+    (c.put_in_minis.ensures.holds told v (c.in_ok-extend_mini_listed.ensures.holds.holds told v freed-held))
 
 pub returns-clause-header : goal.returns-clause-header
 returns-clause-header g c told =
@@ -142,15 +142,15 @@ returns-clause-header g c told =
     let changes = c.free_listed.ensures.frees.changes told in
     let first = subst (λ (b : AllocatorState). (length b.file.bytes ≤ length freed.file.bytes) × KeepsOutsideMini b.file.bytes freed.file.bytes) c.allocator_mut.ensures.value
     (changes.no_shorter, outside-other lent.tables.version lent.file.bytes freed.file.bytes changes.header) in
-    let grown = (c.extend_mini_listed.ensures.spares told).no_shorter in
-    let second = both-outside (bytes_of s) freed.file.bytes (bytes_of mid) first.0 first.1 (c.extend_mini_listed.ensures.header told) in
+    let grown = (c.extend_mini_listed.ensures.changes.spares told).no_shorter in
+    let second = both-outside (bytes_of s) freed.file.bytes (bytes_of mid) first.0 first.1 (c.extend_mini_listed.ensures.changes.header told) in
     all_ok c.put_in_minis.result (both-outside (bytes_of s) (bytes_of mid) (bytes_of new) (omega (arith, first.0, grown)) second
     (minis-outside mid c.deref.result.now 0 (length c.args.bytes.now) (bytes_of mid) (bytes_of new) (c.put_in_minis.ensures.others told)))
 
 pub returns-clause-around : goal.returns-clause-around
 returns-clause-around g c =
     carried-around-all c.args.mini.now c.allocator_mut.result.now c.free_listed.new.self c.args.list.now c.allocator_mut.ensures.value c.in_ok-free_listed.ensures.frees.freed
-    c.extend_mini_listed.new.self c.put_in_minis.new.mini c.args.count c.extend_mini_listed.new.ids.items c.args.ids.now.items c.requires.fresh c.put_in_minis.ensures.kept c.extend_mini_listed.ensures.limits c.extend_mini_listed.ensures.entries c.extend_mini_listed.ensures.directory
+    c.extend_mini_listed.new.self c.put_in_minis.new.mini c.args.count c.extend_mini_listed.new.ids.items c.args.ids.now.items c.requires.fresh c.put_in_minis.ensures.kept c.extend_mini_listed.ensures.changes.limits c.extend_mini_listed.ensures.changes.entries c.extend_mini_listed.ensures.changes.directory
 
 pub returns-clause-tight : goal.returns-clause-tight
 returns-clause-tight g c =
@@ -207,7 +207,7 @@ returns-in_err-extend_mini_listed-clause-refused g c =
     let p = err_from_is_err_and c.from_residual-in_err-extend_mini_listed.result c.from_residual-in_err-extend_mini_listed.ensures.1 in
     rw (p.1, p.2) (carried-stops c.args.mini.now (with_table c.args.mini.now c.free_listed.new.self) c.extend_mini_listed.new.self c.args.count _ _
     (c.in_ok-free_listed.ensures.frees.begun.1 c.requires.some) (given-room c.args.mini.now c.allocator_mut.result.now c.free_listed.new.self c.args.list.now c.allocator_mut.ensures.value c.in_ok-free_listed.ensures.frees.freed c.requires.chain c.args.count c.requires.enough)
-    c.in_err-extend_mini_listed.field-0.0 c.in_err-extend_mini_listed.ensures.refused c.in_err-extend_mini_listed.ensures.err)
+    c.in_err-extend_mini_listed.field-0.0 c.in_err-extend_mini_listed.ensures.ends.refused c.in_err-extend_mini_listed.ensures.ends.err)
 
 pub returns-in_err-extend_mini_listed-clause-err : goal.returns-in_err-extend_mini_listed-clause-err
 returns-in_err-extend_mini_listed-clause-err g c =
@@ -223,22 +223,22 @@ returns-in_err-extend_mini_listed-clause-err g c =
       | inr ends ↦ absurd (let some = ends.0 in let empty = ap (λ (l : List ℕ). length l) c.requires.fresh in omega (arith, some, empty))
     ])
     (λ u. u) (given-room c.args.mini.now c.allocator_mut.result.now c.free_listed.new.self c.args.list.now c.allocator_mut.ensures.value c.in_ok-free_listed.ensures.frees.freed c.requires.chain c.args.count c.requires.enough) (λ u. u)
-    c.in_err-extend_mini_listed.field-0.0 c.in_err-extend_mini_listed.ensures.err)
+    c.in_err-extend_mini_listed.field-0.0 c.in_err-extend_mini_listed.ensures.ends.err)
 
 pub returns-clause-begun : goal.returns-clause-begun
 returns-clause-begun g c =
-    all_ok c.put_in_minis.result (begun-all c.extend_mini_listed.new.self c.put_in_minis.new.mini (length c.args.bytes.now) (c.in_ok-extend_mini_listed.ensures.begun.0 (c.in_ok-free_listed.ensures.frees.begun.1 c.requires.some))
+    all_ok c.put_in_minis.result (begun-all c.extend_mini_listed.new.self c.put_in_minis.new.mini (length c.args.bytes.now) (c.in_ok-extend_mini_listed.ensures.ends.begun.0 (c.in_ok-free_listed.ensures.frees.begun.1 c.requires.some))
     (λ none. (c.put_in_minis.ensures.none none).1) c.put_in_minis.ensures.begun)
 
 pub returns-clause-refused : goal.returns-clause-refused
 returns-clause-refused g c =
     medium-stops c.put_in_minis.result c.args.mini.now c.put_in_minis.new.mini c.put_in_minis.ensures.err
-    (begun-all c.extend_mini_listed.new.self c.put_in_minis.new.mini (length c.args.bytes.now) (c.in_ok-extend_mini_listed.ensures.begun.0 (c.in_ok-free_listed.ensures.frees.begun.1 c.requires.some))
+    (begun-all c.extend_mini_listed.new.self c.put_in_minis.new.mini (length c.args.bytes.now) (c.in_ok-extend_mini_listed.ensures.ends.begun.0 (c.in_ok-free_listed.ensures.frees.begun.1 c.requires.some))
     (λ none. (c.put_in_minis.ensures.none none).1) c.put_in_minis.ensures.begun)
 
 pub returns-clause-unwritten : goal.returns-clause-unwritten
 returns-clause-unwritten g c not =
-    absurd (not-both (table_of c.put_in_minis.new.mini).file.begun (begun-all c.extend_mini_listed.new.self c.put_in_minis.new.mini (length c.args.bytes.now) (c.in_ok-extend_mini_listed.ensures.begun.0 (c.in_ok-free_listed.ensures.frees.begun.1 c.requires.some))
+    absurd (not-both (table_of c.put_in_minis.new.mini).file.begun (begun-all c.extend_mini_listed.new.self c.put_in_minis.new.mini (length c.args.bytes.now) (c.in_ok-extend_mini_listed.ensures.ends.begun.0 (c.in_ok-free_listed.ensures.frees.begun.1 c.requires.some))
     (λ none. (c.put_in_minis.ensures.none none).1) c.put_in_minis.ensures.begun) not)
 
 pub returns-clause-snug_mini : goal.returns-clause-snug_mini
@@ -254,4 +254,4 @@ returns-clause-snug_mini g c told v held apart unnamed snug =
     all_ok c.put_in_minis.result (file-snug mid c.put_in_minis.new.mini c.put_in_minis.ensures.kept
     (extended-snug v (with_table s a) mid c.args.count c.args.ids.now.items c.extend_mini_listed.new.ids.items (λ z. (c.extend_mini_listed.ensures.none z).1)
     c.in_ok-extend_mini_listed.ensures.grown c.in_ok-extend_mini_listed.ensures.taken c.in_ok-extend_mini_listed.ensures.count c.in_ok-extend_mini_listed.ensures.measured
-    c.extend_mini_listed.ensures.limits (c.in_ok-extend_mini_listed.ensures.holds told v freed-held) (table-snug s a version snug)))
+    c.extend_mini_listed.ensures.changes.limits (c.in_ok-extend_mini_listed.ensures.holds.holds told v freed-held) (table-snug s a version snug)))

@@ -1,4 +1,5 @@
-use Rattle.std.proofs.Common.{◌≡◌, ◌≢◌, ◌⊎◌, ◌+◌, ◌++◌, inl, ℕ, List, refl, sym, ◌∙◌, ap, subst, drop, length, arith}
+use Rattle.std.proofs.lemmas.Grind.{common_steps}
+use Rattle.std.proofs.Common.{◌≡◌, ◌≢◌, ◌⊎◌, ◌+◌, ◌++◌, inl, ℕ, List, refl, sym, ◌∙◌, ap, subst, drop, length, arith, rules}
 use Rattle.std.specs.Prelude.{Contains}
 use Rattle.std.proofs.lemmas.List.{length-append}
 use Rattle.std.proofs.lemmas.Result.{err_from_is_err_and}
@@ -19,8 +20,19 @@ use Rattle.cfb_mini.proofs.MiniBegun.{ends-at, ends-here}
 use Rattle.cfb_mini.proofs.MiniWritten.{spares-mini-refl}
 use Rattle.cfb_mini.proofs.mini_allocator.MiniAllocator.extend_mini_chain_by.Goals as goal
 
-pub returns-in_err-ids-clause-spares : goal.returns-in_err-ids-clause-spares
-returns-in_err-ids-clause-spares g c told = spares_refl _ _
+pub returns-in_err-ids-clause-changes : goal.returns-in_err-ids-clause-changes
+returns-in_err-ids-clause-changes g c = record {
+  entries = first_of (search rules, grind (arith, common_steps));
+  directory = first_of (search rules, grind (arith, common_steps));
+  spares = λ told. spares_refl _ _;
+  header = first_of (search rules, grind (arith, common_steps));
+  limits = first_of (search rules, grind (arith, common_steps));
+  counts = λ told. (
+      let n = (table_of c.args.self.now).file.failures in
+      let p = err_from_is_err_and c.from_residual.result c.from_residual.ensures.1 in
+      rw (p.1, p.2) (subst (λ (e : Error). CountsError g.F.Medium.write_faults n n e) (sym c.in_err-ids.ensures.err) refl)
+  );
+}
 
 pub returns-in_err-ids-clause-mini_spares : goal.returns-in_err-ids-clause-mini_spares
 returns-in_err-ids-clause-mini_spares g c told validation h = spares-mini-refl (ending c.args.last) c.args.self.now
@@ -37,12 +49,6 @@ returns-in_err-ids-clause-err g c =
     rw (p.1, p.2) (subst (λ (e : Error). ChangeRefused (IsNotHeld s ⊎ ((c.args.last ≢ end_of_chain) × (value s.minifat c.args.last ≢ end_of_chain))) (Unit {0})
     (IsTooFewFor s c.args.count) (Unit {0}) e) (sym c.in_err-ids.ensures.err) tt)
 
-pub returns-in_err-ids-clause-counts : goal.returns-in_err-ids-clause-counts
-returns-in_err-ids-clause-counts g c told =
-    let n = (table_of c.args.self.now).file.failures in
-    let p = err_from_is_err_and c.from_residual.result c.from_residual.ensures.1 in
-    rw (p.1, p.2) (subst (λ (e : Error). CountsError g.F.Medium.write_faults n n e) (sym c.in_err-ids.ensures.err) refl)
-
 pub returns-in_err-ids-clause-goes_on : goal.returns-in_err-ids-clause-goes_on
 returns-in_err-ids-clause-goes_on g c = same_listed (mini_stream_of c.args.self.now) (mini_stream_of c.args.self.now) refl
 
@@ -51,14 +57,14 @@ returns-in_err-extend_mini_listed-clause-mini_spares g c told validation h =
     let ids = c.in_ok-ids.ids.items in
     let of = c.in_ok-ids.ensures in
     let new = c.extend_mini_listed.new.self in
-    subst (λ (l : List ℕ). SparesMini l c.args.self.now new) (ends-at ids c.args.last of.none of.one) (c.in_err-extend_mini_listed.ensures.mini_spares told validation h)
+    subst (λ (l : List ℕ). SparesMini l c.args.self.now new) (ends-at ids c.args.last of.none of.one) (c.in_err-extend_mini_listed.ensures.holds.mini_spares told validation h)
 
 pub returns-in_err-extend_mini_listed-clause-err : goal.returns-in_err-extend_mini_listed-clause-err
 returns-in_err-extend_mini_listed-clause-err g c =
     let p = err_from_is_err_and c.from_residual-in_err-extend_mini_listed.result c.from_residual-in_err-extend_mini_listed.ensures.1 in
     let of = c.in_ok-ids.ensures in
     rw (p.1, p.2) (refused-less _ _ _ _ _ (ends-here c.args.self.now c.in_ok-ids.ids.items c.args.last of.none of.one) c.in_err-extend_mini_listed.field-0.0
-    c.in_err-extend_mini_listed.ensures.err)
+    c.in_err-extend_mini_listed.ensures.ends.err)
 
 pub returns-clause-taken : goal.returns-clause-taken
 returns-clause-taken g c some =
@@ -86,7 +92,7 @@ pub returns-clause-grown : goal.returns-clause-grown
 returns-clause-grown g c some = c.in_ok-extend_mini_listed.ensures.grown some
 
 pub returns-clause-holds : goal.returns-clause-holds
-returns-clause-holds g c told validation h = c.in_ok-extend_mini_listed.ensures.holds told validation h
+returns-clause-holds g c told validation h = c.in_ok-extend_mini_listed.ensures.holds.holds told validation h
 
 pub returns-clause-filled : goal.returns-clause-filled
 returns-clause-filled g c told validation h =
@@ -94,13 +100,13 @@ returns-clause-filled g c told validation h =
     let ids = c.in_ok-ids.ids.items in
     let had : c.len-had.result ≡ length ids = omega (arith, c.len-had.ensures, c.in_ok-ids.ids.ok.0) in
     let more : gained ids c.extend_mini_listed.new.ids.items ≡ c.behind.result.items = ap (λ n. drop n c.extend_mini_listed.new.ids.items) (sym had) ∙ sym c.behind.ensures in
-    subst (λ (l : List ℕ). (m : ℕ) → Contains l m → IsZeroMini new m) more (c.in_ok-extend_mini_listed.ensures.filled told validation h)
+    subst (λ (l : List ℕ). (m : ℕ) → Contains l m → IsZeroMini new m) more (c.in_ok-extend_mini_listed.ensures.holds.filled told validation h)
 
 pub returns-clause-mini_spares : goal.returns-clause-mini_spares
 returns-clause-mini_spares g c told validation h =
     let of = c.in_ok-ids.ensures in
     let new = c.extend_mini_listed.new.self in
-    subst (λ (l : List ℕ). SparesMini l c.args.self.now new) (ends-at c.in_ok-ids.ids.items c.args.last of.none of.one) (c.in_ok-extend_mini_listed.ensures.mini_spares told validation h)
+    subst (λ (l : List ℕ). SparesMini l c.args.self.now new) (ends-at c.in_ok-ids.ids.items c.args.last of.none of.one) (c.in_ok-extend_mini_listed.ensures.holds.mini_spares told validation h)
 
 pub returns-clause-enough : goal.returns-clause-enough
 returns-clause-enough g c some = c.in_ok-extend_mini_listed.ensures.enough some

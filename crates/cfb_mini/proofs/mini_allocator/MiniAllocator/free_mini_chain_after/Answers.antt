@@ -1,4 +1,5 @@
-use Rattle.std.proofs.Common.{inr, ℕ, List, [], ◌∷◌, drop, refl, subst, arith}
+use Rattle.std.proofs.lemmas.Grind.{common_steps}
+use Rattle.std.proofs.Common.{inr, ℕ, List, [], ◌∷◌, drop, refl, subst, arith, rules}
 use Rattle.std.specs.Prelude.{Contains, OnOk}
 use Rattle.std.proofs.lemmas.Result.{on_ok_weaker}
 use Rattle.cfb_format.specs.Chain.{IsChain}
@@ -18,8 +19,15 @@ use Rattle.cfb_format.proofs.Walks.{chain_of}
 pub returns-then-mini-eq-END_OF_CHAIN-clause-stays : goal.returns-then-mini-eq-END_OF_CHAIN-clause-stays
 returns-then-mini-eq-END_OF_CHAIN-clause-stays g c = begins-refl c.args.self.now c.args.self.now refl refl
 
-pub returns-then-mini-eq-END_OF_CHAIN-clause-spares : goal.returns-then-mini-eq-END_OF_CHAIN-clause-spares
-returns-then-mini-eq-END_OF_CHAIN-clause-spares g c told = spares_refl _ _
+pub returns-then-mini-eq-END_OF_CHAIN-clause-changes : goal.returns-then-mini-eq-END_OF_CHAIN-clause-changes
+returns-then-mini-eq-END_OF_CHAIN-clause-changes g c = record {
+  entries = first_of (search rules, grind (arith, common_steps));
+  directory = first_of (search rules, grind (arith, common_steps));
+  spares = λ told. spares_refl _ _;
+  header = first_of (search rules, grind (arith, common_steps));
+  limits = first_of (search rules, grind (arith, common_steps));
+  counts = first_of (search rules, grind (arith, common_steps));
+}
 
 pub returns-then-mini-eq-END_OF_CHAIN-clause-err : goal.returns-then-mini-eq-END_OF_CHAIN-clause-err
 returns-then-mini-eq-END_OF_CHAIN-clause-err g c =
@@ -31,8 +39,15 @@ returns-then-mini-eq-END_OF_CHAIN-clause-err g c =
 pub returns-in_err-ids-clause-stays : goal.returns-in_err-ids-clause-stays
 returns-in_err-ids-clause-stays g c = begins-refl c.args.self.now c.args.self.now refl refl
 
-pub returns-in_err-ids-clause-spares : goal.returns-in_err-ids-clause-spares
-returns-in_err-ids-clause-spares g c told = spares_refl _ _
+pub returns-in_err-ids-clause-changes : goal.returns-in_err-ids-clause-changes
+returns-in_err-ids-clause-changes g c = record {
+  entries = first_of (search rules, grind (arith, common_steps));
+  directory = first_of (search rules, grind (arith, common_steps));
+  spares = λ told. spares_refl _ _;
+  header = first_of (search rules, grind (arith, common_steps));
+  limits = first_of (search rules, grind (arith, common_steps));
+  counts = first_of (search rules, grind (arith, common_steps));
+}
 
 pub returns-in_err-ids-clause-mini_spares : goal.returns-in_err-ids-clause-mini_spares
 returns-in_err-ids-clause-mini_spares g c told validation h list chain = spares-mini-refl (c.args.mini ∷ list) c.args.self.now
@@ -46,7 +61,7 @@ returns-clause-cut g c =
     let chain = c.in_ok-ids.ensures.ok in
     let ne = c.if-mini-eq-END_OF_CHAIN.false in
     let whole = subst (λ (l : List ℕ). IsChain old mini l) (begun-at old mini ids ne chain) chain in
-    on_ok_weaker c.cut_mini_listed.result (λ cut. (drop 1 ids, whole, cut-behind old new mini ids ne chain cut)) c.cut_mini_listed.ensures.given_back
+    on_ok_weaker c.cut_mini_listed.result (λ cut. (drop 1 ids, whole, cut-behind old new mini ids ne chain cut)) c.cut_mini_listed.ensures.cuts.given_back
 
 pub returns-clause-none : goal.returns-clause-none
 returns-clause-none g c ended =
@@ -69,16 +84,16 @@ pub returns-clause-holds : goal.returns-clause-holds
 returns-clause-holds g c told validation h =
     let old = c.args.self.now.minifat in
     let new = c.cut_mini_listed.new.self.minifat in
-    on_ok_then _ _ c.cut_mini_listed.result c.cut_mini_listed.ensures.given_back (λ cut.
+    on_ok_then _ _ c.cut_mini_listed.result c.cut_mini_listed.ensures.cuts.given_back (λ cut.
     let behind = cut-behind old new c.args.mini c.in_ok-ids.ids.items c.if-mini-eq-END_OF_CHAIN.false c.in_ok-ids.ensures.ok cut in
-    c.cut_mini_listed.ensures.holds told validation h (λ none. absurd (still-some old new c.args.mini (drop 1 c.in_ok-ids.ids.items) behind none)) (λ none. absurd (omega (arith, none))))
+    c.cut_mini_listed.ensures.holds.holds told validation h (λ none. absurd (still-some old new c.args.mini (drop 1 c.in_ok-ids.ids.items) behind none)) (λ none. absurd (omega (arith, none))))
 
 pub returns-clause-wiped : goal.returns-clause-wiped
 returns-clause-wiped g c told validation h list chain =
     let cut = c.cut_mini_listed in
     let mini = c.args.mini in
     let same = IsChain-unique c.args.self.now.minifat mini c.in_ok-ids.ids.items (mini ∷ list) c.in_ok-ids.ensures.ok chain in
-    subst (λ (l : List ℕ). OnOk cut.result ((m : ℕ) → Contains (drop 1 l) m → IsInMiniStream cut.new.self m → IsZeroMini cut.new.self m)) same (cut.ensures.wiped told validation h)
+    subst (λ (l : List ℕ). OnOk cut.result ((m : ℕ) → Contains (drop 1 l) m → IsInMiniStream cut.new.self m → IsZeroMini cut.new.self m)) same (cut.ensures.holds.wiped told validation h)
 
 pub returns-clause-erased : goal.returns-clause-erased
 returns-clause-erased g c told validation h list chain =
@@ -86,18 +101,18 @@ returns-clause-erased g c told validation h list chain =
     let mini = c.args.mini in
     let same = IsChain-unique c.args.self.now.minifat mini c.in_ok-ids.ids.items (mini ∷ list) c.in_ok-ids.ensures.ok chain in
     subst (λ (l : List ℕ). OnOk cut.result ((m : ℕ) → Contains (drop 1 l) m → AreZeros (bytes_of cut.new.self) (mini_place c.args.self.now m))) same
-    (cut.ensures.erased told validation h)
+    (cut.ensures.holds.erased told validation h)
 
 pub returns-clause-mini_spares : goal.returns-clause-mini_spares
 returns-clause-mini_spares g c told validation h list chain =
     let cut = c.cut_mini_listed in
     let mini = c.args.mini in
     let same = IsChain-unique c.args.self.now.minifat mini c.in_ok-ids.ids.items (mini ∷ list) c.in_ok-ids.ensures.ok chain in
-    subst (λ (l : List ℕ). SparesMini l c.args.self.now cut.new.self) same (cut.ensures.mini_spares told validation h)
+    subst (λ (l : List ℕ). SparesMini l c.args.self.now cut.new.self) same (cut.ensures.holds.mini_spares told validation h)
 
 pub returns-clause-bytes : goal.returns-clause-bytes
 returns-clause-bytes g c told validation h list chain =
     let cut = c.cut_mini_listed in
     let mini = c.args.mini in
     let same = IsChain-unique c.args.self.now.minifat mini c.in_ok-ids.ids.items (mini ∷ list) c.in_ok-ids.ensures.ok chain in
-    subst (λ (l : List ℕ). KeepsMiniBytesBut (drop 1 l) c.args.self.now cut.new.self) same (cut.ensures.bytes told validation h)
+    subst (λ (l : List ℕ). KeepsMiniBytesBut (drop 1 l) c.args.self.now cut.new.self) same (cut.ensures.holds.bytes told validation h)
