@@ -1,5 +1,6 @@
 //! The bytes of a stream where they stand, be the file sound or not.
 ghost use Rattle.std.specs.Prelude.{◌≡◌, ◌<◌, ◌≤◌, ◌+◌, ◌-◌, ◌⊎◌, ℕ, length, min, take, drop, slice_index, IsTrue, IfOk, IfErr, IsErrAnd, OnOk};
+ghost use Rattle.cfb_access.specs.cfb_mini.Reading.{OnlyReadsMinis};
 ghost use Rattle.cfb_access.specs.cfb_alloc.Reading.{OnlyReadsFile};
 ghost use Rattle.cfb_format.specs.Medium.{part};
 ghost use Rattle.cfb_format.specs.Refused.{CountsFailure, IsInvalidData, IsMemory};
@@ -120,7 +121,7 @@ fn read_along_minis<F: ReadMedium, A: Heap + Clone>(
 ) -> Result<usize, Error>
     requires some { 0 < length into.old }
     requires inside { at + length into.old ≤ len }
-    ensures kept { IsStill mini.old mini.new }
+        ensures reads { OnlyReadsMinis F.tells F.read_faults mini.old mini.new result }
     ensures count { IfOk result (λ n. (0 < n) × (n ≤ length into.old)) }
     ensures there { IfOk result (λ n. (k : ℕ) → k < at + n → IsThereAlongMinis mini.old start k) }
     ensures ok { IsTrue F.tells → IfOk result (λ n. (j : ℕ) → j < n
@@ -131,10 +132,6 @@ fn read_along_minis<F: ReadMedium, A: Heap + Clone>(
         (ChangeRefused (IsCutBy (IsThereAlongMinis mini.old start) at) Unit ⊥ Unit) }
     ensures cut { IsCutBy (IsThereAlongMinis mini.old start) at
         → IsErrAnd result (λ e. IsInvalidData e ⊎ IsMemory e) }
-    ensures same { IsTrue F.tells → OnOk result (mini.new ≡ mini.old) }
-    ensures bytes { IsTrue F.tells → bytes_of mini.new ≡ bytes_of mini.old }
-    ensures counts { IsTrue F.tells → CountsFailure F.read_faults result
-        (table_of mini.old).file.failures (table_of mini.new).file.failures }
 {
     let ids = mini.mini_chain(start)?;
     let there = there_in_minis(mini, &ids, len);
@@ -157,7 +154,7 @@ fn read_inside<F: ReadMedium, A: Heap + Clone>(
     requires inside { entry < length (entries_of mini.old) }
     requires some { 0 < length into.old }
     requires fits { at + length into.old ≤ len_of mini.old entry }
-    ensures kept { IsStill mini.old mini.new }
+        ensures reads { OnlyReadsMinis F.tells F.read_faults mini.old mini.new result }
     ensures count { IfOk result (λ n. (0 < n) × (n ≤ length into.old)) }
     ensures ok { IsTrue F.tells → TellsPlaces mini.old → IfOk result (λ n.
         take n into.new ≡ part (content_of mini.old (entry_at (entries_of mini.old) entry)) at n) }
@@ -171,10 +168,6 @@ fn read_inside<F: ReadMedium, A: Heap + Clone>(
     ensures past { IsTrue F.tells → TellsPlaces mini.old
         → length (content_of mini.old (entry_at (entries_of mini.old) entry)) ≤ at
         → IsErrAnd result (λ e. IsInvalidData e ⊎ IsMemory e) }
-    ensures same { IsTrue F.tells → OnOk result (mini.new ≡ mini.old) }
-    ensures bytes { IsTrue F.tells → bytes_of mini.new ≡ bytes_of mini.old }
-    ensures counts { IsTrue F.tells → CountsFailure F.read_faults result
-        (table_of mini.old).file.failures (table_of mini.new).file.failures }
 {
     let (start, len) = content_in(mini, entry);
     if len >= MINI_STREAM_CUTOFF as u64 {
@@ -193,7 +186,7 @@ pub fn read_content<F: ReadMedium, A: Heap + Clone>(
     into: &mut [u8],
 ) -> Result<usize, Error>
     requires inside { entry < length (entries_of mini.old) }
-    ensures kept { IsStill mini.old mini.new }
+        ensures reads { OnlyReadsMinis F.tells F.read_faults mini.old mini.new result }
     ensures count { IfOk result (λ n. n ≤ min (length into.old) (len_of mini.old entry - at)) }
     ensures some { IfOk result (λ n.
         0 < min (length into.old) (len_of mini.old entry - at) → 0 < n) }
@@ -210,10 +203,6 @@ pub fn read_content<F: ReadMedium, A: Heap + Clone>(
         → length (content_of mini.old (entry_at (entries_of mini.old) entry)) ≤ at
         → 0 < min (length into.old) (len_of mini.old entry - at)
         → IsErrAnd result (λ e. IsInvalidData e ⊎ IsMemory e) }
-    ensures same { IsTrue F.tells → OnOk result (mini.new ≡ mini.old) }
-    ensures bytes { IsTrue F.tells → bytes_of mini.new ≡ bytes_of mini.old }
-    ensures counts { IsTrue F.tells → CountsFailure F.read_faults result
-        (table_of mini.old).file.failures (table_of mini.new).file.failures }
 {
     let (_, len) = content_in(mini, entry);
     if into.is_empty() || at >= len {

@@ -1,6 +1,8 @@
 //! The allocator of mini sectors (MS-CFB 2.4): mini chains are begun, extended, cut and freed, in the MiniFAT, in the mini stream and in
 //! the root's entry.
 ghost use Rattle.std.specs.Prelude.{◌≡◌, ◌≢◌, ◌↔◌, ◌⊎◌, ℕ, ◌+◌, ◌-◌, ◌/◌, ◌%◌, ◌^◌, ◌<◌, ◌≤◌, ◌∷◌, ◌++◌, List, [], Option, length, map, max, min, chars, take, drop, true, false, Contains, IsTrue, MatchOption, vec_len, option_map, unwrap_or, IfOk, IfErr, IfSome, IsErrAnd, OnOk, OnErr};
+ghost use Rattle.cfb_mini.specs.Changing.{WritesInMini, MiniWriteRefused, ChangesEntries, HoldsMiniChanged, TakesLonger, GrowsIfAny, TakesMiniChain, GrowsChainIfAny, HoldsMiniChain, ChainTakingRefused, GivesBackIfAny, FreesMinis, HoldsMinisFreed, GivesChainRoom, FreesMinisAfter, HoldsMinisFreedAfter};
+ghost use Rattle.cfb_mini.specs.Reading.{OnlyReadsMinis, MiniReadRefused};
 ghost use Rattle.cfb_mini_changes.specs.Settling.{ChangesMiniStream, HoldsLonger, TakingRefused, CutsMinis, HoldsShorter, CuttingRefused};
 ghost use Rattle.cfb_mini.specs.cfb_directory.Changing.{RemovesSafely, SetsEntryFields, FieldsRefused, InsertsInDirectory};
 ghost use Rattle.cfb_mini.specs.cfb_alloc.Writing.{FlushesFile};
@@ -451,7 +453,7 @@ impl<F: ReadMedium, A: Heap> MiniAllocator<F, A> {
     /// mini stream has no such mini sector or the file ends before the byte, and `Medium` where the medium fails.
     pub fn read_mini(&mut self, mini: u32, offset: usize, into: &mut [u8]) -> Result<usize, Error>
         requires { offset ≤ mini_sector_len }
-        ensures kept { IsStill self.old self.new }
+        ensures reads { OnlyReadsMinis F.tells F.read_faults self.old self.new result }
         ensures part { ReadsBytesFrom F.tells
             (mini_start self.old.directory.table.tables.version (mini_stream_of self.old) mini +
             offset) into.old into.new (bytes_of self.old)
@@ -459,16 +461,8 @@ impl<F: ReadMedium, A: Heap> MiniAllocator<F, A> {
             (self.old.directory.table.file.len - (mini_start
             self.old.directory.table.tables.version (mini_stream_of self.old) mini + offset)))
             result }
-        ensures there { IfOk result (λ n. 0 < n → HasMiniByte self.old mini offset) }
-        ensures cut { 0 < min (length into.old) (mini_sector_len - offset)
-            → (HasMiniByte self.old mini offset → ⊥) → IsErrAnd result IsInvalidData }
-        ensures none { min (length into.old) (mini_sector_len - offset) ≡ 0
-            → OnErr result ⊥ × (self.new ≡ self.old) }
-        ensures err { HasMiniByte self.old mini offset → IfErr result IsMediumError }
-        ensures same { IsTrue F.tells → OnOk result (self.new ≡ self.old) }
-        ensures bytes { IsTrue F.tells → bytes_of self.new ≡ bytes_of self.old }
-        ensures counts { IsTrue F.tells → CountsFailure F.read_faults result
-            (table_of self.old).file.failures (table_of self.new).file.failures }
+        ensures error { MiniReadRefused mini offset self.old self.new
+            (min (length into.old) (mini_sector_len - offset)) result }
     {
         let len = into.len().min(MINI_SECTOR_LEN - offset);
         if len == 0 {
@@ -494,23 +488,15 @@ impl<F: Medium, A: Heap> MiniAllocator<F, A> {
     pub fn write_mini(&mut self, mini: u32, offset: usize, from: &[u8]) -> Result<(), Error>
         requires some { 0 < length from.now }
         requires within { offset + length from.now ≤ mini_sector_len }
-        ensures kept { ChangesFileOnly self.old self.new }
+        ensures writes { WritesInMini F.tells self.old self.new result }
         ensures put { PutsBytes F.tells F.write_faults
             (mini_start self.old.directory.table.tables.version (mini_stream_of self.old) mini +
             offset) from.now (table_of self.old).file (table_of self.new).file
             (mini_start self.old.directory.table.tables.version (mini_stream_of self.old) mini +
             offset + length from.now) (length from.now) result }
-        ensures there { OnOk result (HasMiniSector self.old mini) }
-        ensures cut { (HasMiniSector self.old mini → ⊥)
-            → IsErrAnd result IsInvalidData × (self.new ≡ self.old) }
-        ensures err { HasMiniSector self.old mini
-            → IfErr result IsMediumError × ((table_of self.new).file.begun ≡ true) }
-        ensures spares { IsTrue F.tells
-            → Spares (mini_stream_of self.old) (table_of self.old) (table_of self.new) }
+        ensures error { MiniWriteRefused mini self.old self.new result }
         ensures mini_spares { IsTrue F.tells → (validation : Validation)
             → HoldsMini validation self.old → SparesMini (mini ∷ []) self.old self.new }
-        ensures holds { IsTrue F.tells → (validation : Validation)
-            → HoldsMini validation self.old → OnOk result (HoldsMini validation self.new) }
         ensures refused { IfErr result (StopsShort self.old self.new) }
     {
         let Some(stream) = &self.mini_stream else {
@@ -530,28 +516,10 @@ impl<F: Medium, A: Heap> MiniAllocator<F, A> {
     /// file's bytes no other mini sector in use has changed, and no sector in use but those of the directory, of the MiniFAT, of the mini
     /// stream and of the tables.
     pub fn extend_mini_listed(&mut self, ids: &mut Vec<u32, A>, count: usize) -> Result<(), Error>
-        ensures listed { ids.new.items ≡ ids.old.items ++ gained ids.old.items ids.new.items }
-        ensures count { OnOk result (length (gained ids.old.items ids.new.items) ≡ count) }
-        ensures taken { 0 < count
-            → OnOk result (TakesMini self.old.max_mini_sectors self.old.minifat self.new.minifat
-            (ends_of ids.old.items) (gained ids.old.items ids.new.items)) }
-        ensures added { 0 < count
-            → OnOk result (IsChain self.new.minifat (first_or_end (ends_of ids.old.items
-            ++ gained ids.old.items ids.new.items)) (ends_of ids.old.items
-            ++ gained ids.old.items ids.new.items)) }
-        ensures chain { IsChain self.old.minifat (first_or_end ids.old.items) ids.old.items
-            → IsChain self.new.minifat (first_or_end ids.new.items) ids.new.items }
-        ensures none { count ≡ 0
-            → OnErr result ⊥ × (self.new ≡ self.old) × (ids.new.items ≡ ids.old.items) }
-        ensures grown { 0 < count → OnOk result (GrowsFor count self.old self.new) }
-        ensures measured { 0 < count → OnOk result (IsMeasuredMini self.new) }
+        ensures longer { TakesLonger count self.old self.new ids.old.items ids.new.items result }
+        ensures grows { GrowsIfAny count self.old self.new result }
         ensures changes { ChangesMiniStream F.tells F.write_faults self.old self.new result }
-        ensures goes_on { mini_stream_of self.new ≡ mini_stream_of self.old
-            ++ gained (mini_stream_of self.old) (mini_stream_of self.new) }
         ensures holds { HoldsLonger F.tells ids.old.items ids.new.items self.old self.new result }
-        ensures room { 0 < count
-            → OnOk result ((m : ℕ) → m < length self.new.minifat → HasMiniSector self.new m) }
-        ensures enough { 0 < count → OnOk result (IsTooFewFor self.old count → ⊥) }
         ensures ends { TakingRefused count ids.old.items ids.new.items self.old self.new result }
     {
         if count == 0 {
@@ -587,15 +555,7 @@ impl<F: Medium, A: Heap> MiniAllocator<F, A> {
             → OnErr result ⊥ × (self.new ≡ self.old) × (ids.new.items ≡ ids.old.items) }
         ensures changes { ChangesMiniStream F.tells F.write_faults self.old self.new result }
         ensures ends { CuttingRefused left ids.old.items ids.new.items self.old self.new result }
-        ensures room { left < length ids.old.items
-            → CanGiveRoomBack self.old → OnOk result (GivesRoomBack self.old self.new) }
-        ensures measured { left < length ids.old.items → OnOk result (IsMeasuredMini self.new) }
-        ensures snug { left < length ids.old.items
-            → (validation : Validation) → HoldsMini validation self.old
-            → OnOk result (IsSnugMini self.new) }
-        ensures counted { IsTrue F.tells → left < length ids.old.items
-            → (validation : Validation) → HoldsMini validation self.old → OnOk result
-            (word_at (bytes_of self.new) 64 ≡ length self.new.minifat_sectors) }
+        ensures room { GivesBackIfAny F.tells left self.old self.new ids.old.items result }
         ensures holds { HoldsShorter F.tells left ids.old.items self.old self.new result }
     {
         if left >= ids.len() {
@@ -623,33 +583,11 @@ impl<F: Medium, A: Heap + Clone> MiniAllocator<F, A> {
     /// `InvalidData` where `last` is neither END nor a mini sector that ends a chain, and where the bytes do not hold the mini sectors;
     /// `Memory`, `Full` and `Medium` as in `extend_mini_listed`.
     pub fn extend_mini_chain_by(&mut self, last: u32, count: usize) -> Result<Vec<u32, A>, Error>
-        ensures count { IfOk result (λ list. vec_len list ≡ count) }
-        ensures taken { 0 < count → IfOk result (λ list. TakesMini
-            self.old.max_mini_sectors self.old.minifat self.new.minifat (ending last) list.items) }
-        ensures added { 0 < count
-            → IfOk result (λ list. IsChain self.new.minifat (first_or_end (ending last
-            ++ list.items)) (ending last ++ list.items)) }
-        ensures none { count ≡ 0 → self.new ≡ self.old }
-        ensures grown { 0 < count → OnOk result (GrowsFor count self.old self.new) }
-        ensures measured { 0 < count → OnOk result (IsMeasuredMini self.new) }
+        ensures takes { TakesMiniChain last count self.old self.new result }
+        ensures grows { GrowsChainIfAny count self.old self.new result }
         ensures changes { ChangesMiniStream F.tells F.write_faults self.old self.new result }
-        ensures goes_on { mini_stream_of self.new ≡ mini_stream_of self.old
-            ++ gained (mini_stream_of self.old) (mini_stream_of self.new) }
-        ensures holds { IsTrue F.tells → (validation : Validation)
-            → HoldsMini validation self.old → OnOk result (HoldsMini validation self.new) }
-        ensures filled { IsTrue F.tells → (validation : Validation) → HoldsMini validation self.old
-            → IfOk result (λ list. (m : ℕ) → Contains list.items m → IsZeroMini self.new m) }
-        ensures mini_spares { IsTrue F.tells → (validation : Validation)
-            → HoldsMini validation self.old → SparesMini (ending last) self.old self.new }
-        ensures bytes { IsTrue F.tells → (validation : Validation)
-            → HoldsMini validation self.old → KeepsMiniBytesBut [] self.old self.new }
-        ensures enough { 0 < count → OnOk result (IsTooFewFor self.old count → ⊥) }
-        ensures begun { OnOk result (IsRaised (0
-            < count) (table_of self.old).file (table_of self.new).file) }
-        ensures refused { IfErr result (StopsShortOrFull count self.old self.new) }
-        ensures err { IfErr result (ChangeRefused (IsNotHeld self.old
-            ⊎ ((last ≢ end_of_chain) × (value self.old.minifat last
-            ≢ end_of_chain))) Unit (IsTooFewFor self.old count) Unit) }
+        ensures holds { HoldsMiniChain F.tells last self.old self.new result }
+        ensures ends { ChainTakingRefused last count self.old self.new result }
     {
         let mut ids = listed_end(&self.heap, last)?;
         let had = ids.len();
@@ -663,43 +601,10 @@ impl<F: Medium, A: Heap + Clone> MiniAllocator<F, A> {
     /// `InvalidData` where there is no such chain, and where the bytes do not hold the mini sectors; and `Memory`: then nothing has
     /// changed. `Medium` as in `cut_mini_listed`.
     pub fn free_mini_chain(&mut self, start: u32) -> Result<(), Error>
-        ensures freed { OnOk result ((list : List ℕ) × IsChain self.old.minifat start list
-            × MiniGivesBack [] list self.old.minifat self.new.minifat) }
-        ensures none { start ≡ end_of_chain → OnErr result ⊥ × (self.new ≡ self.old) }
+        ensures frees { FreesMinis start self.old self.new result }
         ensures changes { ChangesMiniStream F.tells F.write_faults self.old self.new result }
-        ensures sizes { KeepsSizes (tables_in self.old) (tables_in self.new) }
-        ensures stays { BeginsSystem self.old self.new }
-        ensures room { start ≢ end_of_chain
-            → CanGiveRoomBack self.old → OnOk result (GivesRoomBack self.old self.new) }
-        ensures measured { start ≢ end_of_chain → OnOk result (IsMeasuredMini self.new) }
-        ensures snug { start ≢ end_of_chain → (validation : Validation)
-            → HoldsMini validation self.old → OnOk result (IsSnugMini self.new) }
-        ensures counted { IsTrue F.tells → start ≢ end_of_chain
-            → (validation : Validation) → HoldsMini validation self.old → OnOk result
-            (word_at (bytes_of self.new) 64 ≡ length self.new.minifat_sectors) }
-        ensures holds { IsTrue F.tells → (validation : Validation)
-            → HoldsMini validation self.old
-            → (self.new.minifat ≡ [] → AreStartsUnnamed self.old)
-            → IsUnnamed self.old.minifat start → OnOk result (HoldsMini validation self.new) }
-        ensures wiped { IsTrue F.tells → (validation : Validation)
-            → HoldsMini validation self.old → (list : List ℕ) → IsChain self.old.minifat start list
-            → OnOk result ((m : ℕ) → Contains list m
-            → IsInMiniStream self.new m → IsZeroMini self.new m) }
-        ensures erased { IsTrue F.tells → (validation : Validation)
-            → HoldsMini validation self.old → (list : List ℕ) → IsChain self.old.minifat start list
-            → OnOk result ((m : ℕ) → Contains list m
-            → AreZeros (bytes_of self.new) (mini_place self.old m)) }
-        ensures mini_spares { IsTrue F.tells
-            → (validation : Validation) → HoldsMini validation self.old → (list : List ℕ)
-            → IsChain self.old.minifat start list → SparesMini list self.old self.new }
-        ensures bytes { IsTrue F.tells
-            → (validation : Validation) → HoldsMini validation self.old → (list : List ℕ)
-            → IsChain self.old.minifat start list → KeepsMiniBytesBut list self.old self.new }
-        ensures begun { OnOk result (IsRaised (start
-            ≢ end_of_chain) (table_of self.old).file (table_of self.new).file) }
-        ensures refused { IfErr result (StopsShort self.old self.new) }
-        ensures err { IfErr result (ChangeRefused (IsNotHeld self.old
-            ⊎ NoChain self.old.minifat start) Unit ⊥ Unit) }
+        ensures room { GivesChainRoom F.tells start self.old self.new result }
+        ensures holds { HoldsMinisFreed F.tells start self.old self.new result }
     {
         if start == END_OF_CHAIN {
             return Ok(());
@@ -714,42 +619,11 @@ impl<F: Medium, A: Heap + Clone> MiniAllocator<F, A> {
     /// `InvalidData` where no mini chain goes on from the mini sector or ends there, and where the bytes do not hold the mini sectors; and
     /// `Memory`: then nothing has changed. `Medium` as in `cut_mini_listed`.
     pub fn free_mini_chain_after(&mut self, mini: u32) -> Result<(), Error>
-        ensures cut { OnOk result ((list : List ℕ) × IsChain self.old.minifat mini (mini ∷ list)
-            × MiniGivesBack (mini ∷ []) list self.old.minifat self.new.minifat) }
-        ensures none { value self.old.minifat mini ≡ end_of_chain → self.new ≡ self.old }
+        ensures frees { FreesMinisAfter mini self.old self.new result }
         ensures changes { ChangesMiniStream F.tells F.write_faults self.old self.new result }
-        ensures sizes { KeepsSizes (tables_in self.old) (tables_in self.new) }
-        ensures stays { BeginsSystem self.old self.new }
-        ensures room { value self.old.minifat mini ≢ end_of_chain
-            → CanGiveRoomBack self.old → OnOk result (GivesRoomBack self.old self.new) }
-        ensures measured { value self.old.minifat mini ≢ end_of_chain
-            → OnOk result (IsMeasuredMini self.new) }
-        ensures snug { value self.old.minifat mini ≢ end_of_chain → (validation : Validation)
-            → HoldsMini validation self.old → OnOk result (IsSnugMini self.new) }
-        ensures counted { IsTrue F.tells → value self.old.minifat mini ≢ end_of_chain
-            → (validation : Validation) → HoldsMini validation self.old → OnOk result
-            (word_at (bytes_of self.new) 64 ≡ length self.new.minifat_sectors) }
-        ensures holds { IsTrue F.tells → (validation : Validation)
-            → HoldsMini validation self.old → OnOk result (HoldsMini validation self.new) }
-        ensures wiped { IsTrue F.tells → (validation : Validation) → HoldsMini validation self.old
-            → (list : List ℕ) → IsChain self.old.minifat mini (mini ∷ list)
-            → OnOk result ((m : ℕ) → Contains list m
-            → IsInMiniStream self.new m → IsZeroMini self.new m) }
-        ensures erased { IsTrue F.tells → (validation : Validation) → HoldsMini validation self.old
-            → (list : List ℕ) → IsChain self.old.minifat mini (mini ∷ list)
-            → OnOk result ((m : ℕ) → Contains list m
-            → AreZeros (bytes_of self.new) (mini_place self.old m)) }
-        ensures mini_spares { IsTrue F.tells → (validation : Validation)
-            → HoldsMini validation self.old → (list : List ℕ) → IsChain self.old.minifat mini (mini
-            ∷ list) → SparesMini (mini ∷ list) self.old self.new }
-        ensures bytes { IsTrue F.tells → (validation : Validation) → HoldsMini validation self.old
-            → (list : List ℕ) → IsChain self.old.minifat mini (mini ∷ list)
-            → KeepsMiniBytesBut list self.old self.new }
-        ensures begun { OnOk result (IsRaised (value self.old.minifat mini
-            ≢ end_of_chain) (table_of self.old).file (table_of self.new).file) }
-        ensures refused { IfErr result (StopsShort self.old self.new) }
-        ensures err { IfErr result (ChangeRefused (IsNotHeld self.old
-            ⊎ NoLast self.old.minifat mini) Unit ⊥ Unit) }
+        ensures room { GivesChainRoom F.tells (value self.old.minifat mini) self.old self.new result
+            }
+        ensures holds { HoldsMinisFreedAfter F.tells mini self.old self.new result }
     {
         if mini == END_OF_CHAIN {
             return Err(no_mini_chain(mini));
@@ -801,26 +675,11 @@ impl<F: Medium, A: Heap + Clone> MiniAllocator<F, A> {
             (chars name.now) list n × ((entry_at self.old.directory.entries n).child ≡ no_stream) }
         ensures removes { RemovesSafely parent (chars name.now) self.old.directory
             self.new.directory result }
-        ensures kept { (self.new.directory.sectors ≡ self.old.directory.sectors)
-            × (tables_in self.new ≡ tables_in self.old) }
-        ensures holds { IsTrue F.tells → (validation : Validation)
-            → HoldsMini validation self.old → OnOk result (HoldsMini validation self.new) }
-        ensures spares { IsTrue F.tells
-            → Spares self.old.directory.sectors (table_of self.old) (table_of self.new) }
-        ensures header { IsTrue F.tells → KeepsWholeHeader self.old.directory self.new.directory }
-        ensures others { IsTrue F.tells
-            → KeepsOtherSectors self.old.directory self.new.directory }
+        ensures changes { ChangesEntries F.tells F.write_faults self.old self.new result }
+        ensures holds { HoldsMiniChanged F.tells self.old self.new result }
         ensures slots { IsTrue F.tells
             → (validation : Validation) → HoldsDirectory validation self.old.directory
             → KeepsOtherSlots parent self.old.directory self.new.directory }
-        ensures limits { KeepsLimits self.old self.new }
-        ensures mini { KeepsMini self.old self.new }
-        ensures begun { OnOk result ((table_of self.new).file.begun ≡ true) }
-        ensures refused { IfErr result (StopsShort self.old self.new) }
-        ensures err { IfErr result
-            (ChangeRefused (IsDirectoryNotHeld self.old.directory) Unit ⊥ Unit) }
-        ensures counts { IsTrue F.tells → CountsFailure F.write_faults result
-            (table_of self.old).file.failures (table_of self.new).file.failures }
     {
         self.directory.remove_dir_entry(parent, name)
     }
@@ -886,8 +745,7 @@ impl<F: Medium, A: Heap> MiniAllocator<F, A> {
             → f.stream_len % 64 ≡ 0 }
         ensures sets { SetsEntryFields F.tells number self.old.directory self.new.directory
             (W.post change (fields_in (entry_at self.old.directory.entries number))) result }
-        ensures kept { (self.new.directory.sectors ≡ self.old.directory.sectors)
-            × (tables_in self.new ≡ tables_in self.old) }
+        ensures changes { ChangesEntries F.tells F.write_faults self.old self.new result }
         ensures holds { IsTrue F.tells
             → (validation : Validation) → HoldsMini validation self.old → ((f : Fields)
             → W.post change (fields_in (entry_at self.old.directory.entries number)) f
@@ -896,18 +754,8 @@ impl<F: Medium, A: Heap> MiniAllocator<F, A> {
             → (f : Fields) → W.post change (fields_in (entry_at self.old.directory.entries 0)) f
             → (f.start_sector ≡ (entry_at self.old.directory.entries 0).start_sector)
             × (f.stream_len ≡ root_len_of self.old)) → OnOk result (HoldsMini validation self.new) }
-        ensures spares { IsTrue F.tells
-            → Spares self.old.directory.sectors (table_of self.old) (table_of self.new) }
-        ensures header { IsTrue F.tells → KeepsWholeHeader self.old.directory self.new.directory }
-        ensures others { IsTrue F.tells
-            → KeepsOtherSectors self.old.directory self.new.directory }
         ensures limits { KeepsLimits self.old self.new }
-        ensures mini { KeepsMini self.old self.new }
-        ensures begun { OnOk result ((table_of self.new).file.begun ≡ true) }
-        ensures refused { IfErr result (StopsShort self.old self.new) }
         ensures error { FieldsRefused self.old.directory result }
-        ensures counts { IsTrue F.tells → CountsFailure F.write_faults result
-            (table_of self.old).file.failures (table_of self.new).file.failures }
     {
         self.directory.with_dir_entry_mut(number, change)
     }

@@ -1,5 +1,7 @@
 //! A mini chain as one list of bytes with a position (MS-CFB 2.4).
 ghost use Rattle.std.specs.Prelude.{◌≡◌, ◌≢◌, ℕ, List, [], ◌∷◌, ◌++◌, ◌+◌, ◌-◌, ◌*◌, ◌/◌, ◌%◌, ◌<◌, ◌≤◌, max, min, length, replicate, true, take, drop, slice_index, ◌⊎◌, Contains, Some, IsTrue, IfOk, IfErr, IsErrAnd, OnOk, OnErr, MatchResult, vec_len};
+ghost use Rattle.cfb_mini.specs.Changing.{WritesInMini};
+ghost use Rattle.cfb_mini.specs.Reading.{OnlyReadsMinis};
 ghost use Rattle.cfb_mini_chains.specs.cfb_sectors.Writing.{PutsBytes};
 ghost use Rattle.cfb_format.specs.declared.validate.Validation.{Validation};
 ghost use Rattle.cfb_format.specs.Bytes.{max_regular_sector, word_at};
@@ -145,7 +147,8 @@ impl<'a, F: ReadMedium, A: Heap> MiniChain<'a, F, A> {
     pub fn read(&mut self, into: &mut [u8]) -> Result<usize, Error>
         ensures same_minialloc { (minialloc_of self.new).ghost_name
             ≡ (minialloc_of self.old).ghost_name }
-        ensures kept { IsStill (state_of self.old) (state_of self.new) }
+        ensures reads { OnlyReadsMinis F.tells F.read_faults (state_of self.old) (state_of self.new)
+            result }
         ensures chain { (ids_of self.new ≡ ids_of self.old)
             × (start_sector_of self.new ≡ start_sector_of self.old) }
         ensures count { IfOk result (λ n. n ≤ min (length into.old) (left_of self.old)) }
@@ -164,11 +167,6 @@ impl<'a, F: ReadMedium, A: Heap> MiniChain<'a, F, A> {
             → OnErr result ⊥ × (state_of self.new ≡ state_of self.old) }
         ensures err { IfErr result (ChangeRefused (HasByteAt self.old (position_of self.old)
             → ⊥) ⊥ ⊥ Unit) }
-        ensures same { IsTrue F.tells → OnOk result (state_of self.new ≡ state_of self.old) }
-        ensures bytes { IsTrue F.tells → file_bytes_of self.new ≡ file_bytes_of self.old }
-        ensures counts { IsTrue F.tells
-            → CountsFailure F.read_faults result (table_of (state_of self.old)).file.failures
-            (table_of (state_of self.new)).file.failures }
     {
         if into.is_empty() || self.position >= self.len() {
             return Ok(0);
@@ -182,7 +180,8 @@ impl<'a, F: ReadMedium, A: Heap> MiniChain<'a, F, A> {
         requires inside { position_of self.old < len_of self.old }
         ensures same_minialloc { (minialloc_of self.new).ghost_name
             ≡ (minialloc_of self.old).ghost_name }
-        ensures kept { IsStill (state_of self.old) (state_of self.new) }
+        ensures reads { OnlyReadsMinis F.tells F.read_faults (state_of self.old) (state_of self.new)
+            result }
         ensures chain { (ids_of self.new ≡ ids_of self.old)
             × (start_sector_of self.new ≡ start_sector_of self.old) }
         ensures count { IfOk result (λ n. n ≤ min (length into.old) (left_of self.old)) }
@@ -199,11 +198,6 @@ impl<'a, F: ReadMedium, A: Heap> MiniChain<'a, F, A> {
             → IsErrAnd result IsInvalidData }
         ensures err { IfErr result (ChangeRefused (HasByteAt self.old (position_of self.old)
             → ⊥) ⊥ ⊥ Unit) }
-        ensures same { IsTrue F.tells → OnOk result (state_of self.new ≡ state_of self.old) }
-        ensures bytes { IsTrue F.tells → file_bytes_of self.new ≡ file_bytes_of self.old }
-        ensures counts { IsTrue F.tells
-            → CountsFailure F.read_faults result (table_of (state_of self.old)).file.failures
-            (table_of (state_of self.new)).file.failures }
     {
         let count = read_minis(self.minialloc, self.ids.numbers(), self.position, into)?;
         self.position += count as u64;
@@ -233,7 +227,7 @@ impl<'a, F: Medium, A: Heap> MiniChain<'a, F, A> {
     pub fn write_within(&mut self, from: &[u8]) -> Result<usize, Error>
         ensures same_minialloc { (minialloc_of self.new).ghost_name
             ≡ (minialloc_of self.old).ghost_name }
-        ensures kept { ChangesFileOnly (state_of self.old) (state_of self.new) }
+        ensures writes { WritesInMini F.tells (state_of self.old) (state_of self.new) result }
         ensures chain { (ids_of self.new ≡ ids_of self.old)
             × (start_sector_of self.new ≡ start_sector_of self.old) }
         ensures count { IfOk result (λ n. n ≤ min (length from.now) (left_of self.old)) }
@@ -257,15 +251,10 @@ impl<'a, F: Medium, A: Heap> MiniChain<'a, F, A> {
         ensures places { IsTrue F.tells
             → (validation : Validation) → HoldsMini validation (state_of self.old)
             → IfOk result (λ n. HasWritten n from.now self.old self.new) }
-        ensures holds { IsTrue F.tells
-            → (validation : Validation) → HoldsMini validation (state_of self.old)
-            → OnOk result (HoldsMini validation (state_of self.new)) }
         ensures others { IsTrue F.tells → ChangesOnlyWanted (length from.now) self.old self.new }
         ensures other_mini { IsTrue F.tells
             → (validation : Validation) → HoldsMini validation (state_of self.old)
             → OtherMiniSectorsStay (length from.now) self.old self.new }
-        ensures spares { IsTrue F.tells → Spares (mini_stream_of (state_of self.old))
-            (table_of (state_of self.old)) (table_of (state_of self.new)) }
         ensures mini_spares { IsTrue F.tells
             → (validation : Validation) → HoldsMini validation (state_of self.old)
             → SparesMini (ids_of self.old) (state_of self.old) (state_of self.new) }
@@ -289,7 +278,7 @@ impl<'a, F: Medium, A: Heap> MiniChain<'a, F, A> {
         requires inside { position_of self.old < len_of self.old }
         ensures same_minialloc { (minialloc_of self.new).ghost_name
             ≡ (minialloc_of self.old).ghost_name }
-        ensures kept { ChangesFileOnly (state_of self.old) (state_of self.new) }
+        ensures writes { WritesInMini F.tells (state_of self.old) (state_of self.new) result }
         ensures chain { (ids_of self.new ≡ ids_of self.old)
             × (start_sector_of self.new ≡ start_sector_of self.old) }
         ensures count { IfOk result (λ n. n ≤ min (length from.now) (left_of self.old)) }
@@ -310,13 +299,8 @@ impl<'a, F: Medium, A: Heap> MiniChain<'a, F, A> {
             → IsErrAnd result IsInvalidData }
         ensures err { IfErr result (ChangeRefused (HasMiniSectorAt self.old (position_of self.old)
             → ⊥) ⊥ ⊥ Unit) }
-        ensures holds { IsTrue F.tells
-            → (validation : Validation) → HoldsMini validation (state_of self.old)
-            → OnOk result (HoldsMini validation (state_of self.new)) }
         ensures others { IsTrue F.tells → ChangesTogether (ids_of self.old)
             (position_of self.old) (length from.now) (state_of self.old) (state_of self.new) }
-        ensures spares { IsTrue F.tells → Spares (mini_stream_of (state_of self.old))
-            (table_of (state_of self.old)) (table_of (state_of self.new)) }
         ensures mini_spares { IsTrue F.tells → (validation : Validation)
             → HoldsMini validation (state_of self.old) → SparesMini (minis_along (ids_of self.old)
             (position_of self.old) (length from.now)) (state_of self.old) (state_of self.new) }
@@ -338,7 +322,7 @@ impl<'a, F: Medium, A: Heap> MiniChain<'a, F, A> {
         requires { offset ≤ len_of self.old }
         ensures same_minialloc { (minialloc_of self.new).ghost_name
             ≡ (minialloc_of self.old).ghost_name }
-        ensures kept { ChangesFileOnly (state_of self.old) (state_of self.new) }
+        ensures writes { WritesInMini F.tells (state_of self.old) (state_of self.new) result }
         ensures chain { (ids_of self.new ≡ ids_of self.old)
             × (start_sector_of self.new ≡ start_sector_of self.old) }
         ensures position { position_of self.new ≡ position_of self.old }
@@ -356,14 +340,9 @@ impl<'a, F: Medium, A: Heap> MiniChain<'a, F, A> {
         ensures cut { 0 < offset % mini_sector_len
             → (HasMiniSectorAt self.old offset → ⊥) → IsErrAnd result IsInvalidData }
         ensures err { IfErr result (ChangeRefused (HasMiniSectorAt self.old offset → ⊥) ⊥ ⊥ Unit) }
-        ensures holds { IsTrue F.tells
-            → (validation : Validation) → HoldsMini validation (state_of self.old)
-            → OnOk result (HoldsMini validation (state_of self.new)) }
         ensures others { IsTrue F.tells
             → ChangesOnlyBytes (place_at self.old offset) (mini_sector_len
             - offset % mini_sector_len) (file_bytes_of self.old) (file_bytes_of self.new) }
-        ensures spares { IsTrue F.tells → Spares (mini_stream_of (state_of self.old))
-            (table_of (state_of self.old)) (table_of (state_of self.new)) }
         ensures mini_spares { IsTrue F.tells → (validation : Validation)
             → HoldsMini validation (state_of self.old) → SparesMini (mini_sector_at self.old offset
             ∷ []) (state_of self.old) (state_of self.new) }
@@ -821,7 +800,7 @@ fn read_minis<F: ReadMedium, A: Heap>(
 ) -> Result<usize, Error>
     requires some { 0 < length into.old }
     requires listed { at < length ids.now * mini_sector_len }
-    ensures kept { IsStill minialloc.old minialloc.new }
+        ensures reads { OnlyReadsMinis F.tells F.read_faults minialloc.old minialloc.new result }
     ensures some { IfOk result (λ n. (0 < n) × (n ≤ length into.old)) }
     ensures together { IfOk result (StandTogether minialloc.old ids.now at) }
     ensures reached { IfOk result (λ n. place_along_minis minialloc.old ids.now at + n
@@ -834,10 +813,6 @@ fn read_minis<F: ReadMedium, A: Heap>(
         → ⊥) → IsErrAnd result IsInvalidData }
     ensures err { IfErr result (ChangeRefused (HasMiniByte minialloc.old
         (slice_index ids.now (at / mini_sector_len)) (at % mini_sector_len) → ⊥) ⊥ ⊥ Unit) }
-    ensures same { IsTrue F.tells → OnOk result (minialloc.new ≡ minialloc.old) }
-    ensures bytes { IsTrue F.tells → bytes_of minialloc.new ≡ bytes_of minialloc.old }
-    ensures counts { IsTrue F.tells → CountsFailure F.read_faults result
-        (table_of minialloc.old).file.failures (table_of minialloc.new).file.failures }
 {
     let index = (at / MINI_SECTOR_LEN as u64) as usize;
     let offset = (at % MINI_SECTOR_LEN as u64) as usize;
@@ -857,7 +832,7 @@ fn write_minis<F: Medium, A: Heap>(
 ) -> Result<usize, Error>
     requires some { 0 < length from.now }
     requires listed { at < length ids.now * mini_sector_len }
-    ensures kept { ChangesFileOnly minialloc.old minialloc.new }
+        ensures writes { WritesInMini F.tells minialloc.old minialloc.new result }
     ensures some { IfOk result (λ n. (0 < n) × (n ≤ length from.now)) }
     ensures together { IfOk result (StandTogether minialloc.old ids.now at) }
     ensures ok { IsTrue F.tells → IfOk result (λ n. (table_of minialloc.new).file
@@ -878,13 +853,9 @@ fn write_minis<F: Medium, A: Heap>(
         → ⊥) ⊥ ⊥ Unit) }
     ensures others { IsTrue F.tells
         → ChangesTogether ids.now at (length from.now) minialloc.old minialloc.new }
-    ensures spares { IsTrue F.tells
-        → Spares (mini_stream_of minialloc.old) (table_of minialloc.old) (table_of minialloc.new) }
     ensures mini_spares { IsTrue F.tells → (validation : Validation)
         → HoldsMini validation minialloc.old
         → SparesMini (minis_along ids.now at (length from.now)) minialloc.old minialloc.new }
-    ensures holds { IsTrue F.tells → (validation : Validation)
-        → HoldsMini validation minialloc.old → OnOk result (HoldsMini validation minialloc.new) }
     ensures refused { IfErr result (StopsShort minialloc.old minialloc.new) }
     ensures counts { IsTrue F.tells → CountsFailure F.write_faults result
         (table_of minialloc.old).file.failures (table_of minialloc.new).file.failures }
@@ -906,7 +877,7 @@ fn write_mini_sector<F: Medium, A: Heap>(
 ) -> Result<(), Error>
     requires some { 0 < length from.now }
     requires within { offset + length from.now ≤ mini_sector_len }
-    ensures kept { ChangesFileOnly minialloc.old minialloc.new }
+        ensures writes { WritesInMini F.tells minialloc.old minialloc.new result }
         ensures put { PutsBytes F.tells F.write_faults
             (mini_start minialloc.old.directory.table.tables.version (mini_stream_of
             minialloc.old) mini + offset) from.now (table_of minialloc.old).file
@@ -917,12 +888,8 @@ fn write_mini_sector<F: Medium, A: Heap>(
     ensures begun { OnOk result ((table_of minialloc.new).file.begun ≡ true) }
     ensures cut { (HasMiniSector minialloc.old mini → ⊥) → IsErrAnd result IsInvalidData }
     ensures err { IfErr result (ChangeRefused (HasMiniSector minialloc.old mini → ⊥) ⊥ ⊥ Unit) }
-    ensures spares { IsTrue F.tells
-        → Spares (mini_stream_of minialloc.old) (table_of minialloc.old) (table_of minialloc.new) }
     ensures mini_spares { IsTrue F.tells → (validation : Validation)
         → HoldsMini validation minialloc.old → SparesMini (mini ∷ []) minialloc.old minialloc.new }
-    ensures holds { IsTrue F.tells → (validation : Validation)
-        → HoldsMini validation minialloc.old → OnOk result (HoldsMini validation minialloc.new) }
     ensures refused { IfErr result (StopsShort minialloc.old minialloc.new) }
 {
     minialloc.write_mini(mini, offset, from)

@@ -1,6 +1,7 @@
 //! Contents that move between sectors and mini sectors (MS-CFB 2.6.3): the old chain is free before the new one is taken, and all memory
 //! is had before the first write.
 ghost use Rattle.std.specs.Prelude.{◌⊎◌, length, slice_index, Contains, ◌≡◌, ◌<◌, ◌≤◌, ◌/◌, ◌*◌, ◌++◌, ◌+◌, ◌||◌, [], ℕ, None, false, true, IsTrue, IfOk, IfErr, OnOk, OnErr};
+ghost use Rattle.cfb_resizing.specs.cfb_mini.Reading.{OnlyReadsMinis};
 ghost use Rattle.cfb_format.specs.declared.validate.Validation.{Validation};
 ghost use Rattle.cfb_format.specs.Bytes.{end_of_chain, max_stream_len, sector_len};
 ghost use Rattle.cfb_format.specs.Chain.{IsChain};
@@ -175,17 +176,13 @@ fn taken_from_sectors<F: ReadMedium, A: Heap + Clone>(
 ) -> Result<Vec<u8, A>, Error>
     requires there { (k : ℕ) → k < len
         → IsThereInSectors (version_of mini.old) list.now (table_of mini.old).file.len k }
-    ensures kept { IsStill mini.old mini.new }
+        ensures reads { OnlyReadsMinis F.tells F.read_faults mini.old mini.new result }
     ensures len { IfOk result (λ bytes. length bytes.items ≡ len) }
     ensures got { IsTrue F.tells → IfOk result (λ bytes. (k : ℕ) → k < len
         → slice_index bytes.items k
         ≡ slice_index (bytes_of mini.old) (place_along (version_of mini.old) list.now k)) }
-    ensures same { IsTrue F.tells → OnOk result (mini.new ≡ mini.old) }
-    ensures bytes { IsTrue F.tells → bytes_of mini.new ≡ bytes_of mini.old }
     ensures refused { IfErr result (AfterMedium Unit (mini.new ≡ mini.old)) }
     ensures err { IfErr result (ChangeRefused ⊥ Unit ⊥ Unit) }
-    ensures counts { IsTrue F.tells → CountsFailure F.read_faults result
-        (table_of mini.old).file.failures (table_of mini.new).file.failures }
 {
     let mut bytes = vec![in mini.heap().clone()?; 0u8; len]?;
     get_from_sectors(mini.allocator_mut(), list, &mut bytes)?;
@@ -356,17 +353,13 @@ fn taken_from_minis<F: ReadMedium, A: Heap + Clone>(
     len: usize,
 ) -> Result<Vec<u8, A>, Error>
     requires there { (k : ℕ) → k < len → IsThereInMinis mini.old list.now k }
-    ensures kept { IsStill mini.old mini.new }
+        ensures reads { OnlyReadsMinis F.tells F.read_faults mini.old mini.new result }
     ensures len { IfOk result (λ bytes. length bytes.items ≡ len) }
     ensures got { IsTrue F.tells → IfOk result (λ bytes. (k : ℕ) → k < len
         → slice_index bytes.items k
         ≡ slice_index (bytes_of mini.old) (mini_place_along mini.old list.now k)) }
-    ensures same { IsTrue F.tells → OnOk result (mini.new ≡ mini.old) }
-    ensures bytes { IsTrue F.tells → bytes_of mini.new ≡ bytes_of mini.old }
     ensures refused { IfErr result (AfterMedium Unit (mini.new ≡ mini.old)) }
     ensures err { IfErr result (ChangeRefused ⊥ Unit ⊥ Unit) }
-    ensures counts { IsTrue F.tells → CountsFailure F.read_faults result
-        (table_of mini.old).file.failures (table_of mini.new).file.failures }
 {
     let mut bytes = vec![in mini.heap().clone()?; 0u8; len]?;
     get_from_minis(mini, list, &mut bytes)?;
@@ -382,7 +375,7 @@ fn joined_from_minis<F: ReadMedium, A: Heap + Clone>(
     bytes: &[u8],
 ) -> Result<Vec<u8, A>, Error>
     requires there { (k : ℕ) → k < len → IsThereInMinis mini.old list.now k }
-    ensures kept { IsStill mini.old mini.new }
+        ensures reads { OnlyReadsMinis F.tells F.read_faults mini.old mini.new result }
     ensures none { len ≡ 0 → IfOk result (λ joined. joined.items ≡ []) }
     ensures len { 0 < len → IfOk result (λ joined. length joined.items ≡ len + length bytes.now) }
     ensures got { IsTrue F.tells → IfOk result (λ joined. (k : ℕ) → k < len
@@ -390,12 +383,8 @@ fn joined_from_minis<F: ReadMedium, A: Heap + Clone>(
         ≡ slice_index (bytes_of mini.old) (mini_place_along mini.old list.now k)) }
     ensures put { 0 < len → IfOk result (λ joined. (k : ℕ) → k < length bytes.now
         → slice_index joined.items (len + k) ≡ slice_index bytes.now k) }
-    ensures same { IsTrue F.tells → OnOk result (mini.new ≡ mini.old) }
-    ensures bytes { IsTrue F.tells → bytes_of mini.new ≡ bytes_of mini.old }
     ensures refused { IsTrue F.tells → IfErr result (AfterMedium Unit (mini.new ≡ mini.old)) }
     ensures err { IfErr result (ChangeRefused ⊥ Unit ⊥ Unit) }
-    ensures counts { IsTrue F.tells → CountsFailure F.read_faults result
-        (table_of mini.old).file.failures (table_of mini.new).file.failures }
 {
     let mut joined = taken_from_minis(mini, list, len)?;
     if len > 0 {

@@ -166,7 +166,7 @@ mini-write g c =
       some = c.requires.some;
       whole = whole-minis-as s i c.content_in-start.result.0 c.content_in-start.result.1 c.in_ok-ids-2.ids.items c.content_in-start.ensures.start c.content_in-start.ensures.len
           c.in_ok-ids-2.ensures.whole;
-      kept = c.put_in_minis.ensures.kept;
+      kept = c.put_in_minis.ensures.writes.kept;
       listed = c.deref-2.ensures.value;
     }
 
@@ -182,14 +182,14 @@ pub returns-clause-content : goal.returns-clause-content
 returns-clause-content g c told validation change =
     on_both _ _ _ c.put_in_minis.result
     (λ held put. mini-write-content _ _ _ _ _ _ _ (mini-write g c) validation change (c.put_in_minis.ensures.others told) put held)
-    (c.put_in_minis.ensures.holds told validation change.held) (mini-put g c told validation change)
+    (c.put_in_minis.ensures.writes.holds told validation change.held) (mini-put g c told validation change)
 
 pub returns-clause-others : goal.returns-clause-others
 returns-clause-others g c told validation change =
-    mini-write-others _ _ _ _ _ _ _ (mini-write g c) validation change (c.put_in_minis.ensures.spares told) (c.put_in_minis.ensures.mini_spares told validation change.held)
+    mini-write-others _ _ _ _ _ _ _ (mini-write g c) validation change (c.put_in_minis.ensures.writes.spares told) (c.put_in_minis.ensures.mini_spares told validation change.held)
 
 pub returns-clause-header : goal.returns-clause-header
-returns-clause-header g c told = spared-keeps-header _ c.args.mini.now c.put_in_minis.new.mini (c.put_in_minis.ensures.spares told)
+returns-clause-header g c told = spared-keeps-header _ c.args.mini.now c.put_in_minis.new.mini (c.put_in_minis.ensures.writes.spares told)
 
 pub returns-clause-counted : goal.returns-clause-counted
 returns-clause-counted g c told validation change =
@@ -201,6 +201,6 @@ returns-clause-counted g c told validation change =
 pub returns-clause-holds : goal.returns-clause-holds
 returns-clause-holds g c told validation change =
     on_both _ _ _ c.put_in_minis.result
-    (λ held put. mini-write-changeable _ _ _ _ _ _ _ (mini-write g c) validation change (c.put_in_minis.ensures.others told) put (c.put_in_minis.ensures.spares told)
+    (λ held put. mini-write-changeable _ _ _ _ _ _ _ (mini-write g c) validation change (c.put_in_minis.ensures.others told) put (c.put_in_minis.ensures.writes.spares told)
     (c.put_in_minis.ensures.mini_spares told validation change.held) held)
-    (c.put_in_minis.ensures.holds told validation change.held) (mini-put g c told validation change)
+    (c.put_in_minis.ensures.writes.holds told validation change.held) (mini-put g c told validation change)

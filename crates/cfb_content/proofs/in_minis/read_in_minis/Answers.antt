@@ -10,8 +10,8 @@ returns-clause-within g c j low =
     let run = c.mini_run-run.result in
     let e = c.in_ok-count.ensures in
     let whole = length-take run c.args.into.now in
-    let mine = shorter-run ids (at / 64) (at % 64) run c.in_ok-count.count (omega (arith, e.some, whole)) c.mini_run-run.ensures.run in
-    stretch-there c.args.mini.now ids at (at / 64) (at % 64) c.in_ok-count.count (omega arith) mine e.stretch e.reached j low
+    let mine = shorter-run ids (at / 64) (at % 64) run c.in_ok-count.count (omega (arith, e.run.some, whole)) c.mini_run-run.ensures.run in
+    stretch-there c.args.mini.now ids at (at / 64) (at % 64) c.in_ok-count.count (omega arith) mine e.run.stretch e.run.reached j low
 
 pub returns-clause-ok : goal.returns-clause-ok
 returns-clause-ok g c told j low =
@@ -24,6 +24,6 @@ returns-clause-ok g c told j low =
     let new = c.read_mini_run.new.into in
     let size = c.read_mini_run.auto.into in
     let whole = length-take run into in
-    let mine = shorter-run ids (at / 64) (at % 64) run n (omega (arith, e.some, whole)) c.mini_run-run.ensures.run in
-    stretch-read c.args.mini.now ids at (at / 64) (at % 64) n (omega arith) mine e.stretch (new ++ drop run into)
-    (take-append-le n new (drop run into) (omega (arith, e.some, size)) ∙ e.ok told) j low
+    let mine = shorter-run ids (at / 64) (at % 64) run n (omega (arith, e.run.some, whole)) c.mini_run-run.ensures.run in
+    stretch-read c.args.mini.now ids at (at / 64) (at % 64) n (omega arith) mine e.run.stretch (new ++ drop run into)
+    (take-append-le n new (drop run into) (omega (arith, e.run.some, size)) ∙ e.run.read told) j low

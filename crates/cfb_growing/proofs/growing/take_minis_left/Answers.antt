@@ -58,8 +58,8 @@ returns-clause-full g c =
     on_both _ Rest _ c.extend_mini_listed.result
     (λ taken rest. all-taken s new s.max_mini_sectors c.args.count c.minis_left-left.result (ends_of ids) more c.minis_left-left.ensures.left c.requires.few
     c.extend_mini_listed.ensures.changes.limits.version taken (omega (arith, rest.0, c.min.ensures)) (subst (λ n. IsTooFewFor s n → ⊥) c.min.ensures rest.1))
-    (c.extend_mini_listed.ensures.taken (some g c))
-    (on_both _ _ Rest c.extend_mini_listed.result (λ counted enough. (counted, enough)) c.extend_mini_listed.ensures.count (c.extend_mini_listed.ensures.enough (some g c)))
+    (c.extend_mini_listed.ensures.longer.taken (some g c))
+    (on_both _ _ Rest c.extend_mini_listed.result (λ counted enough. (counted, enough)) c.extend_mini_listed.ensures.longer.counted (c.extend_mini_listed.ensures.grows.enough (some g c)))
 
 pub returns-clause-begun : goal.returns-clause-begun
 returns-clause-begun g c = on_ok_weaker c.extend_mini_listed.result (λ raised. inr (raised.1 (some g c))) c.extend_mini_listed.ensures.ends.begun

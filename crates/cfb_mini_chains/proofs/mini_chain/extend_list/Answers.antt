@@ -12,7 +12,7 @@ pub returns-clause-chained : goal.returns-clause-chained
 returns-clause-chained g c =
     let e = c.extend_mini_listed-extended in
     listed_found e.new.self.minifat c.first_number.result e.new.ids.items (c.first_number.ensures ∙ ap first_or_end c.deref.ensures.value)
-    (e.ensures.chain (listed_chain c.args.minialloc.now.minifat c.args.start.now c.args.ids.now.items c.requires.chained))
+    (e.ensures.longer.chain (listed_chain c.args.minialloc.now.minifat c.args.start.now c.args.ids.now.items c.requires.chained))
 
 pub returns-clause-few : goal.returns-clause-few
 returns-clause-few g c = chain_few _ _ _ (returns-clause-chained g c)
@@ -20,7 +20,7 @@ returns-clause-few g c = chain_few _ _ _ (returns-clause-chained g c)
 pub returns-clause-longer : goal.returns-clause-longer
 returns-clause-longer g c =
     let e = c.extend_mini_listed-extended in
-    let listed = ap (λ (l : List ℕ). length l) e.ensures.listed in
+    let listed = ap (λ (l : List ℕ). length l) e.ensures.longer.listed in
     let sum = length-append c.args.ids.now.items (gained c.args.ids.now.items e.new.ids.items) in
     omega (arith, listed, sum)
 
@@ -28,14 +28,14 @@ pub returns-clause-start : goal.returns-clause-start
 returns-clause-start g c some =
     let e = c.extend_mini_listed-extended in
     let ids = c.args.ids.now.items in
-    c.first_number.ensures ∙ ap first_or_end c.deref.ensures.value ∙ ap first_or_end e.ensures.listed ∙ first_stays ids (gained ids e.new.ids.items) some
+    c.first_number.ensures ∙ ap first_or_end c.deref.ensures.value ∙ ap first_or_end e.ensures.longer.listed ∙ first_stays ids (gained ids e.new.ids.items) some
     ∙ sym (start_is c.args.minialloc.now.minifat c.args.start.now ids c.requires.chained)
 
 pub returns-clause-grown : goal.returns-clause-grown
 returns-clause-grown g c =
     let e = c.extend_mini_listed-extended in
-    lengthened e.result c.args.count c.args.ids.now.items e.new.ids.items c.args.minialloc.now e.new.self c.requires.some e.ensures.listed e.ensures.count (e.ensures.taken c.requires.some)
-    (e.ensures.grown c.requires.some) e.ensures.measured (e.ensures.enough c.requires.some)
+    lengthened e.result c.args.count c.args.ids.now.items e.new.ids.items c.args.minialloc.now e.new.self c.requires.some e.ensures.longer.listed e.ensures.longer.counted (e.ensures.longer.taken c.requires.some)
+    (e.ensures.grows.grown c.requires.some) e.ensures.grows.measured (e.ensures.grows.enough c.requires.some)
 
 pub returns-clause-directory : goal.returns-clause-directory
 returns-clause-directory g c =

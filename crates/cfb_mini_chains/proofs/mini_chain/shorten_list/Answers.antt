@@ -23,7 +23,7 @@ pub returns-clause-cut : goal.returns-clause-cut
 returns-clause-cut g c =
     let e = c.cut_mini_listed-cut in
     shortened e.result c.args.count c.args.ids.now.items e.new.ids.items c.args.minialloc.now e.new.self e.ensures.cuts.listed e.ensures.cuts.given_back e.ensures.ends.sizes e.ensures.ends.stays
-    e.ensures.room e.ensures.measured e.ensures.snug
+    e.ensures.room.given e.ensures.room.measured e.ensures.room.snug
 
 pub returns-clause-directory : goal.returns-clause-directory
 returns-clause-directory g c =

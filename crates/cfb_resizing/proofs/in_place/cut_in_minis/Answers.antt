@@ -68,10 +68,10 @@ returns-clause-turned g c told = record {
       subst (λ n. Turns s new i c.args.size n) (sym (c.first_number.ensures ∙ ap first_or_end c.deref.ensures.value))
       (mini-cut-turns v s new i c.args.size c.div_ceil-wanted.result list list' change c.requires.stream c.requires.small c.requires.shorter whole
       (omega (arith, c.div_ceil-wanted.ensures)) c.in_ok-cut_mini_listed.ensures.cuts.listed c.in_ok-cut_mini_listed.ensures.cuts.given_back
-      (cut-settles v s new c.div_ceil-wanted.result list change.held c.in_ok-cut_mini_listed.ensures.room (λ all. (c.cut_mini_listed.ensures.none all).1))
+      (cut-settles v s new c.div_ceil-wanted.result list change.held c.in_ok-cut_mini_listed.ensures.room.given (λ all. (c.cut_mini_listed.ensures.none all).1))
       c.cut_mini_listed.ensures.changes.limits.version c.cut_mini_listed.ensures.ends.stays c.cut_mini_listed.ensures.cuts.chain (c.cut_mini_listed.ensures.holds.bytes told v change.held) (c.in_ok-cut_mini_listed.ensures.holds.wiped told v change.held)
       (c.in_ok-cut_mini_listed.ensures.holds.erased told v change.held)
-      (λ fewer. c.in_ok-cut_mini_listed.ensures.snug fewer v change.held));
+      (λ fewer. c.in_ok-cut_mini_listed.ensures.room.snug fewer v change.held));
   holds = λ v change.
       let s = c.args.mini.now in
       let i = c.args.entry in
@@ -82,7 +82,7 @@ returns-clause-turned g c told = record {
       c.in_ok-cut_mini_listed.ensures.holds.holds told v change.held (λ none. starts-unnamed v s i change c.requires.stream) (λ zero. first-unnamed s i c.requires.small v change c.requires.stream list whole (omega (arith, first)));
   snug_mini = λ v change snug.
       freed-snug c.args.mini.now c.cut_mini_listed.new.self c.div_ceil-wanted.result (length c.in_ok-ids.ids.items)
-      (λ fewer. c.in_ok-cut_mini_listed.ensures.snug fewer v change.held) (λ all. (c.cut_mini_listed.ensures.none all).1) snug;
+      (λ fewer. c.in_ok-cut_mini_listed.ensures.room.snug fewer v change.held) (λ all. (c.cut_mini_listed.ensures.none all).1) snug;
   tidy = λ v change. record {
     counted = count-stays v c.args.mini.now c.cut_mini_listed.new.self change.held (c.cut_mini_listed.ensures.changes.header told);
     whole = λ was.

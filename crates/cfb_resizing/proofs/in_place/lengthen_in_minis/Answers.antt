@@ -27,9 +27,9 @@ zero_in_minis-requires g c =
     let have : c.len.result ≡ length c.args.ids.now.items = omega (arith, c.len.ensures, c.args.ids.now.ok.0) in
     record {
       placed = λ k from till.
-          minis-tail-placed c.args.mini.now c.extend_mini_listed.new.self c.args.lacking c.args.ids.now.items c.extend_mini_listed.new.ids.items c.extend_mini_listed.ensures.listed
-          (c.extend_mini_listed.ensures.chain c.requires.chain) c.deref.result.now c.args.size c.len.result c.saturating_mul-room.result c.min.result c.deref.ensures.value have
-          c.saturating_mul-room.ensures c.min.ensures c.requires.there (λ zero. (c.extend_mini_listed.ensures.none zero).1) c.in_ok-extend_mini_listed.ensures.room k till;
+          minis-tail-placed c.args.mini.now c.extend_mini_listed.new.self c.args.lacking c.args.ids.now.items c.extend_mini_listed.new.ids.items c.extend_mini_listed.ensures.longer.listed
+          (c.extend_mini_listed.ensures.longer.chain c.requires.chain) c.deref.result.now c.args.size c.len.result c.saturating_mul-room.result c.min.result c.deref.ensures.value have
+          c.saturating_mul-room.ensures c.min.ensures c.requires.there (λ zero. (c.extend_mini_listed.ensures.longer.none zero).1) c.in_ok-extend_mini_listed.ensures.grows.room k till;
     }
 
 pub returns-in_err-extend_mini_listed-clause-mini_spares : goal.returns-in_err-extend_mini_listed-clause-mini_spares
@@ -50,11 +50,11 @@ pub returns-clause-chain : goal.returns-clause-chain
 returns-clause-chain g c =
     let mid = c.extend_mini_listed.new.self in
     let ids' = c.extend_mini_listed.new.ids.items in
-    subst (λ (t : List ℕ). IsChain t (first_or_end ids') ids') (sym (file-mini mid mid c.zero_in_minis.new.mini c.zero_in_minis.ensures.kept).minifat)
-    (c.extend_mini_listed.ensures.chain c.requires.chain)
+    subst (λ (t : List ℕ). IsChain t (first_or_end ids') ids') (sym (file-mini mid mid c.zero_in_minis.new.mini c.zero_in_minis.ensures.writes.kept).minifat)
+    (c.extend_mini_listed.ensures.longer.chain c.requires.chain)
 
 pub returns-clause-count : goal.returns-clause-count
-returns-clause-count g c = all_ok c.zero_in_minis.result c.in_ok-extend_mini_listed.ensures.count
+returns-clause-count g c = all_ok c.zero_in_minis.result c.in_ok-extend_mini_listed.ensures.longer.counted
 
 pub returns-clause-taken : goal.returns-clause-taken
 returns-clause-taken g c some =
@@ -63,52 +63,52 @@ returns-clause-taken g c some =
     let ids = c.args.ids.now.items in
     let ids' = c.extend_mini_listed.new.ids.items in
     all_ok c.zero_in_minis.result (subst (λ (t : List ℕ). TakesMini s.max_mini_sectors s.minifat t (ends_of ids) (gained ids ids'))
-    (sym (file-mini mid mid c.zero_in_minis.new.mini c.zero_in_minis.ensures.kept).minifat) (c.in_ok-extend_mini_listed.ensures.taken some))
+    (sym (file-mini mid mid c.zero_in_minis.new.mini c.zero_in_minis.ensures.writes.kept).minifat) (c.in_ok-extend_mini_listed.ensures.longer.taken some))
 
 pub returns-clause-grown : goal.returns-clause-grown
 returns-clause-grown g c some =
     let mid = c.extend_mini_listed.new.self in
     let new = c.zero_in_minis.new.mini in
-    all_ok c.zero_in_minis.result (growth-stays c.args.lacking c.args.mini.now mid new (c.in_ok-extend_mini_listed.ensures.grown some) (file-system mid mid new c.zero_in_minis.ensures.kept))
+    all_ok c.zero_in_minis.result (growth-stays c.args.lacking c.args.mini.now mid new (c.in_ok-extend_mini_listed.ensures.grows.grown some) (file-system mid mid new c.zero_in_minis.ensures.writes.kept))
 
 pub returns-clause-padded : goal.returns-clause-padded
 returns-clause-padded g c told v held there =
     let have : c.len.result ≡ length c.args.ids.now.items = omega (arith, c.len.ensures, c.args.ids.now.ok.0) in
-    let chain = c.extend_mini_listed.ensures.chain c.requires.chain in
+    let chain = c.extend_mini_listed.ensures.longer.chain c.requires.chain in
     let now = c.in_ok-extend_mini_listed.ensures.holds.holds told v held in
     on_ok _ _ c.zero_in_minis.result
     (λ put. minis-lengthened-padded c.args.mini.now c.extend_mini_listed.new.self c.args.lacking c.args.ids.now.items c.extend_mini_listed.new.ids.items
-    c.extend_mini_listed.ensures.listed chain c.zero_in_minis.new.mini c.zero_in_minis.ensures.kept v c.deref.result.now c.args.size c.args.len c.len.result c.saturating_mul-room.result
-    c.min.result c.deref.ensures.value held now c.requires.chain c.extend_mini_listed.ensures.changes.limits.version c.extend_mini_listed.ensures.goes_on
+    c.extend_mini_listed.ensures.longer.listed chain c.zero_in_minis.new.mini c.zero_in_minis.ensures.writes.kept v c.deref.result.now c.args.size c.args.len c.len.result c.saturating_mul-room.result
+    c.min.result c.deref.ensures.value held now c.requires.chain c.extend_mini_listed.ensures.changes.limits.version c.extend_mini_listed.ensures.grows.goes_on
     (c.extend_mini_listed.ensures.holds.bytes told v held) (c.in_ok-extend_mini_listed.ensures.holds.filled told v held) have c.saturating_mul-room.ensures c.min.ensures c.ranges.size.fits
-    c.requires.lacking c.in_ok-extend_mini_listed.ensures.count there put (c.zero_in_minis.ensures.others told))
+    c.requires.lacking c.in_ok-extend_mini_listed.ensures.longer.counted there put (c.zero_in_minis.ensures.others told))
     (c.zero_in_minis.ensures.put told v now (subst (λ (l : List ℕ). IsDistinct nat_eq l) (sym c.deref.ensures.value) chain.distinct))
 
 pub returns-clause-holds : goal.returns-clause-holds
-returns-clause-holds g c told v held = c.zero_in_minis.ensures.holds told v (c.in_ok-extend_mini_listed.ensures.holds.holds told v held)
+returns-clause-holds g c told v held = c.zero_in_minis.ensures.writes.holds told v (c.in_ok-extend_mini_listed.ensures.holds.holds told v held)
 
 pub returns-clause-whole : goal.returns-clause-whole
 returns-clause-whole g c told v held was =
     let mid = c.extend_mini_listed.new.self in
     let new = c.zero_in_minis.new.mini in
     let first = c.in_ok-extend_mini_listed.ensures.holds.whole told v held was in
-    let tables = (file-system mid mid new c.zero_in_minis.ensures.kept).tables in
+    let tables = (file-system mid mid new c.zero_in_minis.ensures.writes.kept).tables in
     on_ok _ _ c.zero_in_minis.result
     (λ after. same-whole v (table_of mid) (table_of new) after.directory.tables (ap (λ (t : TableState). t.version) tables) (ap (λ (t : TableState). length t.fat) tables)
-    (c.zero_in_minis.ensures.spares told).no_shorter first)
-    (c.zero_in_minis.ensures.holds told v (c.in_ok-extend_mini_listed.ensures.holds.holds told v held))
+    (c.zero_in_minis.ensures.writes.spares told).no_shorter first)
+    (c.zero_in_minis.ensures.writes.holds told v (c.in_ok-extend_mini_listed.ensures.holds.holds told v held))
 
 pub returns-clause-spares : goal.returns-clause-spares
 returns-clause-spares g c told =
-    minis-lengthened-spare c.args.mini.now c.extend_mini_listed.new.self c.args.lacking c.args.ids.now.items c.extend_mini_listed.new.ids.items c.extend_mini_listed.ensures.listed
-    (c.extend_mini_listed.ensures.chain c.requires.chain) c.zero_in_minis.new.mini c.zero_in_minis.ensures.kept (λ z. (c.extend_mini_listed.ensures.none z).1)
-    c.in_ok-extend_mini_listed.ensures.grown (c.extend_mini_listed.ensures.changes.spares told) (c.zero_in_minis.ensures.spares told)
+    minis-lengthened-spare c.args.mini.now c.extend_mini_listed.new.self c.args.lacking c.args.ids.now.items c.extend_mini_listed.new.ids.items c.extend_mini_listed.ensures.longer.listed
+    (c.extend_mini_listed.ensures.longer.chain c.requires.chain) c.zero_in_minis.new.mini c.zero_in_minis.ensures.writes.kept (λ z. (c.extend_mini_listed.ensures.longer.none z).1)
+    c.in_ok-extend_mini_listed.ensures.grows.grown (c.extend_mini_listed.ensures.changes.spares told) (c.zero_in_minis.ensures.writes.spares told)
 
 pub returns-clause-mini_spares : goal.returns-clause-mini_spares
 returns-clause-mini_spares g c told v held =
-    minis-lengthened-mini-spare c.args.mini.now c.extend_mini_listed.new.self c.args.lacking c.args.ids.now.items c.extend_mini_listed.new.ids.items c.extend_mini_listed.ensures.listed
-    (c.extend_mini_listed.ensures.chain c.requires.chain) c.zero_in_minis.new.mini c.zero_in_minis.ensures.kept v c.deref.result.now c.deref.ensures.value held
-    c.extend_mini_listed.ensures.changes.limits.version (λ z. (c.extend_mini_listed.ensures.none z).2) c.in_ok-extend_mini_listed.ensures.taken (c.extend_mini_listed.ensures.holds.mini_spares told v held)
+    minis-lengthened-mini-spare c.args.mini.now c.extend_mini_listed.new.self c.args.lacking c.args.ids.now.items c.extend_mini_listed.new.ids.items c.extend_mini_listed.ensures.longer.listed
+    (c.extend_mini_listed.ensures.longer.chain c.requires.chain) c.zero_in_minis.new.mini c.zero_in_minis.ensures.writes.kept v c.deref.result.now c.deref.ensures.value held
+    c.extend_mini_listed.ensures.changes.limits.version (λ z. (c.extend_mini_listed.ensures.longer.none z).2) c.in_ok-extend_mini_listed.ensures.longer.taken (c.extend_mini_listed.ensures.holds.mini_spares told v held)
     (c.zero_in_minis.ensures.mini_spares told v (c.in_ok-extend_mini_listed.ensures.holds.holds told v held))
 
 pub returns-clause-header : goal.returns-clause-header
@@ -120,7 +120,7 @@ returns-clause-header g c told =
     (minis-outside mid c.deref.result.now c.args.len _ (bytes_of mid) (bytes_of new) (c.zero_in_minis.ensures.others told)))
 
 pub returns-clause-around : goal.returns-clause-around
-returns-clause-around g c = file-around c.args.mini.now c.extend_mini_listed.new.self c.zero_in_minis.new.mini c.zero_in_minis.ensures.kept (record {
+returns-clause-around g c = file-around c.args.mini.now c.extend_mini_listed.new.self c.zero_in_minis.new.mini c.zero_in_minis.ensures.writes.kept (record {
   directory = c.extend_mini_listed.ensures.changes.directory;
   entries = c.extend_mini_listed.ensures.changes.entries;
   limits = c.extend_mini_listed.ensures.changes.limits;
@@ -129,14 +129,14 @@ returns-clause-around g c = file-around c.args.mini.now c.extend_mini_listed.new
 pub returns-clause-tight : goal.returns-clause-tight
 returns-clause-tight g c =
     all_ok c.zero_in_minis.result
-    (minis-lengthened-tight c.args.mini.now c.extend_mini_listed.new.self c.args.lacking c.args.ids.now.items c.extend_mini_listed.new.ids.items c.extend_mini_listed.ensures.listed
-    (c.extend_mini_listed.ensures.chain c.requires.chain) c.zero_in_minis.new.mini c.zero_in_minis.ensures.kept (λ z. (c.extend_mini_listed.ensures.none z).1)
-    c.in_ok-extend_mini_listed.ensures.grown)
+    (minis-lengthened-tight c.args.mini.now c.extend_mini_listed.new.self c.args.lacking c.args.ids.now.items c.extend_mini_listed.new.ids.items c.extend_mini_listed.ensures.longer.listed
+    (c.extend_mini_listed.ensures.longer.chain c.requires.chain) c.zero_in_minis.new.mini c.zero_in_minis.ensures.writes.kept (λ z. (c.extend_mini_listed.ensures.longer.none z).1)
+    c.in_ok-extend_mini_listed.ensures.grows.grown)
 
 pub returns-clause-unwritten : goal.returns-clause-unwritten
 returns-clause-unwritten g c told not =
     tail-unwritten c.args.mini.now c.extend_mini_listed.new.self c.zero_in_minis.new.mini c.args.len c.min.result c.args.lacking (λ no. (c.zero_in_minis.ensures.none no).1)
-    c.zero_in_minis.ensures.begun (λ z. (c.extend_mini_listed.ensures.none z).1) c.in_ok-extend_mini_listed.ensures.ends.begun.1 not
+    c.zero_in_minis.ensures.begun (λ z. (c.extend_mini_listed.ensures.longer.none z).1) c.in_ok-extend_mini_listed.ensures.ends.begun.1 not
 
 pub returns-clause-counts : goal.returns-clause-counts
 returns-clause-counts g c told =
@@ -147,7 +147,7 @@ pub returns-clause-snug_mini : goal.returns-clause-snug_mini
 returns-clause-snug_mini g c told v held snug =
     let s = c.args.mini.now in
     let mid = c.extend_mini_listed.new.self in
-    all_ok c.zero_in_minis.result (file-snug mid c.zero_in_minis.new.mini c.zero_in_minis.ensures.kept
-    (extended-snug v s mid c.args.lacking c.args.ids.now.items c.extend_mini_listed.new.ids.items (λ z. (c.extend_mini_listed.ensures.none z).1)
-    c.in_ok-extend_mini_listed.ensures.grown c.in_ok-extend_mini_listed.ensures.taken c.in_ok-extend_mini_listed.ensures.count c.in_ok-extend_mini_listed.ensures.measured
+    all_ok c.zero_in_minis.result (file-snug mid c.zero_in_minis.new.mini c.zero_in_minis.ensures.writes.kept
+    (extended-snug v s mid c.args.lacking c.args.ids.now.items c.extend_mini_listed.new.ids.items (λ z. (c.extend_mini_listed.ensures.longer.none z).1)
+    c.in_ok-extend_mini_listed.ensures.grows.grown c.in_ok-extend_mini_listed.ensures.longer.taken c.in_ok-extend_mini_listed.ensures.longer.counted c.in_ok-extend_mini_listed.ensures.grows.measured
     c.extend_mini_listed.ensures.changes.limits (c.in_ok-extend_mini_listed.ensures.holds.holds told v held) snug))

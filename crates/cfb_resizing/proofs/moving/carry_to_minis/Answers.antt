@@ -31,34 +31,34 @@ use Rattle.cfb_resizing.proofs.cfb_mini_sectors.BothGrown.{both-outside}
 
 pub put_in_minis-requires : goal.put_in_minis-requires
 put_in_minis-requires g c =
-    let chain = c.extend_mini_listed.ensures.chain (no-chain c.args.mini.now.minifat c.args.ids.now.items c.requires.fresh) in
-    record { placed = minis-placed c.extend_mini_listed.new.self c.args.count c.args.ids.now.items c.extend_mini_listed.new.ids.items c.deref.result.now c.requires.fresh c.deref.ensures.value c.in_ok-extend_mini_listed.ensures.count c.args.bytes.now chain c.in_ok-extend_mini_listed.ensures.room c.requires.room }
+    let chain = c.extend_mini_listed.ensures.longer.chain (no-chain c.args.mini.now.minifat c.args.ids.now.items c.requires.fresh) in
+    record { placed = minis-placed c.extend_mini_listed.new.self c.args.count c.args.ids.now.items c.extend_mini_listed.new.ids.items c.deref.result.now c.requires.fresh c.deref.ensures.value c.in_ok-extend_mini_listed.ensures.longer.counted c.args.bytes.now chain c.in_ok-extend_mini_listed.ensures.grows.room c.requires.room }
 
 pub returns-clause-chain : goal.returns-clause-chain
 returns-clause-chain g c =
     let mid = c.extend_mini_listed.new.self in
     let ids = c.extend_mini_listed.new.ids.items in
-    all_ok c.put_in_minis.result (subst (λ (t : List ℕ). IsChain t (first_or_end ids) ids) (sym (file-mini mid mid c.put_in_minis.new.mini c.put_in_minis.ensures.kept).minifat)
-    (c.extend_mini_listed.ensures.chain (no-chain c.args.mini.now.minifat c.args.ids.now.items c.requires.fresh)))
+    all_ok c.put_in_minis.result (subst (λ (t : List ℕ). IsChain t (first_or_end ids) ids) (sym (file-mini mid mid c.put_in_minis.new.mini c.put_in_minis.ensures.writes.kept).minifat)
+    (c.extend_mini_listed.ensures.longer.chain (no-chain c.args.mini.now.minifat c.args.ids.now.items c.requires.fresh)))
 
 pub returns-clause-carried : goal.returns-clause-carried
 returns-clause-carried g c =
     let taken : 0 < c.args.count → TakesMini c.args.mini.now.max_mini_sectors c.args.mini.now.minifat c.extend_mini_listed.new.self.minifat [] c.extend_mini_listed.new.ids.items =
     λ some. subst (λ (l : List ℕ). TakesMini c.args.mini.now.max_mini_sectors c.args.mini.now.minifat c.extend_mini_listed.new.self.minifat (ends_of l)
-    (gained l c.extend_mini_listed.new.ids.items)) c.requires.fresh (c.in_ok-extend_mini_listed.ensures.taken some) in
+    (gained l c.extend_mini_listed.new.ids.items)) c.requires.fresh (c.in_ok-extend_mini_listed.ensures.longer.taken some) in
     all_ok c.put_in_minis.result (carried-minis c.args.mini.now c.allocator_mut.result.now c.free_listed.new.self c.args.list.now c.allocator_mut.ensures.value c.in_ok-free_listed.ensures.frees.freed
-    c.extend_mini_listed.new.self c.put_in_minis.new.mini c.args.count c.extend_mini_listed.new.ids.items c.args.ids.now.items c.requires.fresh c.put_in_minis.ensures.kept (λ z. ((c.extend_mini_listed.ensures.none z).1, (c.extend_mini_listed.ensures.none z).2))
-    c.in_ok-extend_mini_listed.ensures.grown taken)
+    c.extend_mini_listed.new.self c.put_in_minis.new.mini c.args.count c.extend_mini_listed.new.ids.items c.args.ids.now.items c.requires.fresh c.put_in_minis.ensures.writes.kept (λ z. ((c.extend_mini_listed.ensures.longer.none z).1, (c.extend_mini_listed.ensures.longer.none z).2))
+    c.in_ok-extend_mini_listed.ensures.grows.grown taken)
 
 pub returns-clause-stands : goal.returns-clause-stands
 returns-clause-stands g c told v held apart unnamed =
-    let chain = c.extend_mini_listed.ensures.chain (no-chain c.args.mini.now.minifat c.args.ids.now.items c.requires.fresh) in
+    let chain = c.extend_mini_listed.ensures.longer.chain (no-chain c.args.mini.now.minifat c.args.ids.now.items c.requires.fresh) in
     let lent-held = given-lent c.args.mini.now c.allocator_mut.result.now c.free_listed.new.self c.args.list.now c.allocator_mut.ensures.value c.in_ok-free_listed.ensures.frees.freed v held in
     let freed-held = given-held c.args.mini.now c.allocator_mut.result.now c.free_listed.new.self c.args.list.now c.allocator_mut.ensures.value c.in_ok-free_listed.ensures.frees.freed v held apart
     (c.in_ok-free_listed.ensures.holds told v lent-held (subst (λ (b : AllocatorState). IsUnnamed b.tables.fat (first_or_end c.args.list.now)) (sym c.allocator_mut.ensures.value) unnamed))
     (c.free_listed.ensures.frees.spares told) (c.free_listed.ensures.frees.changes told) in
     let now = c.in_ok-extend_mini_listed.ensures.holds.holds told v freed-held in
-    on_ok _ _ c.put_in_minis.result (minis-stand c.extend_mini_listed.new.self c.args.count c.args.ids.now.items c.extend_mini_listed.new.ids.items c.deref.result.now c.requires.fresh c.deref.ensures.value c.in_ok-extend_mini_listed.ensures.count c.put_in_minis.new.mini c.args.bytes.now c.put_in_minis.ensures.kept)
+    on_ok _ _ c.put_in_minis.result (minis-stand c.extend_mini_listed.new.self c.args.count c.args.ids.now.items c.extend_mini_listed.new.ids.items c.deref.result.now c.requires.fresh c.deref.ensures.value c.in_ok-extend_mini_listed.ensures.longer.counted c.put_in_minis.new.mini c.args.bytes.now c.put_in_minis.ensures.writes.kept)
     (c.put_in_minis.ensures.put told v now (subst (λ (l : List ℕ). IsDistinct nat_eq l) (sym c.deref.ensures.value) chain.distinct))
 
 pub returns-clause-holds : goal.returns-clause-holds
@@ -68,7 +68,7 @@ returns-clause-holds g c told v held apart unnamed =
     (c.in_ok-free_listed.ensures.holds told v lent-held (subst (λ (b : AllocatorState). IsUnnamed b.tables.fat (first_or_end c.args.list.now)) (sym c.allocator_mut.ensures.value) unnamed))
     (c.free_listed.ensures.frees.spares told) (c.free_listed.ensures.frees.changes told) in
     let now = c.in_ok-extend_mini_listed.ensures.holds.holds told v freed-held in
-    c.put_in_minis.ensures.holds told v now
+    c.put_in_minis.ensures.writes.holds told v now
 
 pub returns-in_err-extend_mini_listed-clause-spares : goal.returns-in_err-extend_mini_listed-clause-spares
 returns-in_err-extend_mini_listed-clause-spares g c told =
@@ -78,8 +78,8 @@ returns-in_err-extend_mini_listed-clause-spares g c told =
 pub returns-clause-spares : goal.returns-clause-spares
 returns-clause-spares g c told =
     carried-spares-all c.args.mini.now c.allocator_mut.result.now c.free_listed.new.self c.args.list.now c.allocator_mut.ensures.value c.in_ok-free_listed.ensures.frees.freed
-    c.extend_mini_listed.new.self c.put_in_minis.new.mini c.args.count c.extend_mini_listed.new.ids.items c.args.ids.now.items c.requires.fresh c.put_in_minis.ensures.kept (λ z. (c.extend_mini_listed.ensures.none z).1) c.in_ok-extend_mini_listed.ensures.grown (c.free_listed.ensures.frees.spares told)
-    (c.extend_mini_listed.ensures.changes.spares told) (c.put_in_minis.ensures.spares told)
+    c.extend_mini_listed.new.self c.put_in_minis.new.mini c.args.count c.extend_mini_listed.new.ids.items c.args.ids.now.items c.requires.fresh c.put_in_minis.ensures.writes.kept (λ z. (c.extend_mini_listed.ensures.longer.none z).1) c.in_ok-extend_mini_listed.ensures.grows.grown (c.free_listed.ensures.frees.spares told)
+    (c.extend_mini_listed.ensures.changes.spares told) (c.put_in_minis.ensures.writes.spares told)
 
 pub returns-in_err-extend_mini_listed-clause-mini_spares : goal.returns-in_err-extend_mini_listed-clause-mini_spares
 returns-in_err-extend_mini_listed-clause-mini_spares g c told v held apart unnamed =
@@ -104,12 +104,12 @@ returns-clause-mini_spares g c told v held apart unnamed =
     (c.extend_mini_listed.ensures.holds.mini_spares told v freed-held) in
     let taken : 0 < c.args.count → TakesMini c.args.mini.now.max_mini_sectors c.args.mini.now.minifat c.extend_mini_listed.new.self.minifat [] c.extend_mini_listed.new.ids.items =
     λ some. subst (λ (l : List ℕ). TakesMini c.args.mini.now.max_mini_sectors c.args.mini.now.minifat c.extend_mini_listed.new.self.minifat (ends_of l)
-    (gained l c.extend_mini_listed.new.ids.items)) c.requires.fresh (c.in_ok-extend_mini_listed.ensures.taken some) in
+    (gained l c.extend_mini_listed.new.ids.items)) c.requires.fresh (c.in_ok-extend_mini_listed.ensures.longer.taken some) in
     carried-minis-all c.args.mini.now c.allocator_mut.result.now c.free_listed.new.self c.args.list.now c.allocator_mut.ensures.value c.in_ok-free_listed.ensures.frees.freed
-    c.extend_mini_listed.new.self c.put_in_minis.new.mini c.args.count c.extend_mini_listed.new.ids.items c.args.ids.now.items c.requires.fresh c.put_in_minis.ensures.kept v held apart (c.free_listed.ensures.frees.spares told)
+    c.extend_mini_listed.new.self c.put_in_minis.new.mini c.args.count c.extend_mini_listed.new.ids.items c.args.ids.now.items c.requires.fresh c.put_in_minis.ensures.writes.kept v held apart (c.free_listed.ensures.frees.spares told)
     c.extend_mini_listed.ensures.changes.limits.version second
     (came-free c.args.mini.now.max_mini_sectors c.args.count c.args.mini.now.minifat c.extend_mini_listed.new.self.minifat c.args.ids.now.items c.extend_mini_listed.new.ids.items
-    c.requires.fresh (λ none. (c.extend_mini_listed.ensures.none none).2) taken)
+    c.requires.fresh (λ none. (c.extend_mini_listed.ensures.longer.none none).2) taken)
     (subst (λ (l : List ℕ). SparesMini l c.extend_mini_listed.new.self c.put_in_minis.new.mini) c.deref.ensures.value (c.put_in_minis.ensures.mini_spares told v now))
 
 pub returns-clause-whole : goal.returns-clause-whole
@@ -126,11 +126,11 @@ returns-clause-whole g c told v held apart unnamed was =
     (c.in_ok-free_listed.ensures.frees.freed, (c.free_listed.ensures.frees.changes told).no_shorter) in
     let first = same-whole v (table_of s) freed freed-held.directory.tables (ap (λ (t : TableState). t.version) given.0.rest) given.0.given.same_length given.1 was in
     let second = c.in_ok-extend_mini_listed.ensures.holds.whole told v freed-held first in
-    let tables = (file-system mid mid new c.put_in_minis.ensures.kept).tables in
+    let tables = (file-system mid mid new c.put_in_minis.ensures.writes.kept).tables in
     on_ok _ _ c.put_in_minis.result
     (λ after. same-whole v (table_of mid) (table_of new) after.directory.tables (ap (λ (t : TableState). t.version) tables) (ap (λ (t : TableState). length t.fat) tables)
-    (c.put_in_minis.ensures.spares told).no_shorter second)
-    (c.put_in_minis.ensures.holds told v (c.in_ok-extend_mini_listed.ensures.holds.holds told v freed-held))
+    (c.put_in_minis.ensures.writes.spares told).no_shorter second)
+    (c.put_in_minis.ensures.writes.holds told v (c.in_ok-extend_mini_listed.ensures.holds.holds told v freed-held))
 
 pub returns-clause-header : goal.returns-clause-header
 returns-clause-header g c told =
@@ -150,12 +150,12 @@ returns-clause-header g c told =
 pub returns-clause-around : goal.returns-clause-around
 returns-clause-around g c =
     carried-around-all c.args.mini.now c.allocator_mut.result.now c.free_listed.new.self c.args.list.now c.allocator_mut.ensures.value c.in_ok-free_listed.ensures.frees.freed
-    c.extend_mini_listed.new.self c.put_in_minis.new.mini c.args.count c.extend_mini_listed.new.ids.items c.args.ids.now.items c.requires.fresh c.put_in_minis.ensures.kept c.extend_mini_listed.ensures.changes.limits c.extend_mini_listed.ensures.changes.entries c.extend_mini_listed.ensures.changes.directory
+    c.extend_mini_listed.new.self c.put_in_minis.new.mini c.args.count c.extend_mini_listed.new.ids.items c.args.ids.now.items c.requires.fresh c.put_in_minis.ensures.writes.kept c.extend_mini_listed.ensures.changes.limits c.extend_mini_listed.ensures.changes.entries c.extend_mini_listed.ensures.changes.directory
 
 pub returns-clause-tight : goal.returns-clause-tight
 returns-clause-tight g c =
     all_ok c.put_in_minis.result (carried-tight-all c.args.mini.now c.allocator_mut.result.now c.free_listed.new.self c.args.list.now c.allocator_mut.ensures.value c.in_ok-free_listed.ensures.frees.freed
-    c.extend_mini_listed.new.self c.put_in_minis.new.mini c.args.count c.extend_mini_listed.new.ids.items c.args.ids.now.items c.requires.fresh c.put_in_minis.ensures.kept (λ z. (c.extend_mini_listed.ensures.none z).1) c.in_ok-extend_mini_listed.ensures.grown)
+    c.extend_mini_listed.new.self c.put_in_minis.new.mini c.args.count c.extend_mini_listed.new.ids.items c.args.ids.now.items c.requires.fresh c.put_in_minis.ensures.writes.kept (λ z. (c.extend_mini_listed.ensures.longer.none z).1) c.in_ok-extend_mini_listed.ensures.grows.grown)
 
 pub returns-in_err-free_listed-clause-first : goal.returns-in_err-free_listed-clause-first
 returns-in_err-free_listed-clause-first g c none =
@@ -164,7 +164,7 @@ returns-in_err-free_listed-clause-first g c none =
     c.in_err-free_listed.ensures.frees.refused)
 
 pub returns-in_err-extend_mini_listed-clause-first : goal.returns-in_err-extend_mini_listed-clause-first
-returns-in_err-extend_mini_listed-clause-first g c none = absurd (c.in_err-extend_mini_listed.ensures.none none).0
+returns-in_err-extend_mini_listed-clause-first g c none = absurd (c.in_err-extend_mini_listed.ensures.longer.none none).0
 
 pub returns-clause-first : goal.returns-clause-first
 returns-clause-first g c none = medium-after c.put_in_minis.result (c.put_in_minis.new.mini ≡ c.args.mini.now) c.put_in_minis.ensures.err
@@ -175,12 +175,12 @@ returns-in_err-free_listed-clause-takes_none g c none =
     ∙ ap (λ (b : AllocatorState). length b.tables.fat) c.allocator_mut.ensures.value
 
 pub returns-in_err-extend_mini_listed-clause-takes_none : goal.returns-in_err-extend_mini_listed-clause-takes_none
-returns-in_err-extend_mini_listed-clause-takes_none g c none = absurd (c.in_err-extend_mini_listed.ensures.none none).0
+returns-in_err-extend_mini_listed-clause-takes_none g c none = absurd (c.in_err-extend_mini_listed.ensures.longer.none none).0
 
 pub returns-clause-takes_none : goal.returns-clause-takes_none
 returns-clause-takes_none g c none =
-    ap (λ (t : TableState). length t.fat) (file-system c.extend_mini_listed.new.self c.extend_mini_listed.new.self c.put_in_minis.new.mini c.put_in_minis.ensures.kept).tables
-    ∙ ap (λ (m : MiniState). length (tables_in m).fat) (c.in_ok-extend_mini_listed.ensures.none none).1
+    ap (λ (t : TableState). length t.fat) (file-system c.extend_mini_listed.new.self c.extend_mini_listed.new.self c.put_in_minis.new.mini c.put_in_minis.ensures.writes.kept).tables
+    ∙ ap (λ (m : MiniState). length (tables_in m).fat) (c.in_ok-extend_mini_listed.ensures.longer.none none).1
     ∙ c.in_ok-free_listed.ensures.frees.freed.given.same_length ∙ ap (λ (b : AllocatorState). length b.tables.fat) c.allocator_mut.ensures.value
 
 pub returns-in_err-free_listed-clause-spares : goal.returns-in_err-free_listed-clause-spares
@@ -251,7 +251,7 @@ returns-clause-snug_mini g c told v held apart unnamed snug =
     (c.in_ok-free_listed.ensures.holds told v lent-held (subst (λ (b : AllocatorState). IsUnnamed b.tables.fat (first_or_end c.args.list.now)) (sym c.allocator_mut.ensures.value) unnamed))
     (c.free_listed.ensures.frees.spares told) (c.free_listed.ensures.frees.changes told) in
     let version = ap (λ (t : TableState). t.version) c.in_ok-free_listed.ensures.frees.freed.rest ∙ ap (λ (b : AllocatorState). b.tables.version) c.allocator_mut.ensures.value in
-    all_ok c.put_in_minis.result (file-snug mid c.put_in_minis.new.mini c.put_in_minis.ensures.kept
-    (extended-snug v (with_table s a) mid c.args.count c.args.ids.now.items c.extend_mini_listed.new.ids.items (λ z. (c.extend_mini_listed.ensures.none z).1)
-    c.in_ok-extend_mini_listed.ensures.grown c.in_ok-extend_mini_listed.ensures.taken c.in_ok-extend_mini_listed.ensures.count c.in_ok-extend_mini_listed.ensures.measured
+    all_ok c.put_in_minis.result (file-snug mid c.put_in_minis.new.mini c.put_in_minis.ensures.writes.kept
+    (extended-snug v (with_table s a) mid c.args.count c.args.ids.now.items c.extend_mini_listed.new.ids.items (λ z. (c.extend_mini_listed.ensures.longer.none z).1)
+    c.in_ok-extend_mini_listed.ensures.grows.grown c.in_ok-extend_mini_listed.ensures.longer.taken c.in_ok-extend_mini_listed.ensures.longer.counted c.in_ok-extend_mini_listed.ensures.grows.measured
     c.extend_mini_listed.ensures.changes.limits (c.in_ok-extend_mini_listed.ensures.holds.holds told v freed-held) (table-snug s a version snug)))

@@ -20,11 +20,11 @@ use Rattle.cfb_resizing.proofs.cfb_mini_sectors.BothGrown.{both-outside}
 pub returns-clause-carried : goal.returns-clause-carried
 returns-clause-carried g c v held =
     on_ok _ _ c.begin_in_sectors.result (carried-makes c.args.mini.now c.cut_mini_listed.new.self c.args.list.now.items c.allocator_mut.result.now c.begin_in_sectors.new.allocator
-    c.allocator_mut.ensures.value c.cut_mini_listed.ensures.changes.limits v c.args.count c.begin_in_sectors.new.ids.items held c.in_ok-cut_mini_listed.ensures.room
+    c.allocator_mut.ensures.value c.cut_mini_listed.ensures.changes.limits v c.args.count c.begin_in_sectors.new.ids.items held c.in_ok-cut_mini_listed.ensures.room.given
     (λ few. (c.cut_mini_listed.ensures.none few).1) c.in_ok-cut_mini_listed.ensures.cuts.given_back
     (λ some. table-snug c.cut_mini_listed.new.self c.begin_in_sectors.new.allocator
     (c.begin_in_sectors.ensures.version ∙ ap (λ (b : AllocatorState). b.tables.version) c.allocator_mut.ensures.value)
-    (c.in_ok-cut_mini_listed.ensures.snug some v held))) c.begin_in_sectors.ensures.lengthened
+    (c.in_ok-cut_mini_listed.ensures.room.snug some v held))) c.begin_in_sectors.ensures.lengthened
 
 pub returns-clause-apart : goal.returns-clause-apart
 returns-clause-apart g c told v held unnamed =
@@ -139,7 +139,7 @@ returns-clause-refused g c =
     c.cut_mini_listed.ensures.changes.limits c.begin_in_sectors.result _ _
     (λ bad. bad (subst (λ (t : TableState). IsUsable t) (sym same) (usable-left (tables_in c.args.mini.now) (tables_in c.cut_mini_listed.new.self) sizes c.requires.usable)))
     (λ few. c.requires.enough.2 (lacking-before c.args.mini.now c.cut_mini_listed.new.self c.args.list.now.items c.requires.enough.0 c.args.count c.requires.enough.1 sizes
-    c.cut_mini_listed.ensures.changes.limits.version c.in_ok-cut_mini_listed.ensures.room c.in_ok-cut_mini_listed.ensures.cuts.given_back (subst (λ (t : TableState). IsTooFew t c.args.count) same few)))
+    c.cut_mini_listed.ensures.changes.limits.version c.in_ok-cut_mini_listed.ensures.room.given c.in_ok-cut_mini_listed.ensures.cuts.given_back (subst (λ (t : TableState). IsTooFew t c.args.count) same few)))
     c.in_ok-cut_mini_listed.ensures.ends.begun.1 (λ few. (c.cut_mini_listed.ensures.none few).1) c.begin_in_sectors.ensures.refused c.begin_in_sectors.ensures.err
 
 pub returns-clause-unwritten : goal.returns-clause-unwritten
@@ -155,7 +155,7 @@ returns-clause-err g c =
     carried-err c.begin_in_sectors.result _ _ _
     (λ bad. bad (subst (λ (t : TableState). IsUsable t) (sym same) (usable-left (tables_in c.args.mini.now) (tables_in c.cut_mini_listed.new.self) sizes c.requires.usable)))
     (λ few. c.requires.enough.2 (lacking-before c.args.mini.now c.cut_mini_listed.new.self c.args.list.now.items c.requires.enough.0 c.args.count c.requires.enough.1 sizes
-    c.cut_mini_listed.ensures.changes.limits.version c.in_ok-cut_mini_listed.ensures.room c.in_ok-cut_mini_listed.ensures.cuts.given_back (subst (λ (t : TableState). IsTooFew t c.args.count) same few)))
+    c.cut_mini_listed.ensures.changes.limits.version c.in_ok-cut_mini_listed.ensures.room.given c.in_ok-cut_mini_listed.ensures.cuts.given_back (subst (λ (t : TableState). IsTooFew t c.args.count) same few)))
     c.begin_in_sectors.ensures.err
 
 pub returns-clause-counts : goal.returns-clause-counts
@@ -168,5 +168,5 @@ returns-clause-snug_mini g c v held snug =
     let mid = c.cut_mini_listed.new.self in
     all_ok c.begin_in_sectors.result (table-snug mid c.begin_in_sectors.new.allocator
     (c.begin_in_sectors.ensures.version ∙ ap (λ (b : AllocatorState). b.tables.version) c.allocator_mut.ensures.value)
-    (freed-snug c.args.mini.now mid 0 (length c.args.list.now.items) (λ some. c.in_ok-cut_mini_listed.ensures.snug some v held)
+    (freed-snug c.args.mini.now mid 0 (length c.args.list.now.items) (λ some. c.in_ok-cut_mini_listed.ensures.room.snug some v held)
     (λ few. (c.cut_mini_listed.ensures.none few).1) snug))

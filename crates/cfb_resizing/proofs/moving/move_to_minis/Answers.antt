@@ -61,17 +61,17 @@ returns-in_err-ids-clause-takes_none g c none = ap (λ (m : MiniState). length (
 
 pub returns-in_err-content-clause-takes_none : goal.returns-in_err-content-clause-takes_none
 returns-in_err-content-clause-takes_none g c none =
-    ap (λ (m : MiniState). length (tables_in m).fat) c.taken_from_sectors.ensures.kept ∙ ap (λ (m : MiniState). length (tables_in m).fat) c.reserve.ensures.unchanged
+    ap (λ (m : MiniState). length (tables_in m).fat) c.taken_from_sectors.ensures.reads.still ∙ ap (λ (m : MiniState). length (tables_in m).fat) c.reserve.ensures.unchanged
 
 pub returns-in_err-carry_to_minis-clause-takes_none : goal.returns-in_err-carry_to_minis-clause-takes_none
 returns-in_err-carry_to_minis-clause-takes_none g c none =
     c.carry_to_minis.ensures.takes_none (omega (arith, c.div_ceil-count.ensures, none))
-    ∙ ap (λ (m : MiniState). length (tables_in m).fat) c.taken_from_sectors.ensures.kept ∙ ap (λ (m : MiniState). length (tables_in m).fat) c.reserve.ensures.unchanged
+    ∙ ap (λ (m : MiniState). length (tables_in m).fat) c.taken_from_sectors.ensures.reads.still ∙ ap (λ (m : MiniState). length (tables_in m).fat) c.reserve.ensures.unchanged
 
 pub returns-clause-takes_none : goal.returns-clause-takes_none
 returns-clause-takes_none g c none =
     c.carry_to_minis.ensures.takes_none (omega (arith, c.div_ceil-count.ensures, none))
-    ∙ ap (λ (m : MiniState). length (tables_in m).fat) c.taken_from_sectors.ensures.kept ∙ ap (λ (m : MiniState). length (tables_in m).fat) c.reserve.ensures.unchanged
+    ∙ ap (λ (m : MiniState). length (tables_in m).fat) c.taken_from_sectors.ensures.reads.still ∙ ap (λ (m : MiniState). length (tables_in m).fat) c.reserve.ensures.unchanged
 
 pub returns-in_err-reserve-clause-first : goal.returns-in_err-reserve-clause-first
 returns-in_err-reserve-clause-first g c told none =
@@ -93,7 +93,7 @@ pub returns-in_err-carry_to_minis-clause-first : goal.returns-in_err-carry_to_mi
 returns-in_err-carry_to_minis-clause-first g c told none =
     let p = err_from_is_err_and c.from_residual-in_err-carry_to_minis.result c.from_residual-in_err-carry_to_minis.ensures.1 in
     rw (p.1, p.2) (after-then c.args.mini.now c.taken_from_sectors.new.mini c.carry_to_minis.new.mini c.in_err-carry_to_minis.field-0.0
-    (c.in_ok-content.ensures.same told ∙ c.reserve.ensures.unchanged) (c.in_err-carry_to_minis.ensures.first (omega (arith, c.div_ceil-count.ensures, none))))
+    (c.in_ok-content.ensures.reads.same told ∙ c.reserve.ensures.unchanged) (c.in_err-carry_to_minis.ensures.first (omega (arith, c.div_ceil-count.ensures, none))))
 
 pub returns-in_err-check_growth-clause-around : goal.returns-in_err-check_growth-clause-around
 returns-in_err-check_growth-clause-around g c =
@@ -106,7 +106,7 @@ returns-in_err-ids-clause-around g c =
 pub returns-in_err-content-clause-around : goal.returns-in_err-content-clause-around
 returns-in_err-content-clause-around g c =
     let first = c.reserve.ensures.unchanged in
-    let still = subst (λ (m : MiniState). IsStill m c.taken_from_sectors.new.mini) first c.taken_from_sectors.ensures.kept in
+    let still = subst (λ (m : MiniState). IsStill m c.taken_from_sectors.new.mini) first c.taken_from_sectors.ensures.reads.still in
     still-around c.args.mini.now c.taken_from_sectors.new.mini c.taken_from_sectors.new.mini still (still-same c.taken_from_sectors.new.mini)
 
 pub returns-in_err-reserve-clause-err : goal.returns-in_err-reserve-clause-err
@@ -137,12 +137,12 @@ pub returns-in_err-content-clause-spares : goal.returns-in_err-content-clause-sp
 returns-in_err-content-clause-spares g c told = record {
   others = λ v change.
       let first = c.reserve.ensures.unchanged in
-      let still = subst (λ (m : MiniState). IsStill m c.taken_from_sectors.new.mini) first c.taken_from_sectors.ensures.kept in
-      still-kept v c.args.mini.now c.taken_from_sectors.new.mini c.args.entry change c.requires.stream still (c.taken_from_sectors.ensures.bytes told ∙ ap bytes_of first);
+      let still = subst (λ (m : MiniState). IsStill m c.taken_from_sectors.new.mini) first c.taken_from_sectors.ensures.reads.still in
+      still-kept v c.args.mini.now c.taken_from_sectors.new.mini c.args.entry change c.requires.stream still (c.taken_from_sectors.ensures.reads.bytes told ∙ ap bytes_of first);
   header =
       let first = c.reserve.ensures.unchanged in
-      bytes-keep-header c.args.mini.now c.taken_from_sectors.new.mini (c.taken_from_sectors.ensures.bytes told ∙ ap bytes_of first);
-  unwritten = λ calm. c.taken_from_sectors.ensures.bytes told ∙ ap bytes_of c.reserve.ensures.unchanged;
+      bytes-keep-header c.args.mini.now c.taken_from_sectors.new.mini (c.taken_from_sectors.ensures.reads.bytes told ∙ ap bytes_of first);
+  unwritten = λ calm. c.taken_from_sectors.ensures.reads.bytes told ∙ ap bytes_of c.reserve.ensures.unchanged;
 }
 
 pub carry_to_minis-requires-clause-some : goal.carry_to_minis-requires-clause-some
@@ -157,7 +157,7 @@ carry_to_minis-requires-clause-some g c =
 pub carry_to_minis-requires-clause-enough : goal.carry_to_minis-requires-clause-enough
 carry_to_minis-requires-clause-enough g c =
     let first = c.reserve.ensures.unchanged in
-    let still = subst (λ (m : MiniState). IsStill m c.taken_from_sectors.new.mini) first c.taken_from_sectors.ensures.kept in
+    let still = subst (λ (m : MiniState). IsStill m c.taken_from_sectors.new.mini) first c.taken_from_sectors.ensures.reads.still in
     let long : c.len.result ≡ length c.in_ok-old.old.items = omega (arith, c.len.ensures, c.in_ok-old.old.ok.0) in
     few-still c.args.mini.now c.taken_from_sectors.new.mini (length c.deref-3.result.now) c.div_ceil-count.result still
     (subst (λ n. IsTooFewAfterFor c.args.mini.now n c.div_ceil-count.result → ⊥) (long ∙ sym (ap (λ (l : List ℕ). length l) c.deref-3.ensures.value)) c.in_ok-reserve.ensures.enough)
@@ -169,36 +169,36 @@ returns-in_err-carry_to_minis-clause-spares g c told = record {
       let found = subst (λ (l : List ℕ). IsWholeChain c.allocator.result.now.tables.version c.allocator.result.now.tables.fat c.allocator.result.now.file.len
       c.content_in-start.result.0 c.content_in-start.result.1 l) (sym c.deref-3.ensures.value) c.in_ok-old.ensures.whole in
       let first = c.reserve.ensures.unchanged in
-      let same = c.in_ok-content.ensures.same told ∙ first in
+      let same = c.in_ok-content.ensures.reads.same told ∙ first in
       leave-others c.args.mini.now c.taken_from_sectors.new.mini c.carry_to_minis.new.mini c.args.entry c.args.size c.div_ceil-count.result c.content_in-start.result.0 c.content_in-start.result.1
       c.allocator.result.now c.deref-3.result.now c.requires.stream c.requires.large c.requires.small c.allocator.ensures c.content_in-start.ensures.start c.content_in-start.ensures.len
       found wanted same (c.carry_to_minis.ensures.spares told)
       (λ w held apart unnamed. c.carry_to_minis.ensures.mini_spares told w held apart unnamed) v change;
   header =
       let first = c.reserve.ensures.unchanged in
-      let same = c.in_ok-content.ensures.same told ∙ first in
+      let same = c.in_ok-content.ensures.reads.same told ∙ first in
       spared-since-keeps-header _ c.args.mini.now c.taken_from_sectors.new.mini c.carry_to_minis.new.mini same (c.carry_to_minis.ensures.spares told);
   unwritten = λ calm.
-      c.carry_to_minis.ensures.unwritten calm ∙ ap bytes_of (c.in_ok-content.ensures.same told ∙ c.reserve.ensures.unchanged);
+      c.carry_to_minis.ensures.unwritten calm ∙ ap bytes_of (c.in_ok-content.ensures.reads.same told ∙ c.reserve.ensures.unchanged);
 }
 
 pub returns-in_err-carry_to_minis-clause-around : goal.returns-in_err-carry_to_minis-clause-around
 returns-in_err-carry_to_minis-clause-around g c =
     let first = c.reserve.ensures.unchanged in
-    let still = subst (λ (m : MiniState). IsStill m c.taken_from_sectors.new.mini) first c.taken_from_sectors.ensures.kept in
+    let still = subst (λ (m : MiniState). IsStill m c.taken_from_sectors.new.mini) first c.taken_from_sectors.ensures.reads.still in
     still-around c.args.mini.now c.taken_from_sectors.new.mini c.carry_to_minis.new.mini still c.carry_to_minis.ensures.around
 
 pub returns-in_err-carry_to_minis-clause-refused : goal.returns-in_err-carry_to_minis-clause-refused
 returns-in_err-carry_to_minis-clause-refused g c told =
     let first = c.reserve.ensures.unchanged in
-    let same = c.in_ok-content.ensures.same told ∙ first in
+    let same = c.in_ok-content.ensures.reads.same told ∙ first in
     let p = err_from_is_err_and c.from_residual-in_err-carry_to_minis.result c.from_residual-in_err-carry_to_minis.ensures.1 in
     rw (p.1, p.2) (subst (λ (m : MiniState). StopsOrBegun m c.carry_to_minis.new.mini c.in_err-carry_to_minis.field-0.0) same c.in_err-carry_to_minis.ensures.refused)
 
 pub returns-in_err-carry_to_minis-clause-still : goal.returns-in_err-carry_to_minis-clause-still
 returns-in_err-carry_to_minis-clause-still g c =
     let first = c.reserve.ensures.unchanged in
-    let still = subst (λ (m : MiniState). IsStill m c.taken_from_sectors.new.mini) first c.taken_from_sectors.ensures.kept in
+    let still = subst (λ (m : MiniState). IsStill m c.taken_from_sectors.new.mini) first c.taken_from_sectors.ensures.reads.still in
     let p = err_from_is_err_and c.from_residual-in_err-carry_to_minis.result c.from_residual-in_err-carry_to_minis.ensures.1 in
     rw p.1 (still-stops c.args.mini.now c.taken_from_sectors.new.mini c.carry_to_minis.new.mini still c.in_err-carry_to_minis.field-0.0 c.in_err-carry_to_minis.ensures.refused)
 
@@ -212,7 +212,7 @@ returns-in_err-carry_to_minis-clause-err g c =
     rw (p.1, p.2) (refused-as _ _ _ _ _ _ _ _
     (λ none told v change. leave-asked c.args.mini.now c.taken_from_sectors.new.mini c.carry_to_minis.new.mini c.args.entry c.args.size c.div_ceil-count.result c.content_in-start.result.0 c.content_in-start.result.1
     c.allocator.result.now c.deref-3.result.now c.requires.stream c.requires.large c.requires.small c.allocator.ensures c.content_in-start.ensures.start c.content_in-start.ensures.len
-    found wanted (λ m. ⊥) (c.in_ok-content.ensures.same told ∙ first) v change (λ held apart unnamed. none told v held apart unnamed))
+    found wanted (λ m. ⊥) (c.in_ok-content.ensures.reads.same told ∙ first) v change (λ held apart unnamed. none told v held apart unnamed))
     (λ u. u) (λ no. absurd no) (λ u. u) c.in_err-carry_to_minis.field-0.0 c.in_err-carry_to_minis.ensures.err)
 
 pub returns-clause-turned : goal.returns-clause-turned
@@ -222,7 +222,7 @@ returns-clause-turned g c told = record {
       let found = subst (λ (l : List ℕ). IsWholeChain c.allocator.result.now.tables.version c.allocator.result.now.tables.fat c.allocator.result.now.file.len
       c.content_in-start.result.0 c.content_in-start.result.1 l) (sym c.deref-3.ensures.value) c.in_ok-old.ensures.whole in
       let first = c.reserve.ensures.unchanged in
-      let same = c.in_ok-content.ensures.same told ∙ first in
+      let same = c.in_ok-content.ensures.reads.same told ∙ first in
       subst (λ n. Turns c.args.mini.now c.carry_to_minis.new.mini c.args.entry c.args.size n) (sym (c.first_number.ensures ∙ ap first_or_end c.deref-5.ensures.value))
       (leave-turned c.args.mini.now c.taken_from_sectors.new.mini c.carry_to_minis.new.mini c.args.entry c.args.size c.div_ceil-count.result c.content_in-start.result.0 c.content_in-start.result.1
       c.allocator.result.now c.deref-3.result.now c.requires.stream c.requires.large c.requires.small c.allocator.ensures c.content_in-start.ensures.start c.content_in-start.ensures.len
@@ -235,7 +235,7 @@ returns-clause-turned g c told = record {
       let found = subst (λ (l : List ℕ). IsWholeChain c.allocator.result.now.tables.version c.allocator.result.now.tables.fat c.allocator.result.now.file.len
       c.content_in-start.result.0 c.content_in-start.result.1 l) (sym c.deref-3.ensures.value) c.in_ok-old.ensures.whole in
       let first = c.reserve.ensures.unchanged in
-      let same = c.in_ok-content.ensures.same told ∙ first in
+      let same = c.in_ok-content.ensures.reads.same told ∙ first in
       leave-asked c.args.mini.now c.taken_from_sectors.new.mini c.carry_to_minis.new.mini c.args.entry c.args.size c.div_ceil-count.result c.content_in-start.result.0 c.content_in-start.result.1
       c.allocator.result.now c.deref-3.result.now c.requires.stream c.requires.large c.requires.small c.allocator.ensures c.content_in-start.ensures.start c.content_in-start.ensures.len
       found wanted (λ m. HoldsMini v c.carry_to_minis.new.mini) same v change (c.in_ok-carry_to_minis.ensures.holds told v);
@@ -244,20 +244,20 @@ returns-clause-turned g c told = record {
       let found = subst (λ (l : List ℕ). IsWholeChain c.allocator.result.now.tables.version c.allocator.result.now.tables.fat c.allocator.result.now.file.len
       c.content_in-start.result.0 c.content_in-start.result.1 l) (sym c.deref-3.ensures.value) c.in_ok-old.ensures.whole in
       let first = c.reserve.ensures.unchanged in
-      let same = c.in_ok-content.ensures.same told ∙ first in
+      let same = c.in_ok-content.ensures.reads.same told ∙ first in
       leave-asked c.args.mini.now c.taken_from_sectors.new.mini c.carry_to_minis.new.mini c.args.entry c.args.size c.div_ceil-count.result c.content_in-start.result.0 c.content_in-start.result.1
       c.allocator.result.now c.deref-3.result.now c.requires.stream c.requires.large c.requires.small c.allocator.ensures c.content_in-start.ensures.start c.content_in-start.ensures.len
       found wanted (λ m. IsSnugMini m → IsSnugMini c.carry_to_minis.new.mini) same v change (c.in_ok-carry_to_minis.ensures.snug_mini told v) snug;
   tidy = λ v change. record {
     counted =
-        count-since v c.args.mini.now c.taken_from_sectors.new.mini c.carry_to_minis.new.mini (c.in_ok-content.ensures.same told ∙ c.reserve.ensures.unchanged) change.held
+        count-since v c.args.mini.now c.taken_from_sectors.new.mini c.carry_to_minis.new.mini (c.in_ok-content.ensures.reads.same told ∙ c.reserve.ensures.unchanged) change.held
         (c.in_ok-carry_to_minis.ensures.header told);
     whole = λ was.
         let wanted : c.div_ceil-count.result ≡ rounded_up c.args.size 64 = omega (arith, c.div_ceil-count.ensures) in
         let found = subst (λ (l : List ℕ). IsWholeChain c.allocator.result.now.tables.version c.allocator.result.now.tables.fat c.allocator.result.now.file.len
         c.content_in-start.result.0 c.content_in-start.result.1 l) (sym c.deref-3.ensures.value) c.in_ok-old.ensures.whole in
         let first = c.reserve.ensures.unchanged in
-        let same = c.in_ok-content.ensures.same told ∙ first in
+        let same = c.in_ok-content.ensures.reads.same told ∙ first in
         leave-asked c.args.mini.now c.taken_from_sectors.new.mini c.carry_to_minis.new.mini c.args.entry c.args.size c.div_ceil-count.result c.content_in-start.result.0 c.content_in-start.result.1
         c.allocator.result.now c.deref-3.result.now c.requires.stream c.requires.large c.requires.small c.allocator.ensures c.content_in-start.ensures.start c.content_in-start.ensures.len
         found wanted (λ m. IsOfWholeSectors (table_of m) → IsOfWholeSectors (table_of c.carry_to_minis.new.mini)) same v change (c.in_ok-carry_to_minis.ensures.whole told v) was;
@@ -271,29 +271,29 @@ returns-clause-spares g c told = record {
       let found = subst (λ (l : List ℕ). IsWholeChain c.allocator.result.now.tables.version c.allocator.result.now.tables.fat c.allocator.result.now.file.len
       c.content_in-start.result.0 c.content_in-start.result.1 l) (sym c.deref-3.ensures.value) c.in_ok-old.ensures.whole in
       let first = c.reserve.ensures.unchanged in
-      let same = c.in_ok-content.ensures.same told ∙ first in
+      let same = c.in_ok-content.ensures.reads.same told ∙ first in
       leave-others c.args.mini.now c.taken_from_sectors.new.mini c.carry_to_minis.new.mini c.args.entry c.args.size c.div_ceil-count.result c.content_in-start.result.0 c.content_in-start.result.1
       c.allocator.result.now c.deref-3.result.now c.requires.stream c.requires.large c.requires.small c.allocator.ensures c.content_in-start.ensures.start c.content_in-start.ensures.len
       found wanted same (c.carry_to_minis.ensures.spares told)
       (λ w held apart unnamed. c.carry_to_minis.ensures.mini_spares told w held apart unnamed) v change;
   header =
       let first = c.reserve.ensures.unchanged in
-      let same = c.in_ok-content.ensures.same told ∙ first in
+      let same = c.in_ok-content.ensures.reads.same told ∙ first in
       spared-since-keeps-header _ c.args.mini.now c.taken_from_sectors.new.mini c.carry_to_minis.new.mini same (c.carry_to_minis.ensures.spares told);
   unwritten = λ calm.
-      c.carry_to_minis.ensures.unwritten calm ∙ ap bytes_of (c.in_ok-content.ensures.same told ∙ c.reserve.ensures.unchanged);
+      c.carry_to_minis.ensures.unwritten calm ∙ ap bytes_of (c.in_ok-content.ensures.reads.same told ∙ c.reserve.ensures.unchanged);
 }
 
 pub returns-clause-around : goal.returns-clause-around
 returns-clause-around g c =
     let first = c.reserve.ensures.unchanged in
-    let still = subst (λ (m : MiniState). IsStill m c.taken_from_sectors.new.mini) first c.taken_from_sectors.ensures.kept in
+    let still = subst (λ (m : MiniState). IsStill m c.taken_from_sectors.new.mini) first c.taken_from_sectors.ensures.reads.still in
     still-around c.args.mini.now c.taken_from_sectors.new.mini c.carry_to_minis.new.mini still c.carry_to_minis.ensures.around
 
 pub returns-clause-tight : goal.returns-clause-tight
 returns-clause-tight g c =
     let first = c.reserve.ensures.unchanged in
-    let still = subst (λ (m : MiniState). IsStill m c.taken_from_sectors.new.mini) first c.taken_from_sectors.ensures.kept in
+    let still = subst (λ (m : MiniState). IsStill m c.taken_from_sectors.new.mini) first c.taken_from_sectors.ensures.reads.still in
     still-tight c.args.mini.now c.taken_from_sectors.new.mini c.carry_to_minis.new.mini still c.in_ok-carry_to_minis.ensures.tight
 
 pub returns-clause-enough : goal.returns-clause-enough

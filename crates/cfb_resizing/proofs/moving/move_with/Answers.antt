@@ -62,19 +62,19 @@ pub returns-in_err-joined-clause-spares : goal.returns-in_err-joined-clause-spar
 returns-in_err-joined-clause-spares g c told = record {
   others = λ v change.
       let first = ap (λ (b : AllocatorState). with_table c.args.mini.now b) (c.reserve.ensures.usable.unchanged ∙ c.allocator_mut.ensures.value) in
-      let still = subst (λ (m : MiniState). IsStill m c.joined_from_minis.new.mini) first c.joined_from_minis.ensures.kept in
-      still-kept v c.args.mini.now c.joined_from_minis.new.mini c.args.entry change c.requires.stream still (c.joined_from_minis.ensures.bytes told ∙ ap bytes_of first);
+      let still = subst (λ (m : MiniState). IsStill m c.joined_from_minis.new.mini) first c.joined_from_minis.ensures.reads.still in
+      still-kept v c.args.mini.now c.joined_from_minis.new.mini c.args.entry change c.requires.stream still (c.joined_from_minis.ensures.reads.bytes told ∙ ap bytes_of first);
   header =
       let first = ap (λ (b : AllocatorState). with_table c.args.mini.now b) (c.reserve.ensures.usable.unchanged ∙ c.allocator_mut.ensures.value) in
-      bytes-keep-header c.args.mini.now c.joined_from_minis.new.mini (c.joined_from_minis.ensures.bytes told ∙ ap bytes_of first);
+      bytes-keep-header c.args.mini.now c.joined_from_minis.new.mini (c.joined_from_minis.ensures.reads.bytes told ∙ ap bytes_of first);
   unwritten = λ calm.
-      c.joined_from_minis.ensures.bytes told ∙ ap bytes_of (ap (λ (b : AllocatorState). with_table c.args.mini.now b) (c.reserve.ensures.usable.unchanged ∙ c.allocator_mut.ensures.value));
+      c.joined_from_minis.ensures.reads.bytes told ∙ ap bytes_of (ap (λ (b : AllocatorState). with_table c.args.mini.now b) (c.reserve.ensures.usable.unchanged ∙ c.allocator_mut.ensures.value));
 }
 
 pub carry_to_sectors-requires-clause-chain : goal.carry_to_sectors-requires-clause-chain
 carry_to_sectors-requires-clause-chain g c =
     let first = ap (λ (b : AllocatorState). with_table c.args.mini.now b) (c.reserve.ensures.usable.unchanged ∙ c.allocator_mut.ensures.value) in
-    let still = subst (λ (m : MiniState). IsStill m c.joined_from_minis.new.mini) first c.joined_from_minis.ensures.kept in
+    let still = subst (λ (m : MiniState). IsStill m c.joined_from_minis.new.mini) first c.joined_from_minis.ensures.reads.still in
     move-starts c.args.mini.now c.joined_from_minis.new.mini c.joined_from_minis.new.mini c.args.entry c.args.size c.div_ceil-count.result c.content_in-start.result.0 c.content_in-start.result.1
     c.sector_len.result c.in_ok-old.old.items c.requires.stream c.requires.small c.requires.large c.content_in-start.ensures.start c.content_in-start.ensures.len c.in_ok-old.ensures.whole
     c.sector_len.ensures c.div_ceil-count.ensures still
@@ -82,7 +82,7 @@ carry_to_sectors-requires-clause-chain g c =
 pub carry_to_sectors-requires-clause-enough : goal.carry_to_sectors-requires-clause-enough
 carry_to_sectors-requires-clause-enough g c =
     let first = ap (λ (b : AllocatorState). with_table c.args.mini.now b) (c.reserve.ensures.usable.unchanged ∙ c.allocator_mut.ensures.value) in
-    let still = subst (λ (m : MiniState). IsStill m c.joined_from_minis.new.mini) first c.joined_from_minis.ensures.kept in
+    let still = subst (λ (m : MiniState). IsStill m c.joined_from_minis.new.mini) first c.joined_from_minis.ensures.reads.still in
     move-enough c.args.mini.now c.joined_from_minis.new.mini c.joined_from_minis.new.mini c.args.entry c.args.size c.div_ceil-count.result c.content_in-start.result.0 c.content_in-start.result.1
     c.sector_len.result c.in_ok-old.old.items c.requires.stream c.requires.small c.requires.large c.content_in-start.ensures.start c.content_in-start.ensures.len c.in_ok-old.ensures.whole
     c.sector_len.ensures c.div_ceil-count.ensures c.allocator_mut.result.now c.in_ok-given.given c.saturating_sub.result c.allocator_mut.ensures.value c.saturating_sub.ensures
@@ -92,37 +92,37 @@ pub returns-in_err-carry_to_sectors-clause-spares : goal.returns-in_err-carry_to
 returns-in_err-carry_to_sectors-clause-spares g c told = record {
   others = λ v change.
       let first = ap (λ (b : AllocatorState). with_table c.args.mini.now b) (c.reserve.ensures.usable.unchanged ∙ c.allocator_mut.ensures.value) in
-      let same = c.in_ok-joined.ensures.same told ∙ first in
+      let same = c.in_ok-joined.ensures.reads.same told ∙ first in
       move-others c.args.mini.now c.joined_from_minis.new.mini c.carry_to_sectors.new.mini c.args.entry c.args.size c.div_ceil-count.result c.content_in-start.result.0 c.content_in-start.result.1
       c.sector_len.result c.in_ok-old.old.items c.requires.stream c.requires.small c.requires.large c.content_in-start.ensures.start c.content_in-start.ensures.len c.in_ok-old.ensures.whole
       c.sector_len.ensures c.div_ceil-count.ensures same (c.carry_to_sectors.ensures.spares told)
       (λ w held unnamed. c.carry_to_sectors.ensures.mini_spares told w held unnamed) v change;
   header =
       let first = ap (λ (b : AllocatorState). with_table c.args.mini.now b) (c.reserve.ensures.usable.unchanged ∙ c.allocator_mut.ensures.value) in
-      let same = c.in_ok-joined.ensures.same told ∙ first in
+      let same = c.in_ok-joined.ensures.reads.same told ∙ first in
       spared-since-keeps-header _ c.args.mini.now c.joined_from_minis.new.mini c.carry_to_sectors.new.mini same (c.carry_to_sectors.ensures.spares told);
   unwritten = λ calm.
-      c.carry_to_sectors.ensures.unwritten calm ∙ ap bytes_of (c.in_ok-joined.ensures.same told ∙ ap (λ (b : AllocatorState). with_table c.args.mini.now b) (c.reserve.ensures.usable.unchanged ∙ c.allocator_mut.ensures.value));
+      c.carry_to_sectors.ensures.unwritten calm ∙ ap bytes_of (c.in_ok-joined.ensures.reads.same told ∙ ap (λ (b : AllocatorState). with_table c.args.mini.now b) (c.reserve.ensures.usable.unchanged ∙ c.allocator_mut.ensures.value));
 }
 
 pub returns-in_err-carry_to_sectors-clause-refused : goal.returns-in_err-carry_to_sectors-clause-refused
 returns-in_err-carry_to_sectors-clause-refused g c told =
     let first = ap (λ (b : AllocatorState). with_table c.args.mini.now b) (c.reserve.ensures.usable.unchanged ∙ c.allocator_mut.ensures.value) in
-    let same = c.in_ok-joined.ensures.same told ∙ first in
+    let same = c.in_ok-joined.ensures.reads.same told ∙ first in
     let p = err_from_is_err_and c.from_residual-in_err-carry_to_sectors.result c.from_residual-in_err-carry_to_sectors.ensures.1 in
     rw (p.1, p.2) (subst (λ (m : MiniState). StopsOrBegun m c.carry_to_sectors.new.mini c.in_err-carry_to_sectors.field-0.0) same c.in_err-carry_to_sectors.ensures.refused)
 
 pub returns-in_err-carry_to_sectors-clause-still : goal.returns-in_err-carry_to_sectors-clause-still
 returns-in_err-carry_to_sectors-clause-still g c =
     let first = ap (λ (b : AllocatorState). with_table c.args.mini.now b) (c.reserve.ensures.usable.unchanged ∙ c.allocator_mut.ensures.value) in
-    let still = subst (λ (m : MiniState). IsStill m c.joined_from_minis.new.mini) first c.joined_from_minis.ensures.kept in
+    let still = subst (λ (m : MiniState). IsStill m c.joined_from_minis.new.mini) first c.joined_from_minis.ensures.reads.still in
     let p = err_from_is_err_and c.from_residual-in_err-carry_to_sectors.result c.from_residual-in_err-carry_to_sectors.ensures.1 in
     rw p.1 (still-stops c.args.mini.now c.joined_from_minis.new.mini c.carry_to_sectors.new.mini still c.in_err-carry_to_sectors.field-0.0 c.in_err-carry_to_sectors.ensures.refused)
 
 pub returns-in_err-carry_to_sectors-clause-around : goal.returns-in_err-carry_to_sectors-clause-around
 returns-in_err-carry_to_sectors-clause-around g c =
     let first = ap (λ (b : AllocatorState). with_table c.args.mini.now b) (c.reserve.ensures.usable.unchanged ∙ c.allocator_mut.ensures.value) in
-    let still = subst (λ (m : MiniState). IsStill m c.joined_from_minis.new.mini) first c.joined_from_minis.ensures.kept in
+    let still = subst (λ (m : MiniState). IsStill m c.joined_from_minis.new.mini) first c.joined_from_minis.ensures.reads.still in
     still-around c.args.mini.now c.joined_from_minis.new.mini c.carry_to_sectors.new.mini still c.carry_to_sectors.ensures.around
 
 pub returns-in_err-carry_to_sectors-clause-err : goal.returns-in_err-carry_to_sectors-clause-err
@@ -130,7 +130,7 @@ returns-in_err-carry_to_sectors-clause-err g c =
     let first = ap (λ (b : AllocatorState). with_table c.args.mini.now b) (c.reserve.ensures.usable.unchanged ∙ c.allocator_mut.ensures.value) in
     let p = err_from_is_err_and c.from_residual-in_err-carry_to_sectors.result c.from_residual-in_err-carry_to_sectors.ensures.1 in
     rw (p.1, p.2) (refused-as _ _ _ _ _ _ _ _
-    (λ none told v change. none v (subst (λ (m : MiniState). HoldsMini v m) (sym (c.in_ok-joined.ensures.same told ∙ first)) change.held))
+    (λ none told v change. none v (subst (λ (m : MiniState). HoldsMini v m) (sym (c.in_ok-joined.ensures.reads.same told ∙ first)) change.held))
     (λ u. u) (λ no. absurd no) (λ u. u) c.in_err-carry_to_sectors.field-0.0 c.in_err-carry_to_sectors.ensures.err)
 
 -- ---- it has moved
@@ -139,7 +139,7 @@ returns-in_err-carry_to_sectors-clause-err g c =
 pub carry_to_sectors-requires-clause-room : goal.carry_to_sectors-requires-clause-room
 carry_to_sectors-requires-clause-room g c =
     let first = ap (λ (b : AllocatorState). with_table c.args.mini.now b) (c.reserve.ensures.usable.unchanged ∙ c.allocator_mut.ensures.value) in
-    let still = subst (λ (m : MiniState). IsStill m c.joined_from_minis.new.mini) first c.joined_from_minis.ensures.kept in
+    let still = subst (λ (m : MiniState). IsStill m c.joined_from_minis.new.mini) first c.joined_from_minis.ensures.reads.still in
     let long = whole-long c.content_in-start.result.1 c.in_ok-joined.joined.items c.deref-2.result.now c.joined_or-content.result.now c.args.bytes.now
     c.deref-2.ensures.value c.in_ok-joined.ensures.none c.in_ok-joined.ensures.len c.joined_or-content.ensures.none c.joined_or-content.ensures.some in
     let fits = c.requires.fits in
@@ -152,7 +152,7 @@ pub returns-clause-moved : goal.returns-clause-moved
 returns-clause-moved g c told = rw (c.end_chain.ensures, c.allocator_mut-2.ensures.value) (record {
   moved = λ v change.
       let first = ap (λ (b : AllocatorState). with_table c.args.mini.now b) (c.reserve.ensures.usable.unchanged ∙ c.allocator_mut.ensures.value) in
-      let same = c.in_ok-joined.ensures.same told ∙ first in
+      let same = c.in_ok-joined.ensures.reads.same told ∙ first in
       let len = c.content_in-start.result.1 in
       let joined = c.in_ok-joined.joined.items in
       let content = c.joined_or-content.result.now in
@@ -173,17 +173,17 @@ returns-clause-moved g c told = rw (c.end_chain.ensures, c.allocator_mut-2.ensur
       (c.in_ok-carry_to_sectors.ensures.wiped told v) (c.in_ok-carry_to_sectors.ensures.erased told v));
   holds = λ v change.
       let first = ap (λ (b : AllocatorState). with_table c.args.mini.now b) (c.reserve.ensures.usable.unchanged ∙ c.allocator_mut.ensures.value) in
-      let same = c.in_ok-joined.ensures.same told ∙ first in
+      let same = c.in_ok-joined.ensures.reads.same told ∙ first in
       move-held c.args.mini.now c.joined_from_minis.new.mini c.carry_to_sectors.new.mini c.args.entry c.args.size c.div_ceil-count.result c.content_in-start.result.0 c.content_in-start.result.1
       c.sector_len.result c.in_ok-old.old.items c.requires.stream c.requires.small c.requires.large c.content_in-start.ensures.start c.content_in-start.ensures.len c.in_ok-old.ensures.whole
       c.sector_len.ensures c.div_ceil-count.ensures same v (c.in_ok-carry_to_sectors.ensures.holds told v) change;
   snug_mini = λ v change snug.
       let first = ap (λ (b : AllocatorState). with_table c.args.mini.now b) (c.reserve.ensures.usable.unchanged ∙ c.allocator_mut.ensures.value) in
-      let same = c.in_ok-joined.ensures.same told ∙ first in
+      let same = c.in_ok-joined.ensures.reads.same told ∙ first in
       (subst (λ (m : MiniState). HoldsMini v m → IsSnugMini m → IsSnugMini c.carry_to_sectors.new.mini) same (c.in_ok-carry_to_sectors.ensures.snug_mini v)) change.held snug;
   tidy = λ v change.
       let first = ap (λ (b : AllocatorState). with_table c.args.mini.now b) (c.reserve.ensures.usable.unchanged ∙ c.allocator_mut.ensures.value) in
-      let same = c.in_ok-joined.ensures.same told ∙ first in
+      let same = c.in_ok-joined.ensures.reads.same told ∙ first in
       record {
         counted = count-since v c.args.mini.now c.joined_from_minis.new.mini c.carry_to_sectors.new.mini same change.held (c.in_ok-carry_to_sectors.ensures.header told);
         whole =
@@ -197,29 +197,29 @@ pub returns-clause-spares : goal.returns-clause-spares
 returns-clause-spares g c told = rw (c.end_chain.ensures, c.allocator_mut-2.ensures.value) (record {
   others = λ v change.
       let first = ap (λ (b : AllocatorState). with_table c.args.mini.now b) (c.reserve.ensures.usable.unchanged ∙ c.allocator_mut.ensures.value) in
-      let same = c.in_ok-joined.ensures.same told ∙ first in
+      let same = c.in_ok-joined.ensures.reads.same told ∙ first in
       move-others c.args.mini.now c.joined_from_minis.new.mini c.carry_to_sectors.new.mini c.args.entry c.args.size c.div_ceil-count.result c.content_in-start.result.0 c.content_in-start.result.1
       c.sector_len.result c.in_ok-old.old.items c.requires.stream c.requires.small c.requires.large c.content_in-start.ensures.start c.content_in-start.ensures.len c.in_ok-old.ensures.whole
       c.sector_len.ensures c.div_ceil-count.ensures same (c.carry_to_sectors.ensures.spares told)
       (λ w held unnamed. c.carry_to_sectors.ensures.mini_spares told w held unnamed) v change;
   header =
       let first = ap (λ (b : AllocatorState). with_table c.args.mini.now b) (c.reserve.ensures.usable.unchanged ∙ c.allocator_mut.ensures.value) in
-      let same = c.in_ok-joined.ensures.same told ∙ first in
+      let same = c.in_ok-joined.ensures.reads.same told ∙ first in
       spared-since-keeps-header _ c.args.mini.now c.joined_from_minis.new.mini c.carry_to_sectors.new.mini same (c.carry_to_sectors.ensures.spares told);
   unwritten = λ calm.
-      c.carry_to_sectors.ensures.unwritten calm ∙ ap bytes_of (c.in_ok-joined.ensures.same told ∙ ap (λ (b : AllocatorState). with_table c.args.mini.now b) (c.reserve.ensures.usable.unchanged ∙ c.allocator_mut.ensures.value));
+      c.carry_to_sectors.ensures.unwritten calm ∙ ap bytes_of (c.in_ok-joined.ensures.reads.same told ∙ ap (λ (b : AllocatorState). with_table c.args.mini.now b) (c.reserve.ensures.usable.unchanged ∙ c.allocator_mut.ensures.value));
 })
 
 pub returns-clause-around : goal.returns-clause-around
 returns-clause-around g c =
     let first = ap (λ (b : AllocatorState). with_table c.args.mini.now b) (c.reserve.ensures.usable.unchanged ∙ c.allocator_mut.ensures.value) in
-    let still = subst (λ (m : MiniState). IsStill m c.joined_from_minis.new.mini) first c.joined_from_minis.ensures.kept in
+    let still = subst (λ (m : MiniState). IsStill m c.joined_from_minis.new.mini) first c.joined_from_minis.ensures.reads.still in
     rw (c.end_chain.ensures, c.allocator_mut-2.ensures.value) (still-around c.args.mini.now c.joined_from_minis.new.mini c.carry_to_sectors.new.mini still c.carry_to_sectors.ensures.around)
 
 pub returns-clause-tight : goal.returns-clause-tight
 returns-clause-tight g c =
     let first = ap (λ (b : AllocatorState). with_table c.args.mini.now b) (c.reserve.ensures.usable.unchanged ∙ c.allocator_mut.ensures.value) in
-    let still = subst (λ (m : MiniState). IsStill m c.joined_from_minis.new.mini) first c.joined_from_minis.ensures.kept in
+    let still = subst (λ (m : MiniState). IsStill m c.joined_from_minis.new.mini) first c.joined_from_minis.ensures.reads.still in
     rw (c.end_chain.ensures, c.allocator_mut-2.ensures.value) (still-tight c.args.mini.now c.joined_from_minis.new.mini c.carry_to_sectors.new.mini still c.in_ok-carry_to_sectors.ensures.tight)
 
 pub returns-clause-enough : goal.returns-clause-enough

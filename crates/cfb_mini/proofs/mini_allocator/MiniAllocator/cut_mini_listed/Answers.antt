@@ -85,30 +85,32 @@ cut_listed-requires-clause-above g c =
     of-some (λ v. v.items) c.self.inside.mini_stream c.in-Some.stream c.self.inside.minifat_sectors.items c.self.inside.above c.in-Some.is c.self.invariant
 
 pub returns-clause-room : goal.returns-clause-room
-returns-clause-room g c fewer can =
-    let inside = c.self.inside in
-    let s = mini_of inside.directory inside.table inside.minifat_sectors.items (Some c.in-Some.stream.items) in
-    let kept = sym (some-items inside.mini_stream c.in-Some.stream c.in-Some.is (λ v. v.items)) in
-    let old : s ≡ c.args.self.now = (λ j. mini_of inside.directory inside.table inside.minifat_sectors.items (kept j)) ∙ c.self.view_is in
-    let new = c.cut_listed.new in
-    let d = mini_of new.directory new.table new.minifat_sectors.items (Some new.stream.items) in
-    subst (λ (x : MiniState). CanGiveRoomBack x → OnOk c.cut_listed.result (GivesRoomBack x d)) old c.cut_listed.ensures.room.given can
-
-pub returns-clause-snug : goal.returns-clause-snug
-returns-clause-snug g c fewer validation h =
-    let inside = c.self.inside in
-    let s = mini_of inside.directory inside.table inside.minifat_sectors.items (Some c.in-Some.stream.items) in
-    let kept = sym (some-items inside.mini_stream c.in-Some.stream c.in-Some.is (λ v. v.items)) in
-    let old : s ≡ c.args.self.now = (λ j. mini_of inside.directory inside.table inside.minifat_sectors.items (kept j)) ∙ c.self.view_is in
-    c.cut_listed.ensures.room.snug validation (subst (HoldsMini validation) (sym old) h)
-
-pub returns-clause-counted : goal.returns-clause-counted
-returns-clause-counted g c told fewer validation h =
-    let inside = c.self.inside in
-    let s = mini_of inside.directory inside.table inside.minifat_sectors.items (Some c.in-Some.stream.items) in
-    let kept = sym (some-items inside.mini_stream c.in-Some.stream c.in-Some.is (λ v. v.items)) in
-    let old : s ≡ c.args.self.now = (λ j. mini_of inside.directory inside.table inside.minifat_sectors.items (kept j)) ∙ c.self.view_is in
-    c.cut_listed.ensures.room.counted told validation (subst (HoldsMini validation) (sym old) h)
+returns-clause-room g c = record {
+  given = λ fewer can. (
+      let inside = c.self.inside in
+      let s = mini_of inside.directory inside.table inside.minifat_sectors.items (Some c.in-Some.stream.items) in
+      let kept = sym (some-items inside.mini_stream c.in-Some.stream c.in-Some.is (λ v. v.items)) in
+      let old : s ≡ c.args.self.now = (λ j. mini_of inside.directory inside.table inside.minifat_sectors.items (kept j)) ∙ c.self.view_is in
+      let new = c.cut_listed.new in
+      let d = mini_of new.directory new.table new.minifat_sectors.items (Some new.stream.items) in
+      subst (λ (x : MiniState). CanGiveRoomBack x → OnOk c.cut_listed.result (GivesRoomBack x d)) old c.cut_listed.ensures.room.given can
+  );
+  measured = first_of (search rules, grind (arith, common_steps));
+  snug = λ fewer validation h. (
+      let inside = c.self.inside in
+      let s = mini_of inside.directory inside.table inside.minifat_sectors.items (Some c.in-Some.stream.items) in
+      let kept = sym (some-items inside.mini_stream c.in-Some.stream c.in-Some.is (λ v. v.items)) in
+      let old : s ≡ c.args.self.now = (λ j. mini_of inside.directory inside.table inside.minifat_sectors.items (kept j)) ∙ c.self.view_is in
+      c.cut_listed.ensures.room.snug validation (subst (HoldsMini validation) (sym old) h)
+  );
+  counted = λ told fewer validation h. (
+      let inside = c.self.inside in
+      let s = mini_of inside.directory inside.table inside.minifat_sectors.items (Some c.in-Some.stream.items) in
+      let kept = sym (some-items inside.mini_stream c.in-Some.stream c.in-Some.is (λ v. v.items)) in
+      let old : s ≡ c.args.self.now = (λ j. mini_of inside.directory inside.table inside.minifat_sectors.items (kept j)) ∙ c.self.view_is in
+      c.cut_listed.ensures.room.counted told validation (subst (HoldsMini validation) (sym old) h)
+  );
+}
 
 pub returns-clause-holds : goal.returns-clause-holds
 returns-clause-holds g c = record {

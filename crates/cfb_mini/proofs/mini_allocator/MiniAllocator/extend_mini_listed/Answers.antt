@@ -94,20 +94,40 @@ extend_listed-requires-clause-above g c =
 
 -- ---- the mini stream's list goes on
 
-pub returns-then-count-eq0-clause-goes_on : goal.returns-then-count-eq0-clause-goes_on
-returns-then-count-eq0-clause-goes_on g c = same_listed (mini_stream_of c.args.self.now) (mini_stream_of c.args.self.now) refl
+pub returns-then-count-eq0-clause-grows : goal.returns-then-count-eq0-clause-grows
+returns-then-count-eq0-clause-grows g c = record {
+  grown = first_of (search rules, grind (arith, common_steps));
+  measured = first_of (search rules, grind (arith, common_steps));
+  room = first_of (search rules, grind (arith, common_steps));
+  enough = first_of (search rules, grind (arith, common_steps));
+  goes_on = same_listed (mini_stream_of c.args.self.now) (mini_stream_of c.args.self.now) refl;
+}
 
-pub returns-in_default-clause-goes_on : goal.returns-in_default-clause-goes_on
-returns-in_default-clause-goes_on g c =
-    let s = c.args.self.now in
-    subst (λ (x : MiniState). mini_stream_of x ≡ mini_stream_of s ++ gained (mini_stream_of s) (mini_stream_of x)) (sym c.self.view_is)
-    (same_listed (mini_stream_of s) (mini_stream_of s) refl)
+pub returns-in_default-clause-grows : goal.returns-in_default-clause-grows
+returns-in_default-clause-grows g c = record {
+  grown = first_of (search rules, grind (arith, common_steps));
+  measured = first_of (search rules, grind (arith, common_steps));
+  room = first_of (search rules, grind (arith, common_steps));
+  enough = first_of (search rules, grind (arith, common_steps));
+  goes_on = (
+      let s = c.args.self.now in
+      subst (λ (x : MiniState). mini_stream_of x ≡ mini_stream_of s ++ gained (mini_stream_of s) (mini_stream_of x)) (sym c.self.view_is)
+      (same_listed (mini_stream_of s) (mini_stream_of s) refl)
+  );
+}
 
-pub returns-clause-goes_on : goal.returns-clause-goes_on
-returns-clause-goes_on g c =
-    let inside = c.self.inside in
-    let s = mini_of inside.directory inside.table inside.minifat_sectors.items (Some c.in-Some.stream.items) in
-    let stream = c.extend_listed.new.stream.items in
-    let kept = sym (some-items inside.mini_stream c.in-Some.stream c.in-Some.is (λ v. v.items)) in
-    let old : s ≡ c.args.self.now = (λ j. mini_of inside.directory inside.table inside.minifat_sectors.items (kept j)) ∙ c.self.view_is in
-    subst (λ (x : MiniState). stream ≡ mini_stream_of x ++ gained (mini_stream_of x) stream) old c.extend_listed.ensures.grows.goes_on
+pub returns-clause-grows : goal.returns-clause-grows
+returns-clause-grows g c = record {
+  grown = first_of (search rules, grind (arith, common_steps));
+  measured = first_of (search rules, grind (arith, common_steps));
+  room = first_of (search rules, grind (arith, common_steps));
+  enough = first_of (search rules, grind (arith, common_steps));
+  goes_on = (
+      let inside = c.self.inside in
+      let s = mini_of inside.directory inside.table inside.minifat_sectors.items (Some c.in-Some.stream.items) in
+      let stream = c.extend_listed.new.stream.items in
+      let kept = sym (some-items inside.mini_stream c.in-Some.stream c.in-Some.is (λ v. v.items)) in
+      let old : s ≡ c.args.self.now = (λ j. mini_of inside.directory inside.table inside.minifat_sectors.items (kept j)) ∙ c.self.view_is in
+      subst (λ (x : MiniState). stream ≡ mini_stream_of x ++ gained (mini_stream_of x) stream) old c.extend_listed.ensures.grows.goes_on
+  );
+}

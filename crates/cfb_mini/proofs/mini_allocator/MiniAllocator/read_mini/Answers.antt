@@ -16,17 +16,21 @@ returns-clause-part g c = record {
   );
 }
 
-pub returns-clause-cut : goal.returns-clause-cut
-returns-clause-cut g c some none =
-    let s = c.args.self.now in
-    let table : c.allocator_mut.result.now ≡ table_of s = c.allocator_mut.ensures.value ∙ ap (λ (w : MiniState). table_of w) c.self.view_is in
-    let stream = stream-is s c.deref.result.now c.in-Some.stream c.self.inside.mini_stream c.deref.ensures.value c.in-Some.is (ap (λ (w : MiniState). w.mini_stream) c.self.view_is) in
-    read-cut c.read_piece.result s c.allocator_mut.result.now c.deref.result.now c.args.mini c.args.offset table stream c.read_piece.ensures.error.missing c.read_piece.ensures.error.cut none
-
-pub returns-clause-there : goal.returns-clause-there
-returns-clause-there g c =
-    let s = c.args.self.now in
-    let table : c.allocator_mut.result.now ≡ table_of s = c.allocator_mut.ensures.value ∙ ap (λ (w : MiniState). table_of w) c.self.view_is in
-    let stream = stream-is s c.deref.result.now c.in-Some.stream c.self.inside.mini_stream c.deref.ensures.value c.in-Some.is (ap (λ (w : MiniState). w.mini_stream) c.self.view_is) in
-    read-there c.read_piece.result s c.args.mini c.args.offset
-    (λ none. read-cut c.read_piece.result s c.allocator_mut.result.now c.deref.result.now c.args.mini c.args.offset table stream c.read_piece.ensures.error.missing c.read_piece.ensures.error.cut none)
+pub returns-clause-error : goal.returns-clause-error
+returns-clause-error g c = record {
+  there = (
+      let s = c.args.self.now in
+      let table : c.allocator_mut.result.now ≡ table_of s = c.allocator_mut.ensures.value ∙ ap (λ (w : MiniState). table_of w) c.self.view_is in
+      let stream = stream-is s c.deref.result.now c.in-Some.stream c.self.inside.mini_stream c.deref.ensures.value c.in-Some.is (ap (λ (w : MiniState). w.mini_stream) c.self.view_is) in
+      read-there c.read_piece.result s c.args.mini c.args.offset
+      (λ none. read-cut c.read_piece.result s c.allocator_mut.result.now c.deref.result.now c.args.mini c.args.offset table stream c.read_piece.ensures.error.missing c.read_piece.ensures.error.cut none)
+  );
+  cut = λ some none. (
+      let s = c.args.self.now in
+      let table : c.allocator_mut.result.now ≡ table_of s = c.allocator_mut.ensures.value ∙ ap (λ (w : MiniState). table_of w) c.self.view_is in
+      let stream = stream-is s c.deref.result.now c.in-Some.stream c.self.inside.mini_stream c.deref.ensures.value c.in-Some.is (ap (λ (w : MiniState). w.mini_stream) c.self.view_is) in
+      read-cut c.read_piece.result s c.allocator_mut.result.now c.deref.result.now c.args.mini c.args.offset table stream c.read_piece.ensures.error.missing c.read_piece.ensures.error.cut none
+  );
+  none = first_of (search rules, grind (arith, common_steps));
+  err = first_of (search rules, grind (arith, common_steps));
+}

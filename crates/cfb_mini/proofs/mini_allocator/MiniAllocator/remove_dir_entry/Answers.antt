@@ -27,17 +27,31 @@ returns-clause-removes g c = record {
 }
 
 pub returns-clause-holds : goal.returns-clause-holds
-returns-clause-holds g c told validation h =
-    let here = subst (λ (s : MiniState). HoldsMini validation s) (sym c.self.view_is) h in
-    let parent = subst (λ (s : MiniState). IsReachedStorage s.directory.cases s.directory.entries c.args.parent) (sym c.self.view_is) c.requires.parent in
-    let was = c.remove_dir_entry.ensures in
-    removed-holds c.remove_dir_entry.result validation _ c.remove_dir_entry.new.self c.args.parent (chars c.args.name.now) here parent
-    (was.holds told validation here.directory) (was.spares told) (was.header told) was.removes.removed was.kept.0
+returns-clause-holds g c = record {
+  holds = λ told validation h. (
+      let here = subst (λ (s : MiniState). HoldsMini validation s) (sym c.self.view_is) h in
+      let parent = subst (λ (s : MiniState). IsReachedStorage s.directory.cases s.directory.entries c.args.parent) (sym c.self.view_is) c.requires.parent in
+      let was = c.remove_dir_entry.ensures in
+      removed-holds c.remove_dir_entry.result validation _ c.remove_dir_entry.new.self c.args.parent (chars c.args.name.now) here parent
+      (was.holds.holds told validation here.directory) (was.changes.spares told) (was.changes.header told) was.removes.removed was.changes.kept.0
+  );
+  limits = first_of (search rules, grind (arith, common_steps));
+  err = first_of (search rules, grind (arith, common_steps));
+}
 
 pub returns-clause-slots : goal.returns-clause-slots
 returns-clause-slots g c told validation =
     subst (λ (s : MiniState). HoldsDirectory validation s.directory → KeepsOtherSlots c.args.parent s.directory c.remove_dir_entry.new.self) c.self.view_is
     (c.remove_dir_entry.ensures.slots told validation)
 
-pub returns-clause-others : goal.returns-clause-others
-returns-clause-others g c told = subst (λ (s : MiniState). KeepsOtherSectors s.directory c.remove_dir_entry.new.self) c.self.view_is (c.remove_dir_entry.ensures.others told)
+pub returns-clause-changes : goal.returns-clause-changes
+returns-clause-changes g c = record {
+  kept = first_of (search rules, grind (arith, common_steps));
+  spares = first_of (search rules, grind (arith, common_steps));
+  header = first_of (search rules, grind (arith, common_steps));
+  others = λ told. subst (λ (s : MiniState). KeepsOtherSectors s.directory c.remove_dir_entry.new.self) c.self.view_is (c.remove_dir_entry.ensures.changes.others told);
+  mini = first_of (search rules, grind (arith, common_steps));
+  begun = first_of (search rules, grind (arith, common_steps));
+  refused = first_of (search rules, grind (arith, common_steps));
+  counts = first_of (search rules, grind (arith, common_steps));
+}

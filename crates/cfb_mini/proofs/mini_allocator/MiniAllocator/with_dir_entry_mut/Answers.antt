@@ -23,8 +23,8 @@ returns-clause-holds g c told validation h valid root =
     → (f.start_sector ≡ (entry_at s.directory.entries 0).start_sector) × (f.stream_len ≡ root_len_of s)) back root in
     let entries = c.self.inside.directory.entries in
     fields-holds c.with_dir_entry_mut.result validation _ c.with_dir_entry_mut.new.self n (λ (f : Fields). g.W.FnOnce.post c.args.change (fields_in (entry_at entries n), tt) f) here inside
-    (was.holds told validation here.directory fine) (was.spares told) (was.header told) was.sets.changed
-    (λ zero f post. kept zero f (subst (λ k. g.W.FnOnce.post c.args.change (fields_in (entry_at entries k), tt) f) zero post)) was.kept.0
+    (was.holds told validation here.directory fine) (was.changes.spares told) (was.changes.header told) was.sets.changed
+    (λ zero f post. kept zero f (subst (λ k. g.W.FnOnce.post c.args.change (fields_in (entry_at entries k), tt) f) zero post)) was.changes.kept.0
 
 pub returns-clause-sets : goal.returns-clause-sets
 returns-clause-sets g c = record {
@@ -36,5 +36,14 @@ returns-clause-sets g c = record {
   );
 }
 
-pub returns-clause-others : goal.returns-clause-others
-returns-clause-others g c told = subst (λ (s : MiniState). KeepsOtherSectors s.directory c.with_dir_entry_mut.new.self) c.self.view_is (c.with_dir_entry_mut.ensures.others told)
+pub returns-clause-changes : goal.returns-clause-changes
+returns-clause-changes g c = record {
+  kept = first_of (search rules, grind (arith, common_steps));
+  spares = first_of (search rules, grind (arith, common_steps));
+  header = first_of (search rules, grind (arith, common_steps));
+  others = λ told. subst (λ (s : MiniState). KeepsOtherSectors s.directory c.with_dir_entry_mut.new.self) c.self.view_is (c.with_dir_entry_mut.ensures.changes.others told);
+  mini = first_of (search rules, grind (arith, common_steps));
+  begun = first_of (search rules, grind (arith, common_steps));
+  refused = first_of (search rules, grind (arith, common_steps));
+  counts = first_of (search rules, grind (arith, common_steps));
+}

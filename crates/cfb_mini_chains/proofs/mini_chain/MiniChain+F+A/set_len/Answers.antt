@@ -84,13 +84,13 @@ returns-clause-start g c some most =
     (c.zero_tail.ensures.chain.1 ∙ cut_start c.args.self.now c.cut.new.self c.div_ceil-mini_sectors.result c.args.self.now.chained c.cut.new.self.chained c.in_ok-cut.ensures.cut.listed (omega (arith, wanted, some)))
 
 pub returns-clause-directory : goal.returns-clause-directory
-returns-clause-directory g c = directory_then_file _ _ _ c.in_ok-cut.ensures.directory c.zero_tail.ensures.kept
+returns-clause-directory g c = directory_then_file _ _ _ c.in_ok-cut.ensures.directory c.zero_tail.ensures.writes.kept
 
 pub returns-clause-holds : goal.returns-clause-holds
 returns-clause-holds g c told validation h starts unnamed =
     let wanted = c.div_ceil-mini_sectors.ensures in
-    c.zero_tail.ensures.holds told validation (c.in_ok-cut.ensures.holds told validation h
-    (λ none. starts (ap (λ (s : MiniState). s.minifat) c.zero_tail.ensures.kept ∙ none)) (λ zero. unnamed (omega (arith, wanted, zero))))
+    c.zero_tail.ensures.writes.holds told validation (c.in_ok-cut.ensures.holds told validation h
+    (λ none. starts (ap (λ (s : MiniState). s.minifat) c.zero_tail.ensures.writes.kept ∙ none)) (λ zero. unnamed (omega (arith, wanted, zero))))
 
 pub returns-clause-places : goal.returns-clause-places
 returns-clause-places g c told validation h =
@@ -105,7 +105,7 @@ returns-clause-places g c told validation h =
     on_if _ _ _ c.zero_tail.result
     (λ zeroed. cut_resized validation now cut new c.args.len c.div_ceil-mini_sectors.result now.chained cut.chained h e.directory.limits.version
     e.cut.stays.mini_stream e.cut.listed (omega (arith, wanted)) (omega (arith, few, have)) (e.bytes told validation h)
-    (λ all. ap bytes_of (e.none all).1.0) z.kept z.chain.0
+    (λ all. ap bytes_of (e.none all).1.0) z.writes.kept z.chain.0
     (λ whole. ap bytes_of (z.none whole).1) (λ parted. ap (λ (f : SectorFile). f.bytes) (zeroed parted)))
     (z.ok told)
 
@@ -144,12 +144,12 @@ returns-clause-wiped g c told validation h =
     let wiped = c.in_ok-cut.ensures.wiped told validation h in
     let is : c.div_ceil-mini_sectors.result ≡ rounded_up c.args.len 64 = omega (arith, wanted) in
     let gone : (m : ℕ) → Contains (drop (rounded_up c.args.len 64) (ids_of now)) m → IsInMiniStream (state_of new) m → IsZeroMini (state_of cut) m =
-    λ m member inside. wiped m (subst (λ n. Contains (drop n (ids_of now)) m) (sym is) member) (subst (λ (s : MiniState). IsInMiniStream s m) z.kept inside) in
+    λ m member inside. wiped m (subst (λ n. Contains (drop n (ids_of now)) m) (sym is) member) (subst (λ (s : MiniState). IsInMiniStream s m) z.writes.kept inside) in
     elim (zero_or_more (c.args.len % 64)) [
       | inl whole ↦ all_ok c.zero_tail.result (λ m member inside. subst (λ (s : MiniState). IsZeroMini s m) (sym (z.none whole).1) (gone m member inside))
       | inr parted ↦
           on_ok _ _ c.zero_tail.result
-          (λ put m member inside. zero_mini_stays (state_of cut) (state_of new) _ _ m z.kept (ap (λ (f : SectorFile). f.bytes) put) (gone m member inside)) (z.ok told parted)
+          (λ put m member inside. zero_mini_stays (state_of cut) (state_of new) _ _ m z.writes.kept (ap (λ (f : SectorFile). f.bytes) put) (gone m member inside)) (z.ok told parted)
     ]
 
 pub returns-clause-erased : goal.returns-clause-erased
@@ -172,7 +172,7 @@ returns-clause-erased g c told validation h =
 pub returns-clause-spares : goal.returns-clause-spares
 returns-clause-spares g c told =
     cut_spared (state_of c.args.self.now) (state_of c.cut.new.self) (state_of c.zero_tail.new.self) c.in_ok-cut.ensures.cut.stays (c.in_ok-cut.ensures.spares told)
-    (c.zero_tail.ensures.spares told)
+    (c.zero_tail.ensures.writes.spares told)
 
 pub returns-clause-mini_spares : goal.returns-clause-mini_spares
 returns-clause-mini_spares g c told validation h =
@@ -277,7 +277,7 @@ returns-clause-cut g c fewer =
     all_ok c.zero_tail.result
     (subst (λ n. ShortensMini n (ids_of now) (ids_of new) (state_of now) (state_of new)) is
     (shortened_then_file c.div_ceil-mini_sectors.result (ids_of now) (ids_of cut) (ids_of new) (state_of now) (state_of cut) (state_of new) c.in_ok-cut.ensures.cut
-    c.zero_tail.ensures.chain.0 c.zero_tail.ensures.kept))
+    c.zero_tail.ensures.chain.0 c.zero_tail.ensures.writes.kept))
 
 pub returns-clause-header : goal.returns-clause-header
 returns-clause-header g c told =
@@ -295,7 +295,7 @@ returns-clause-counted g c told fewer validation h =
     let more = (e.spares told).no_shorter in
     all_ok c.zero_tail.result
     (counted_then_write (state_of cut) (state_of c.zero_tail.new.self) _ _ (omega (arith, long, more))
-    (behind_header (version_of (state_of cut)) (mini_stream_of (state_of cut)) (mini_sector_at cut c.args.len) (c.args.len % 64)) c.zero_tail.ensures.kept
+    (behind_header (version_of (state_of cut)) (mini_stream_of (state_of cut)) (mini_sector_at cut c.args.len) (c.args.len % 64)) c.zero_tail.ensures.writes.kept
     (c.zero_tail.ensures.others told) (e.counted told (omega (arith, wanted, fewer)) validation h))
 
 pub returns-clause-begun : goal.returns-clause-begun

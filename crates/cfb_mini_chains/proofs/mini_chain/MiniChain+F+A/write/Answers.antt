@@ -18,7 +18,7 @@ use Rattle.cfb_mini_chains.proofs.mini_chain.MiniChain+F+A.write.Goals as goal
 use Rattle.cfb_format.proofs.Members.{Contains-nil}
 
 pub returns-then-missing-eq0-clause-spares : goal.returns-then-missing-eq0-clause-spares
-returns-then-missing-eq0-clause-spares g c told = stream_spared (state_of c.args.self.now) (state_of c.write_within.new.self) (c.write_within.ensures.spares told)
+returns-then-missing-eq0-clause-spares g c told = stream_spared (state_of c.args.self.now) (state_of c.write_within.new.self) (c.write_within.ensures.writes.spares told)
 
 pub returns-then-missing-eq0-clause-err : goal.returns-then-missing-eq0-clause-err
 returns-then-missing-eq0-clause-err g c =
@@ -46,13 +46,13 @@ returns-clause-grown g c some =
     let w = c.write_within-2.ensures in
     all_ok c.write_within-2.result
     (subst (λ n. LengthensMini n (ids_of now) (ids_of new) (state_of now) (state_of new)) c.missing-missing.ensures
-    (lengthened_then_file c.missing-missing.result (ids_of now) (ids_of grown) (ids_of new) (state_of now) (state_of grown) (state_of new) c.in_ok-grow.ensures.grown w.chain.0 w.kept))
+    (lengthened_then_file c.missing-missing.result (ids_of now) (ids_of grown) (ids_of new) (state_of now) (state_of grown) (state_of new) c.in_ok-grow.ensures.grown w.chain.0 w.writes.kept))
 
 pub returns-clause-directory : goal.returns-clause-directory
-returns-clause-directory g c = directory_then_file _ _ _ c.in_ok-grow.ensures.directory c.write_within-2.ensures.kept
+returns-clause-directory g c = directory_then_file _ _ _ c.in_ok-grow.ensures.directory c.write_within-2.ensures.writes.kept
 
 pub returns-clause-holds : goal.returns-clause-holds
-returns-clause-holds g c told validation h = c.write_within-2.ensures.holds told validation (c.in_ok-grow.ensures.holds told validation h)
+returns-clause-holds g c told validation h = c.write_within-2.ensures.writes.holds told validation (c.in_ok-grow.ensures.holds told validation h)
 
 pub returns-clause-places : goal.returns-clause-places
 returns-clause-places g c told validation h =
@@ -66,7 +66,7 @@ returns-clause-places g c told validation h =
     if_ok _ _ c.write_within-2.result
     (λ n wrote. grown_written validation now grown now.chained h (gained (ids_of now) (ids_of grown)) (gained (mini_stream_of (state_of now)) (mini_stream_of (state_of grown)))
     e.directory.limits.version e.goes_on e.ids (omega (arith, missing, counted)) (e.bytes told validation h) (e.filled told validation h)
-    new n c.args.from.now e.position (e.spares told).no_shorter w.kept w.chain.0 (w.others told) wrote)
+    new n c.args.from.now e.position (e.spares told).no_shorter w.writes.kept w.chain.0 (w.others told) wrote)
     (w.places told validation (e.holds told validation h))
 
 pub returns-clause-others : goal.returns-clause-others
@@ -85,7 +85,7 @@ returns-in_err-grow-clause-others g c told validation h m busy other = c.grow.en
 pub returns-clause-spares : goal.returns-clause-spares
 returns-clause-spares g c told =
     let e = c.in_ok-grow.ensures in
-    grown_spared _ (state_of c.args.self.now) (state_of c.grow.new.self) (state_of c.write_within-2.new.self) e.grown.grown (e.spares told) (c.write_within-2.ensures.spares told)
+    grown_spared _ (state_of c.args.self.now) (state_of c.grow.new.self) (state_of c.write_within-2.new.self) e.grown.grown (e.spares told) (c.write_within-2.ensures.writes.spares told)
 
 pub returns-clause-mini_spares : goal.returns-clause-mini_spares
 returns-clause-mini_spares g c told validation h =

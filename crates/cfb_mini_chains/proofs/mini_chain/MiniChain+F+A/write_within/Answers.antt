@@ -1,4 +1,5 @@
-use Rattle.std.proofs.Common.{◌≤◌, ◌+◌, ℕ, List, refl, ap, length, arith}
+use Rattle.std.proofs.lemmas.Grind.{common_steps}
+use Rattle.std.proofs.Common.{◌≤◌, ◌+◌, ℕ, List, refl, ap, length, arith, rules}
 use Rattle.cfb_mini_sectors.specs.State.{mini_stream_of, table_of}
 use Rattle.cfb_mini_chains.specs.LentMiniChain.{ids_of, position_of, state_of}
 use Rattle.cfb_mini_chains.proofs.cfb_alloc.Spared.{spares_refl}
@@ -10,8 +11,12 @@ use Rattle.cfb_mini_chains.proofs.mini_chain.MiniChain+F+A.write_within.Goals as
 pub returns-then-room-eq0-clause-places : goal.returns-then-room-eq0-clause-places
 returns-then-room-eq0-clause-places g c told validation h = wrote_none c.args.self.now c.args.self.now refl refl 0 c.args.from.now refl refl
 
-pub returns-then-room-eq0-clause-spares : goal.returns-then-room-eq0-clause-spares
-returns-then-room-eq0-clause-spares g c told = spares_refl (mini_stream_of (state_of c.args.self.now)) (table_of (state_of c.args.self.now))
+pub returns-then-room-eq0-clause-writes : goal.returns-then-room-eq0-clause-writes
+returns-then-room-eq0-clause-writes g c = record {
+  kept = first_of (search rules, grind (arith, common_steps));
+  spares = λ told. spares_refl (mini_stream_of (state_of c.args.self.now)) (table_of (state_of c.args.self.now));
+  holds = first_of (search rules, grind (arith, common_steps));
+}
 
 pub returns-then-room-eq0-clause-mini_spares : goal.returns-then-room-eq0-clause-mini_spares
 returns-then-room-eq0-clause-mini_spares g c told validation h = spares-mini-refl (ids_of c.args.self.now) (state_of c.args.self.now)
@@ -33,4 +38,4 @@ pub returns-clause-places : goal.returns-clause-places
 returns-clause-places g c told validation h =
     let now = c.args.self.now in
     let e = c.write_here.ensures in
-    wrote_some now c.write_here.new.self e.kept e.chain.0 validation now.chained h c.write_here.result c.args.from.now (e.ok told) e.some e.count e.together
+    wrote_some now c.write_here.new.self e.writes.kept e.chain.0 validation now.chained h c.write_here.result c.args.from.now (e.ok told) e.some e.count e.together

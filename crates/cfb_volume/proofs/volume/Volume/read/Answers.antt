@@ -18,19 +18,19 @@ read_content-requires g c = record {
 
 pub returns-clause-stays : goal.returns-clause-stays
 returns-clause-stays g c =
-    let still : IsStill c.args.self.now.base c.read_content.new.mini = subst (λ (f : FileState). IsStill f.base c.read_content.new.mini) c.self.view_is c.read_content.ensures.kept in
+    let still : IsStill c.args.self.now.base c.read_content.new.mini = subst (λ (f : FileState). IsStill f.base c.read_content.new.mini) c.self.view_is c.read_content.ensures.reads.still in
     record {
       same = λ told. (
           record {
             base = still;
-            bytes = subst (λ (f : FileState). bytes_of c.read_content.new.mini ≡ bytes_of f.base) c.self.view_is (c.read_content.ensures.bytes told);
+            bytes = subst (λ (f : FileState). bytes_of c.read_content.new.mini ≡ bytes_of f.base) c.self.view_is (c.read_content.ensures.reads.bytes told);
             is_sound = ap (λ (f : FileState). f.is_sound) c.self.view_is;
             buffer_limit = ap (λ (f : FileState). f.buffer_limit) c.self.view_is;
           }
           );
       in_memory = (
           record {
-            base = subst (λ (f : FileState). IsStill f.base c.read_content.new.mini) c.self.view_is c.read_content.ensures.kept;
+            base = subst (λ (f : FileState). IsStill f.base c.read_content.new.mini) c.self.view_is c.read_content.ensures.reads.still;
             is_sound = ap (λ (f : FileState). f.is_sound) c.self.view_is;
             buffer_limit = ap (λ (f : FileState). f.buffer_limit) c.self.view_is;
           }
@@ -77,6 +77,6 @@ returns-clause-error g c = record {
       );
   counts = λ told. (
       subst (λ (f : FileState). CountsFailure g.F.ReadMedium.read_faults c.read_content.result (failures_of f) (table_of c.read_content.new.mini).file.failures) c.self.view_is
-      (c.read_content.ensures.counts told)
+      (c.read_content.ensures.reads.counts told)
       );
 }
