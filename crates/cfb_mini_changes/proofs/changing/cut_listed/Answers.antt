@@ -239,8 +239,17 @@ returns-clause-room g c = record {
       let of = c.settle_freed-freed.ensures in
       let d = mini_of c.settle_freed-freed.new.directory cut c.settle_freed-freed.new.minifat_sectors.items (Some c.settle_freed-freed.new.stream.items) in
       let gives = subst (λ (l : List ℕ). MiniGivesBack (ends_of (take left l)) (drop left l) table.minifat cut.minifat) c.deref-5.ensures.value c.cut_listed.ensures.given_back.freed in
+      let can = held-can validation a h in
+      let room = on_ok _ _ c.settle_freed-freed.result (λ given. gives-from a d cut.minifat (record {
+        directory = given.directory;
+        between = given.between;
+        stream = given.stream;
+        kept = given.kept;
+        mini_stream = given.mini_stream;
+        minifat = given.minifat;
+      })) (of.room.given (record { usable = can.usable; minifat = can.minifat; mini_stream = can.mini_stream; apart = can.apart })) in
       on_both _ _ _ c.settle_freed-freed.result (λ given named. snug-given validation a d h gives.shorter of.gives.kept.limits.version given named.measured named.start)
-      ((returns-clause-room g c).given (held-can validation a h)) of.gives.named
+      room of.gives.named
   );
   counted = λ told validation h. (
       let a = mini_of c.args.directory.now c.args.table.now c.args.minifat_sectors.now.items (Some c.args.stream.now.items) in

@@ -24,6 +24,10 @@ use Rattle.cfb_mini_sectors.proofs.MinifatGrown.{bounds_refl, bounds_taken, fill
 use Rattle.cfb_mini_sectors.proofs.growing.grow_minifat.Goals as goal
 use Rattle.cfb_format.proofs.Members.{Contains-nil}
 
+either : (b : Bool) → (b ≡ true) ⊎ (b ≡ false)
+either true = inl refl
+either false = inr refl
+
 -- ---- refused
 
 pub returns-in_err-extend_listed-clause-longer : goal.returns-in_err-extend_listed-clause-longer
@@ -138,7 +142,21 @@ returns-clause-named g c = record {
       on_ok _ _ c.name_minifat.result (λ is. is ∙ ap first_or_end c.deref.ensures.value)
       (c.name_minifat.ensures.names.first told (is_new (vec_len c.args.sectors.now) xs c.is_empty-is_new.result len c.is_empty-is_new.ensures empty))
   );
-  first_kept = ?;
+  first_kept = λ told long was. elim (either c.is_empty-is_new.result) [
+    | inl e ↦ on_ok _ _ c.name_minifat.result (λ is. is ∙ ap first_or_end c.deref.ensures.value) (c.name_minifat.ensures.names.first told e)
+    | inr e ↦ (
+      let a = c.args.allocator.now in
+      let b = c.extend_listed.new.self in
+      let xs = c.args.sectors.now.items in
+      let ys = c.extend_listed.new.ids.items in
+      let others = c.extend_listed.ensures.takes.others told in
+      let longer = others.no_shorter in
+      let len : vec_len c.args.sectors.now ≡ length xs = omega (arith, c.args.sectors.now.ok.0) in
+      all_ok c.name_minifat.result
+      (c.name_minifat.ensures.names.first_kept told e (omega (arith, long, longer)) ∙ word_kept a b 60 others (omega arith) (omega arith) long ∙ was
+      ∙ sym (first_still xs ys (gained xs ys) c.in_ok-extend_listed.ensures.extends.lengthened.listed
+      (not_new (vec_len c.args.sectors.now) xs c.is_empty-is_new.result len c.is_empty-is_new.ensures e))))
+  ];
   counted = first_of (search rules, grind (arith, common_steps));
   long = λ told some. c.name_minifat.ensures.names.long told;
   header = λ told. (

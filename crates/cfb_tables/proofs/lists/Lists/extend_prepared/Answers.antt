@@ -49,3 +49,13 @@ returns g c = record { extends = record {
   );
   none = first_of (search rules, grind (arith, common_steps));
 } }
+
+pub returns-then-is_empty : goal.returns-then-is_empty
+returns-then-is_empty g c = record { extends = record {
+  listed = first_of (search rules, grind (arith, common_steps));
+  counted = first_of (search rules, grind (arith, common_steps));
+  taken = first_of (search rules, grind (arith, common_steps));
+  behind = first_of (search rules, grind (arith, common_steps));
+  chain = first_of (search rules, grind (arith, common_steps));
+  none = first_of (search rules, grind (arith, common_steps));
+} }
