@@ -1,5 +1,6 @@
 //! Contents that lie in mini sectors (MS-CFB 2.4), by the list of a mini chain's numbers.
 ghost use Rattle.std.specs.Prelude.{◌≡◌, ℕ, ◌+◌, ◌-◌, ◌/◌, ◌^◌, ◌<◌, ◌≤◌, List, length, drop, replicate, true, nat_eq, slice_index, IsTrue, IfOk, IfErr, OnOk, OnErr};
+ghost use Rattle.cfb_content.specs.Filling.{ReadsInMinis, PutsInMinis};
 ghost use Rattle.cfb_mini.specs.Changing.{WritesInMini};
 ghost use Rattle.cfb_mini.specs.Reading.{OnlyReadsMinis};
 ghost use Rattle.std.specs.List.{IsDistinct};
@@ -100,12 +101,7 @@ fn read_in_minis<F: ReadMedium, A: Heap>(
     requires some { 0 < length into.old }
     requires there { IsThereInMinis mini.old ids.now at }
         ensures reads { OnlyReadsMinis F.tells F.read_faults mini.old mini.new result }
-    ensures count { IfOk result (λ n. (0 < n) × (n ≤ length into.old)) }
-    ensures within { IfOk result (λ n. (j : ℕ) → j < n → IsThereInMinis mini.old ids.now (at + j)) }
-    ensures ok { IsTrue F.tells → IfOk result (λ n. (j : ℕ) → j < n → slice_index into.new j
-        ≡ slice_index (bytes_of mini.old) (mini_place_along mini.old ids.now (at + j))) }
-    ensures rest { IfOk result (λ n. drop n into.new ≡ drop n into.old) }
-    ensures len { length into.new ≡ length into.old }
+        ensures part { ReadsInMinis F.tells at mini.old ids.now into.old into.new result }
     ensures err { IfErr result IsMediumError }
 {
     let index = (at / MINI_SECTOR_LEN as u64) as usize;
@@ -168,18 +164,10 @@ pub fn put_in_minis<F: Medium, A: Heap>(
         × HasMiniSector mini.old (slice_index ids.now ((at + k) / mini_sector_len)) }
         ensures writes { WritesInMini F.tells mini.old mini.new result }
     ensures none { length bytes.now ≡ 0 → OnErr result ⊥ × (mini.new ≡ mini.old) }
-    ensures put { IsTrue F.tells → (validation : Validation) → HoldsMini validation mini.old
-        → IsDistinct nat_eq ids.now → OnOk result
-        (StandAlong (mini_place_along mini.old ids.now) at bytes.now (bytes_of mini.new)) }
-    ensures others { IsTrue F.tells
-        → ChangesOnlyPlaces (mini_place_along mini.old ids.now) at (length bytes.now)
-        (bytes_of mini.old) (bytes_of mini.new) }
-    ensures mini_spares { IsTrue F.tells → (validation : Validation) → HoldsMini validation mini.old
-        → SparesMini ids.now mini.old mini.new }
+        ensures along { PutsInMinis F.tells F.write_faults at mini.old mini.new ids.now
+            (length bytes.now) bytes.now result }
     ensures begun { 0 < length bytes.now → (table_of mini.new).file.begun ≡ true }
     ensures err { IfErr result IsMediumError }
-    ensures counts { IsTrue F.tells → CountsFailure F.write_faults result
-        (table_of mini.old).file.failures (table_of mini.new).file.failures }
 {
     let mut index = (at / MINI_SECTOR_LEN as u64) as usize;
     let mut offset = (at % MINI_SECTOR_LEN as u64) as usize;
@@ -205,19 +193,10 @@ pub fn zero_in_minis<F: Medium, A: Heap>(
         × HasMiniSector mini.old (slice_index ids.now (k / mini_sector_len)) }
         ensures writes { WritesInMini F.tells mini.old mini.new result }
     ensures none { to ≤ from → OnErr result ⊥ × (mini.new ≡ mini.old) }
-    ensures put { IsTrue F.tells → (validation : Validation) → HoldsMini validation mini.old
-        → IsDistinct nat_eq ids.now
-        → OnOk result (StandAlong (mini_place_along mini.old ids.now) from
-        (replicate (to - from) 0) (bytes_of mini.new)) }
-    ensures others { IsTrue F.tells
-        → ChangesOnlyPlaces (mini_place_along mini.old ids.now) from (to - from)
-        (bytes_of mini.old) (bytes_of mini.new) }
-    ensures mini_spares { IsTrue F.tells → (validation : Validation) → HoldsMini validation mini.old
-        → SparesMini ids.now mini.old mini.new }
+        ensures along { PutsInMinis F.tells F.write_faults from mini.old mini.new ids.now
+            (to - from) (replicate (to - from) 0) result }
     ensures begun { from < to → (table_of mini.new).file.begun ≡ true }
     ensures err { IfErr result IsMediumError }
-    ensures counts { IsTrue F.tells → CountsFailure F.write_faults result
-        (table_of mini.old).file.failures (table_of mini.new).file.failures }
 {
     let mut at = from;
     while at < to {

@@ -1,5 +1,6 @@
 //! How far a stream can grow with the numbers that are left, and its growth as far as that.
 ghost use Rattle.std.specs.Prelude.{◌≡◌, ◌+◌, ◌-◌, ◌<◌, ◌≤◌, ◌⊎◌, ◌||◌, ℕ, length, true, IsTrue, IfOk, IfErr, OnOk, OnErr};
+ghost use Rattle.cfb_growing.specs.cfb_content.Turning.{ChangesContent, IsStreamWithin};
 ghost use Rattle.cfb_format.specs.declared.validate.Validation.{Validation};
 ghost use Rattle.cfb_format.specs.Bytes.{max_stream_len, sector_len};
 ghost use Rattle.cfb_format.specs.Content.{mini_stream_cutoff};
@@ -248,28 +249,20 @@ pub fn grow_content<F: Medium, A: Heap + Clone>(
     entry: u32,
     wanted: u64,
 ) -> Result<u64, Error>
-    requires stream { IsStreamOf mini.old entry }
+        requires size_fits { IsStreamWithin entry wanted mini.old }
     requires longer { len_of mini.old entry < wanted }
-    requires limit { wanted ≤ max_stream_len (version_of mini.old) }
     ensures len { IfOk result (λ len.
         (len_of mini.new entry ≡ len) × (len_of mini.old entry < len) × (len ≤ wanted)) }
     ensures content { IsTrue F.tells
         → OnOk result (ResizesContent mini.old mini.new entry (len_of mini.new entry)) }
-    ensures moves { MovesAlone mini.old mini.new entry }
-    ensures spares { IsTrue F.tells → SparesOthers mini.old mini.new entry }
-    ensures changed { IsTrue F.tells → OnOk result (WasChanged mini.old mini.new entry) }
-    ensures tight { OnOk result (KeepsTablesTight mini.old mini.new) }
+        ensures changes { ChangesContent F.tells (λ f. F.read_faults f || F.write_faults f) entry
+            mini.old mini.new result }
     ensures begun { OnOk result ((table_of mini.new).file.begun ≡ true) }
     ensures refused { IsTrue F.tells → (validation : Validation) → HoldsMini validation mini.old
         → IfErr result (StopsOrIsFull mini.old mini.new) }
-    ensures still { OnErr result (IsStill mini.old mini.new
-        ⊎ ((table_of mini.new).file.begun ≡ true)) }
     ensures err { IfErr result (ChangeRefused (IsTrue F.tells → IsNotChangeable mini.old) Unit
         ((validation : Validation) → HoldsMini validation mini.old
         → IsTooLongFor mini.old entry (len_of mini.old entry + 1)) Unit) }
-    ensures counts { IsTrue F.tells
-        → CountsFailure (λ f. F.read_faults f || F.write_faults f) result
-        (table_of mini.old).file.failures (table_of mini.new).file.failures }
 {
     let (_, len) = content_in(mini, entry);
     if !mini.directory().is_placed() {
@@ -296,26 +289,18 @@ pub(crate) fn grow_to<F: Medium, A: Heap + Clone>(
     entry: u32,
     wanted: u64,
 ) -> Result<(), Error>
-    requires stream { IsStreamOf mini.old entry }
+        requires size_fits { IsStreamWithin entry wanted mini.old }
     requires longer { len_of mini.old entry < wanted }
-    requires limit { wanted ≤ max_stream_len (version_of mini.old) }
     ensures len { OnOk result (len_of mini.new entry ≡ wanted) }
     ensures content { IsTrue F.tells → OnOk result (ResizesContent mini.old mini.new entry wanted) }
-    ensures moves { MovesAlone mini.old mini.new entry }
-    ensures spares { IsTrue F.tells → SparesOthers mini.old mini.new entry }
-    ensures changed { IsTrue F.tells → OnOk result (WasChanged mini.old mini.new entry) }
-    ensures tight { OnOk result (KeepsTablesTight mini.old mini.new) }
+        ensures changes { ChangesContent F.tells (λ f. F.read_faults f || F.write_faults f) entry
+            mini.old mini.new result }
     ensures begun { OnOk result ((table_of mini.new).file.begun ≡ true) }
     ensures refused { IsTrue F.tells → (validation : Validation) → HoldsMini validation mini.old
         → IfErr result (StopsOrIsFull mini.old mini.new) }
-    ensures still { OnErr result (IsStill mini.old mini.new
-        ⊎ ((table_of mini.new).file.begun ≡ true)) }
     ensures err { IfErr result (ChangeRefused (IsTrue F.tells → IsNotChangeable mini.old) Unit
         ((validation : Validation) → HoldsMini validation mini.old
         → IsTooLongFor mini.old entry wanted) Unit) }
-    ensures counts { IsTrue F.tells
-        → CountsFailure (λ f. F.read_faults f || F.write_faults f) result
-        (table_of mini.old).file.failures (table_of mini.new).file.failures }
 {
     if !mini.directory().is_placed() {
         return Err(unplaced(entry));

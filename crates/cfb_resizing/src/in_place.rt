@@ -1,5 +1,7 @@
 //! Contents that get longer or shorter where they lie (MS-CFB 2.3 and 2.4): the chain, and the zeros behind its old end.
 ghost use Rattle.std.specs.Prelude.{◌≡◌, ◌<◌, ◌≤◌, ◌-◌, ◌++◌, ◌||◌, ◌↔◌, ℕ, List, length, slice_index, false, true, Contains, IsTrue, IfOk, IfErr, OnOk};
+ghost use Rattle.cfb_content.specs.Turning.{IsStreamWithin};
+ghost use Rattle.cfb_content.specs.Growing.{ListGrows, HoldsWhole, SparesAlong, GrowingRefused};
 ghost use Rattle.cfb_format.specs.declared.validate.Validation.{Validation};
 ghost use Rattle.cfb_format.specs.Bytes.{end_of_chain, max_stream_len, sector_len};
 ghost use Rattle.cfb_format.specs.Chain.{IsChain};
@@ -47,10 +49,9 @@ fn lengthen_in_sectors<F: Medium, A: Heap + Clone>(
     size: u64,
 ) -> Result<(), Error>
     requires chain { IsChain allocator.old.tables.fat (first_or_end ids.old.items) ids.old.items }
-    ensures chain { IsChain allocator.new.tables.fat (first_or_end ids.new.items) ids.new.items }
-    ensures lengthened { OnOk result (Lengthens
-        (rounded_up size (sector_len allocator.old.tables.version) - length ids.old.items)
-        ids.old.items ids.new.items allocator.old.tables allocator.new.tables) }
+        ensures longer { ListGrows
+            (rounded_up size (sector_len allocator.old.tables.version) - length ids.old.items)
+            allocator.old allocator.new ids.old.items ids.new.items result }
     ensures padded { IsTrue F.tells
         → (validation : Validation) → HoldsTables validation allocator.old → ((k : ℕ) → k < len
         → IsThereInSectors allocator.old.tables.version ids.old.items allocator.old.file.len k)
@@ -58,31 +59,12 @@ fn lengthen_in_sectors<F: Medium, A: Heap + Clone>(
         (place_along allocator.old.tables.version ids.old.items)
         (place_along allocator.old.tables.version ids.new.items)
         allocator.old.file.bytes allocator.new.file.bytes) }
-    ensures holds { IsTrue F.tells
-        → (validation : Validation) → HoldsTables validation allocator.old
-        → OnOk result (HoldsTables validation allocator.new) }
-    ensures whole { IsTrue F.tells
-        → (validation : Validation) → HoldsTables validation allocator.old
-        → IsOfWholeSectors allocator.old → OnOk result (IsOfWholeSectors allocator.new) }
-    ensures sizes { OnOk result
-        (AreSizes allocator.new.tables.version (sizes_of allocator.new.tables)) }
-    ensures spares { IsTrue F.tells → Spares ids.old.items allocator.old allocator.new }
-    ensures header { IsTrue F.tells → (i : ℕ) → i < length allocator.old.file.bytes
-        → IsOtherHeaderByte allocator.old.tables.version i
-        → slice_index allocator.new.file.bytes i ≡ slice_index allocator.old.file.bytes i }
-    ensures version { allocator.new.tables.version ≡ allocator.old.tables.version }
-    ensures limit { allocator.new.tables.max_sectors ≡ allocator.old.tables.max_sectors }
-    ensures enough { OnOk result (IsTooFew allocator.old.tables
-        (rounded_up size (sector_len allocator.old.tables.version) - length ids.old.items) → ⊥) }
-    ensures refused { IfErr result
-        (AfterMedium (allocator.new.file.begun ≡ true) (allocator.new ≡ allocator.old)) }
-    ensures unwritten { IsTrue F.tells → allocator.new.file.begun ≡ false
-        → allocator.new.file.bytes ≡ allocator.old.file.bytes }
-    ensures err { IfErr result (ChangeRefused (IsUsable allocator.old.tables → ⊥) Unit
-        (IsTooFew allocator.old.tables
-        (rounded_up size (sector_len allocator.old.tables.version) - length ids.old.items)) Unit) }
-    ensures counts { IsTrue F.tells → CountsFailure F.write_faults result
-        allocator.old.file.failures allocator.new.file.failures }
+        ensures holds { HoldsWhole F.tells allocator.old allocator.new result }
+        ensures spares { SparesAlong F.tells F.write_faults allocator.old allocator.new
+            ids.old.items result }
+        ensures refused { GrowingRefused
+            (rounded_up size (sector_len allocator.old.tables.version) - length ids.old.items)
+            allocator.old allocator.new result }
 {
     let sector_len = allocator.sector_len() as u64;
     let have = ids.len();
@@ -101,8 +83,7 @@ pub(crate) fn grow_in_sectors<F: Medium, A: Heap + Clone>(
     entry: u32,
     size: u64,
 ) -> Result<u32, Error>
-    requires stream { IsStreamOf mini.old entry }
-    requires limit { size ≤ max_stream_len (version_of mini.old) }
+        requires size_fits { IsStreamWithin entry size mini.old }
     requires large { mini_stream_cutoff ≤ len_of mini.old entry }
     requires longer { len_of mini.old entry < size }
     ensures turned { IsTrue F.tells
@@ -133,8 +114,7 @@ pub(crate) fn cut_in_sectors<F: Medium, A: Heap + Clone>(
     entry: u32,
     size: u64,
 ) -> Result<u32, Error>
-    requires stream { IsStreamOf mini.old entry }
-    requires limit { size ≤ max_stream_len (version_of mini.old) }
+        requires size_fits { IsStreamWithin entry size mini.old }
     requires large { mini_stream_cutoff ≤ size }
     requires shorter { size < len_of mini.old entry }
     ensures turned { IsTrue F.tells
@@ -239,8 +219,7 @@ pub(crate) fn grow_in_minis<F: Medium, A: Heap + Clone>(
     entry: u32,
     size: u64,
 ) -> Result<u32, Error>
-    requires stream { IsStreamOf mini.old entry }
-    requires limit { size ≤ max_stream_len (version_of mini.old) }
+        requires size_fits { IsStreamWithin entry size mini.old }
     requires small { size < mini_stream_cutoff }
     requires longer { len_of mini.old entry < size }
     ensures turned { IsTrue F.tells
@@ -274,8 +253,7 @@ pub(crate) fn cut_in_minis<F: Medium, A: Heap + Clone>(
     entry: u32,
     size: u64,
 ) -> Result<u32, Error>
-    requires stream { IsStreamOf mini.old entry }
-    requires limit { size ≤ max_stream_len (version_of mini.old) }
+        requires size_fits { IsStreamWithin entry size mini.old }
     requires small { len_of mini.old entry < mini_stream_cutoff }
     requires shorter { size < len_of mini.old entry }
     ensures turned { IsTrue F.tells

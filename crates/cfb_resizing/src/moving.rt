@@ -1,6 +1,8 @@
 //! Contents that move between sectors and mini sectors (MS-CFB 2.6.3): the old chain is free before the new one is taken, and all memory
 //! is had before the first write.
 ghost use Rattle.std.specs.Prelude.{◌⊎◌, length, slice_index, Contains, ◌≡◌, ◌<◌, ◌≤◌, ◌/◌, ◌*◌, ◌++◌, ◌+◌, ◌||◌, [], ℕ, None, false, true, IsTrue, IfOk, IfErr, OnOk, OnErr};
+ghost use Rattle.cfb_content.specs.Turning.{ExtendsContent, IsStreamWithin};
+ghost use Rattle.cfb_content.specs.Growing.{HoldsWhole};
 ghost use Rattle.cfb_resizing.specs.cfb_mini.Reading.{OnlyReadsMinis};
 ghost use Rattle.cfb_format.specs.declared.validate.Validation.{Validation};
 ghost use Rattle.cfb_format.specs.Bytes.{end_of_chain, max_stream_len, sector_len};
@@ -195,8 +197,7 @@ pub(crate) fn move_to_minis<F: Medium, A: Heap + Clone>(
     entry: u32,
     size: u64,
 ) -> Result<u32, Error>
-    requires stream { IsStreamOf mini.old entry }
-    requires limit { size ≤ max_stream_len (version_of mini.old) }
+        requires size_fits { IsStreamWithin entry size mini.old }
     requires large { mini_stream_cutoff ≤ len_of mini.old entry }
     requires small { size < mini_stream_cutoff }
     ensures turned { IsTrue F.tells
@@ -256,12 +257,7 @@ fn begin_in_sectors<F: Medium, A: Heap>(
         (count * sector_len allocator.old.tables.version)
         (λ k. k) (place_along allocator.old.tables.version ids.new.items)
         bytes.now allocator.new.file.bytes) }
-    ensures holds { IsTrue F.tells
-        → (validation : Validation) → HoldsTables validation allocator.old
-        → OnOk result (HoldsTables validation allocator.new) }
-    ensures whole { IsTrue F.tells
-        → (validation : Validation) → HoldsTables validation allocator.old
-        → IsOfWholeSectors allocator.old → OnOk result (IsOfWholeSectors allocator.new) }
+        ensures holds { HoldsWhole F.tells allocator.old allocator.new result }
     ensures sizes { OnOk result
         (AreSizes allocator.new.tables.version (sizes_of allocator.new.tables)) }
     ensures spares { IsTrue F.tells → Spares [] allocator.old allocator.new }
@@ -410,25 +406,20 @@ pub fn move_with<F: Medium, A: Heap + Clone>(
     size: u64,
     bytes: &[u8],
 ) -> Result<u32, Error>
-    requires stream { IsStreamOf mini.old entry }
-    requires limit { size ≤ max_stream_len (version_of mini.old) }
+        requires size_fits { IsStreamWithin entry size mini.old }
     requires small { len_of mini.old entry < mini_stream_cutoff }
     requires large { mini_stream_cutoff ≤ size }
     requires fits { len_of mini.old entry + length bytes.now ≤ size }
     ensures moved { IsTrue F.tells
         → IfOk result (λ start. MovesSoundly mini.old mini.new entry size bytes.now start) }
-    ensures spares { IsTrue F.tells → SparesOthers mini.old mini.new entry }
-    ensures around { KeepsAround mini.old mini.new }
-    ensures tight { OnOk result (KeepsTablesTight mini.old mini.new) }
+        ensures extends { ExtendsContent F.tells (λ f. F.read_faults f || F.write_faults f) entry
+            mini.old mini.new result }
     ensures enough { OnOk result (LacksNumbersFor mini.old entry size → ⊥) }
     ensures refused { IsTrue F.tells → IfErr result (StopsOrBegun mini.old mini.new) }
     ensures still { OnErr result (IsStill mini.old mini.new
         ⊎ ((table_of mini.new).file.begun ≡ true)) }
     ensures err { IfErr result (ChangeRefused (IsTrue F.tells → IsNotChangeable mini.old) Unit
         (LacksNumbersFor mini.old entry size) Unit) }
-    ensures counts { IsTrue F.tells
-        → CountsFailure (λ f. F.read_faults f || F.write_faults f) result
-        (table_of mini.old).file.failures (table_of mini.new).file.failures }
 {
     let (start, len) = content_in(mini, entry);
     let mut old = whole_mini_chain(mini, start, len)?;
@@ -450,8 +441,7 @@ pub(crate) fn move_to_sectors<F: Medium, A: Heap + Clone>(
     entry: u32,
     size: u64,
 ) -> Result<u32, Error>
-    requires stream { IsStreamOf mini.old entry }
-    requires limit { size ≤ max_stream_len (version_of mini.old) }
+        requires size_fits { IsStreamWithin entry size mini.old }
     requires small { len_of mini.old entry < mini_stream_cutoff }
     requires large { mini_stream_cutoff ≤ size }
     ensures turned { IsTrue F.tells

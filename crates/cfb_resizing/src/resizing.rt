@@ -1,5 +1,6 @@
 //! How the content of a stream gets another length: cut, padded, and moved between sectors and mini sectors at 4096 bytes.
 ghost use Rattle.std.specs.Prelude.{◌≡◌, ◌≢◌, ◌<◌, ◌≤◌, ◌+◌, ◌||◌, ◌⊎◌, ◌↔◌, length, true, IsTrue, IfOk, IfErr, OnOk, OnErr};
+ghost use Rattle.cfb_content.specs.Turning.{ChangesContent, IsStreamWithin};
 ghost use Rattle.cfb_format.specs.declared.validate.Validation.{Validation};
 ghost use Rattle.cfb_format.specs.Bytes.{max_stream_len, sector_len};
 ghost use Rattle.cfb_format.specs.Content.{mini_stream_cutoff};
@@ -52,8 +53,7 @@ pub fn resize_content<F: Medium, A: Heap + Clone>(
     entry: u32,
     size: u64,
 ) -> Result<(), Error>
-    requires stream { IsStreamOf mini.old entry }
-    requires limit { size ≤ max_stream_len (version_of mini.old) }
+        requires size_fits { IsStreamWithin entry size mini.old }
     ensures len { OnOk result (len_of mini.new entry ≡ size) }
     ensures none { size ≡ len_of mini.old entry → OnErr result ⊥ × (mini.new ≡ mini.old) }
     ensures first { IsTrue F.tells → size ≡ 0
@@ -63,23 +63,16 @@ pub fn resize_content<F: Medium, A: Heap + Clone>(
     ensures content { IsTrue F.tells → OnOk result (ResizesContent mini.old mini.new entry size) }
     ensures trimmed { OnOk result (TrimsChain mini.old mini.new entry size
         (entry_at (entries_of mini.new) entry).start_sector) }
-    ensures moves { MovesAlone mini.old mini.new entry }
-    ensures spares { IsTrue F.tells → SparesOthers mini.old mini.new entry }
-    ensures changed { IsTrue F.tells → OnOk result (WasChanged mini.old mini.new entry) }
-    ensures tight { OnOk result (KeepsTablesTight mini.old mini.new) }
+        ensures changes { ChangesContent F.tells (λ f. F.read_faults f || F.write_faults f) entry
+            mini.old mini.new result }
     ensures enough { size ≢ len_of mini.old entry → (validation : Validation)
         → HoldsMini validation mini.old → OnOk result (IsTooLongFor mini.old entry size → ⊥) }
     ensures begun { OnOk result (IsRaised (size ≢ len_of mini.old entry)
         (table_of mini.old).file (table_of mini.new).file) }
     ensures refused { IsTrue F.tells → IfErr result (StopsOrBegun mini.old mini.new) }
-    ensures still { OnErr result (IsStill mini.old mini.new
-        ⊎ ((table_of mini.new).file.begun ≡ true)) }
     ensures err { IfErr result (ChangeRefused (IsTrue F.tells → IsNotChangeable mini.old) Unit
         ((validation : Validation) → HoldsMini validation mini.old
         → IsTooLongFor mini.old entry size) Unit) }
-    ensures counts { IsTrue F.tells
-        → CountsFailure (λ f. F.read_faults f || F.write_faults f) result
-        (table_of mini.old).file.failures (table_of mini.new).file.failures }
 {
     let (_, len) = content_in(mini, entry);
     if size == len {
@@ -149,8 +142,7 @@ pub fn can_resize<F: ReadMedium, A: Heap + Clone>(
     entry: u32,
     size: u64,
 ) -> Result<bool, Error>
-    requires stream { IsStreamOf mini.now entry }
-    requires limit { size ≤ max_stream_len (version_of mini.now) }
+        requires size_fits { IsStreamWithin entry size mini.now }
     ensures same { size ≡ len_of mini.now entry → OnErr result ⊥ × IfOk result (λ can. can ≡ true) }
     ensures lacks { size ≢ len_of mini.now entry
         → IfOk result (λ can. IsTrue can ↔ (LacksNumbersFor mini.now entry size → ⊥)) }
@@ -177,8 +169,7 @@ fn turn<F: Medium, A: Heap + Clone>(
     entry: u32,
     size: u64,
 ) -> Result<u32, Error>
-    requires stream { IsStreamOf mini.old entry }
-    requires limit { size ≤ max_stream_len (version_of mini.old) }
+        requires size_fits { IsStreamWithin entry size mini.old }
     requires differs { size ≢ len_of mini.old entry }
     ensures turned { IsTrue F.tells
         → IfOk result (λ start. TurnsSoundly mini.old mini.new entry size start) }

@@ -89,7 +89,7 @@ end_chain-requires g c =
     let lent = c.allocator_mut-allocator.result.now in
     let ids = c.in_ok-ids.ids.items in
     let chain = c.in_ok-ids.ensures.whole.chain in
-    rw (c.put_in_sectors-put.ensures.tables, c.open_whole_chain_in.ensures.unchanged)
+    rw (c.put_in_sectors-put.ensures.writes.tables, c.open_whole_chain_in.ensures.unchanged)
     (subst (λ n. IsChain lent.tables.fat n ids) (begins lent.tables.fat c.content_in-start.result.0 ids chain.follows) chain)
 
 sector-write : (g : _) (c : goal.After-mini-then-len-1 g)
@@ -106,7 +106,7 @@ sector-write g c =
       whole = whole-as s i c.allocator_mut-allocator.result.now c.content_in-start.result.0 c.content_in-start.result.1 c.in_ok-ids.ids.items c.allocator_mut-allocator.ensures.value c.content_in-start.ensures.start
           c.content_in-start.ensures.len c.in_ok-ids.ensures.whole;
       value = (c.open_whole_chain_in.ensures.unchanged ∙ c.allocator_mut-allocator.ensures.value);
-      tables = c.put_in_sectors-put.ensures.tables;
+      tables = c.put_in_sectors-put.ensures.writes.tables;
       listed = c.deref.ensures.value;
     }
 
@@ -115,7 +115,7 @@ sector-held : (g : _) (c : goal.After-mini-then-len-1 g) → IsTrue g.F.ReadMedi
 sector-held g c told validation change =
     let w = sector-write g c in
     let held = change.held.directory.tables in
-    c.put_in_sectors-put.ensures.holds told validation (subst (λ (a : AllocatorState). HoldsTables validation a) (sym w.value) held)
+    c.put_in_sectors-put.ensures.writes.holds told validation (subst (λ (a : AllocatorState). HoldsTables validation a) (sym w.value) held)
     (subst (λ (a : AllocatorState). AreDisjoint c.deref.result.now (table_sectors a.tables)) (sym w.value)
     (subst (λ (l : List ℕ). AreDisjoint l (table_sectors (tables_in c.args.mini.now))) (sym w.listed)
     (no-tables validation (table_of c.args.mini.now) (entry_at (entries_of c.args.mini.now) c.args.entry).start_sector c.in_ok-ids.ids.items held w.whole.chain)))
@@ -124,30 +124,30 @@ sector-put : (g : _) (c : goal.After-mini-then-len-1 g) → IsTrue g.F.ReadMediu
     → OnOk c.put_in_sectors-put.result (StandAlong (place_along c.open_whole_chain_in.new.allocator.tables.version c.deref.result.now) c.args.at c.args.bytes.now c.put_in_sectors-put.new.allocator.file.bytes)
 sector-put g c told =
     let w = sector-write g c in
-    c.put_in_sectors-put.ensures.put told (subst (λ (l : List ℕ). IsDistinct nat_eq l) (sym w.listed) w.whole.chain.distinct)
+    c.put_in_sectors-put.ensures.along.put told (subst (λ (l : List ℕ). IsDistinct nat_eq l) (sym w.listed) w.whole.chain.distinct)
 
 pub returns-then-len-clause-content : goal.returns-then-len-clause-content
 returns-then-len-clause-content g c told validation change =
-    rw c.end_chain.ensures (on_ok_weaker c.put_in_sectors-put.result (λ put. large-write-content _ _ _ _ _ _ _ _ (sector-write g c) validation change (c.put_in_sectors-put.ensures.others told) put) (sector-put g c told))
+    rw c.end_chain.ensures (on_ok_weaker c.put_in_sectors-put.result (λ put. large-write-content _ _ _ _ _ _ _ _ (sector-write g c) validation change (c.put_in_sectors-put.ensures.along.others told) put) (sector-put g c told))
 
 pub returns-then-len-clause-others : goal.returns-then-len-clause-others
 returns-then-len-clause-others g c told validation change =
-    rw c.end_chain.ensures (large-write-others _ _ _ _ _ _ _ _ (sector-write g c) validation change (c.put_in_sectors-put.ensures.spares told))
+    rw c.end_chain.ensures (large-write-others _ _ _ _ _ _ _ _ (sector-write g c) validation change (c.put_in_sectors-put.ensures.writes.spares told))
 
 pub returns-then-len-clause-header : goal.returns-then-len-clause-header
 returns-then-len-clause-header g c told =
     rw c.end_chain.ensures (table-keeps-header c.deref.result.now c.args.mini.now c.open_whole_chain_in.new.allocator c.put_in_sectors-put.new.allocator (c.open_whole_chain_in.ensures.unchanged ∙ c.allocator_mut-allocator.ensures.value)
-    (c.put_in_sectors-put.ensures.spares told))
+    (c.put_in_sectors-put.ensures.writes.spares told))
 
 pub returns-then-len-clause-counted : goal.returns-then-len-clause-counted
 returns-then-len-clause-counted g c told validation change =
     rw c.end_chain.ensures (all_ok c.put_in_sectors-put.result (placed-count validation c.args.mini.now c.open_whole_chain_in.new.allocator c.put_in_sectors-put.new.allocator c.deref.result.now c.args.at
-    (length c.args.bytes.now) (c.open_whole_chain_in.ensures.unchanged ∙ c.allocator_mut-allocator.ensures.value) change.held (c.put_in_sectors-put.ensures.others told)))
+    (length c.args.bytes.now) (c.open_whole_chain_in.ensures.unchanged ∙ c.allocator_mut-allocator.ensures.value) change.held (c.put_in_sectors-put.ensures.along.others told)))
 
 pub returns-then-len-clause-holds : goal.returns-then-len-clause-holds
 returns-then-len-clause-holds g c told validation change =
     rw c.end_chain.ensures (on_both _ _ _ c.put_in_sectors-put.result
-    (λ held put. large-write-changeable _ _ _ _ _ _ _ _ (sector-write g c) validation change (c.put_in_sectors-put.ensures.others told) put (c.put_in_sectors-put.ensures.spares told) held)
+    (λ held put. large-write-changeable _ _ _ _ _ _ _ _ (sector-write g c) validation change (c.put_in_sectors-put.ensures.along.others told) put (c.put_in_sectors-put.ensures.writes.spares told) held)
     (sector-held g c told validation change) (sector-put g c told))
 
 -- ---- in mini sectors
@@ -176,17 +176,17 @@ mini-put g c told validation change =
     let w = mini-write g c in
     let inside = w.inside in
     let some = w.some in
-    c.put_in_minis.ensures.put told validation change.held (subst (λ (l : List ℕ). IsDistinct nat_eq l) (sym w.listed) (w.whole.chain (omega (arith, inside, some))).distinct)
+    c.put_in_minis.ensures.along.put told validation change.held (subst (λ (l : List ℕ). IsDistinct nat_eq l) (sym w.listed) (w.whole.chain (omega (arith, inside, some))).distinct)
 
 pub returns-clause-content : goal.returns-clause-content
 returns-clause-content g c told validation change =
     on_both _ _ _ c.put_in_minis.result
-    (λ held put. mini-write-content _ _ _ _ _ _ _ (mini-write g c) validation change (c.put_in_minis.ensures.others told) put held)
+    (λ held put. mini-write-content _ _ _ _ _ _ _ (mini-write g c) validation change (c.put_in_minis.ensures.along.others told) put held)
     (c.put_in_minis.ensures.writes.holds told validation change.held) (mini-put g c told validation change)
 
 pub returns-clause-others : goal.returns-clause-others
 returns-clause-others g c told validation change =
-    mini-write-others _ _ _ _ _ _ _ (mini-write g c) validation change (c.put_in_minis.ensures.writes.spares told) (c.put_in_minis.ensures.mini_spares told validation change.held)
+    mini-write-others _ _ _ _ _ _ _ (mini-write g c) validation change (c.put_in_minis.ensures.writes.spares told) (c.put_in_minis.ensures.along.mini_spares told validation change.held)
 
 pub returns-clause-header : goal.returns-clause-header
 returns-clause-header g c told = spared-keeps-header _ c.args.mini.now c.put_in_minis.new.mini (c.put_in_minis.ensures.writes.spares told)
@@ -196,11 +196,11 @@ returns-clause-counted g c told validation change =
     let s = c.args.mini.now in
     let new = c.put_in_minis.new.mini in
     all_ok c.put_in_minis.result (count-stays validation s new change.held
-    (minis-outside s c.deref-2.result.now c.args.at (length c.args.bytes.now) (bytes_of s) (bytes_of new) (c.put_in_minis.ensures.others told)))
+    (minis-outside s c.deref-2.result.now c.args.at (length c.args.bytes.now) (bytes_of s) (bytes_of new) (c.put_in_minis.ensures.along.others told)))
 
 pub returns-clause-holds : goal.returns-clause-holds
 returns-clause-holds g c told validation change =
     on_both _ _ _ c.put_in_minis.result
-    (λ held put. mini-write-changeable _ _ _ _ _ _ _ (mini-write g c) validation change (c.put_in_minis.ensures.others told) put (c.put_in_minis.ensures.writes.spares told)
-    (c.put_in_minis.ensures.mini_spares told validation change.held) held)
+    (λ held put. mini-write-changeable _ _ _ _ _ _ _ (mini-write g c) validation change (c.put_in_minis.ensures.along.others told) put (c.put_in_minis.ensures.writes.spares told)
+    (c.put_in_minis.ensures.along.mini_spares told validation change.held) held)
     (c.put_in_minis.ensures.writes.holds told validation change.held) (mini-put g c told validation change)

@@ -45,23 +45,37 @@ bounds-ids-index g c =
     (placed-there c.args.mini.now c.args.ids.now (c.args.at + c.loop-done.done) c.loop-done.index c.loop-done.offset inv.place inv.short
     (c.requires.placed c.loop-done.done c.loop-done-test.true)).0
 
-pub returns-in_err-count-clause-others : goal.returns-in_err-count-clause-others
-returns-in_err-count-clause-others g c told =
-    let s = c.args.mini.now in
-    let b = c.loop-done.mini in
-    let new = c.write_mini_run.new.self in
-    let ids = c.args.ids.now in
-    let bytes = c.args.bytes.now in
-    let done = c.loop-done.done in
-    let inv = c.loop-done.invariant in
-    let more = c.loop-done-test.true in
-    let run = c.mini_run-run.result in
-    let was = c.mini_run-run.ensures in
-    let size = piece_long bytes done run (omega (arith, was.some, more)) in
-    let change = subst (λ n. ChangesMiniStretch (slice_index ids c.loop-done.index) c.loop-done.offset n b new) size (c.write_mini_run.ensures.run.others told) in
-    only_then (mini_place_along s ids) c.args.at (length bytes) (c.args.at + done) change.n (bytes_of s) (bytes_of b) (bytes_of new)
-    (omega arith) (omega (arith, change.few, was.some, more)) (inv.others told)
-    (step-places s b new inv.kept ids (c.args.at + done) c.loop-done.index c.loop-done.offset run inv.place was.run change)
+pub returns-in_err-count-clause-along : goal.returns-in_err-count-clause-along
+returns-in_err-count-clause-along g c = record {
+  put = first_of (search rules, grind (arith, common_steps));
+  others = λ told. (
+      let s = c.args.mini.now in
+      let b = c.loop-done.mini in
+      let new = c.write_mini_run.new.self in
+      let ids = c.args.ids.now in
+      let bytes = c.args.bytes.now in
+      let done = c.loop-done.done in
+      let inv = c.loop-done.invariant in
+      let more = c.loop-done-test.true in
+      let run = c.mini_run-run.result in
+      let was = c.mini_run-run.ensures in
+      let size = piece_long bytes done run (omega (arith, was.some, more)) in
+      let change = subst (λ n. ChangesMiniStretch (slice_index ids c.loop-done.index) c.loop-done.offset n b new) size (c.write_mini_run.ensures.run.others told) in
+      only_then (mini_place_along s ids) c.args.at (length bytes) (c.args.at + done) change.n (bytes_of s) (bytes_of b) (bytes_of new)
+      (omega arith) (omega (arith, change.few, was.some, more)) (inv.others told)
+      (step-places s b new inv.kept ids (c.args.at + done) c.loop-done.index c.loop-done.offset run inv.place was.run change)
+  );
+  mini_spares = λ told validation h. (
+      let inv = c.loop-done.invariant in
+      let ids = c.args.ids.now in
+      let was = c.mini_run-run.ensures in
+      let size = piece_long c.args.bytes.now c.loop-done.done c.mini_run-run.result (omega (arith, was.some, c.loop-done-test.true)) in
+      let all = listed-run ids c.loop-done.index c.loop-done.offset c.mini_run-run.result was.run in
+      minis-spared validation ids ids c.args.mini.now c.loop-done.mini c.write_mini_run.new.self h inv.kept (λ m x. x) (inv.mini_spares told validation h)
+      (c.write_mini_run.ensures.mini_spares told validation (inv.holds told validation h) ids (λ j low. all j (omega (arith, low, size))))
+  );
+  counts = first_of (search rules, grind (arith, common_steps));
+}
 
 pub returns-in_err-count-clause-writes : goal.returns-in_err-count-clause-writes
 returns-in_err-count-clause-writes g c = record {
@@ -72,16 +86,6 @@ returns-in_err-count-clause-writes g c = record {
   );
   holds = first_of (search rules, grind (arith, common_steps));
 }
-
-pub returns-in_err-count-clause-mini_spares : goal.returns-in_err-count-clause-mini_spares
-returns-in_err-count-clause-mini_spares g c told validation h =
-    let inv = c.loop-done.invariant in
-    let ids = c.args.ids.now in
-    let was = c.mini_run-run.ensures in
-    let size = piece_long c.args.bytes.now c.loop-done.done c.mini_run-run.result (omega (arith, was.some, c.loop-done-test.true)) in
-    let all = listed-run ids c.loop-done.index c.loop-done.offset c.mini_run-run.result was.run in
-    minis-spared validation ids ids c.args.mini.now c.loop-done.mini c.write_mini_run.new.self h inv.kept (λ m x. x) (inv.mini_spares told validation h)
-    (c.write_mini_run.ensures.mini_spares told validation (inv.holds told validation h) ids (λ j low. all j (omega (arith, low, size))))
 
 pub returns-in_err-count-clause-begun : goal.returns-in_err-count-clause-begun
 returns-in_err-count-clause-begun g c some =
@@ -147,7 +151,13 @@ loop-done-preserved g c =
       counts = λ told. e.run.counts told ∙ inv.counts told;
     }
 
-pub returns-clause-put : goal.returns-clause-put
-returns-clause-put g c told validation h once k low =
-    let past = c.loop-done-test.false in
-    c.loop-done.invariant.put told validation h once k (omega (arith, low, past))
+pub returns-clause-along : goal.returns-clause-along
+returns-clause-along g c = record {
+  put = λ told validation h once k low. (
+      let past = c.loop-done-test.false in
+      c.loop-done.invariant.put told validation h once k (omega (arith, low, past))
+  );
+  others = first_of (search rules, grind (arith, common_steps));
+  mini_spares = first_of (search rules, grind (arith, common_steps));
+  counts = first_of (search rules, grind (arith, common_steps));
+}

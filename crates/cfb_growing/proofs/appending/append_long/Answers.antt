@@ -1,4 +1,5 @@
-use Rattle.std.proofs.Common.{◌≡◌, ◌+◌, inl, inr, sym, ◌∙◌, length, arith}
+use Rattle.std.proofs.lemmas.Grind.{common_steps}
+use Rattle.std.proofs.Common.{◌≡◌, ◌+◌, inl, inr, sym, ◌∙◌, length, arith, rules}
 use Rattle.std.proofs.lemmas.Result.{err_from_is_err_and}
 use Rattle.cfb_growing.proofs.cfb_chains.ChainLists.{on_err}
 use Rattle.cfb_growing.specs.cfb_content.Contents.{len_of}
@@ -10,18 +11,22 @@ use Rattle.cfb_growing.proofs.appending.append_long.Goals as goal
 use Rattle.cfb_growing.proofs.cfb_tables.Refusals.{refused-as}
 
 pub content_in-len-requires : goal.content_in-len-requires
-content_in-len-requires g c = record { inside = stream-inside c.args.mini.now c.args.entry c.requires.stream }
+content_in-len-requires g c = record { inside = stream-inside c.args.mini.now c.args.entry c.requires.size_fits.stream }
 
 -- ---- a stream that can grow
 
 pub len_in_sectors-requires-clause-longer : goal.len_in_sectors-requires-clause-longer
 len_in_sectors-requires-clause-longer g c = omega (arith, c.content_in-len.ensures.len, c.requires.some)
 
-pub returns-in_err-size-clause-moves : goal.returns-in_err-size-clause-moves
-returns-in_err-size-clause-moves g c = moves-same c.args.mini.now c.args.entry
-
-pub returns-in_err-size-clause-spares : goal.returns-in_err-size-clause-spares
-returns-in_err-size-clause-spares g c told = spares-same c.args.mini.now c.args.entry
+pub returns-in_err-size-clause-changes : goal.returns-in_err-size-clause-changes
+returns-in_err-size-clause-changes g c = record {
+  moves = moves-same c.args.mini.now c.args.entry;
+  spares = λ told. spares-same c.args.mini.now c.args.entry;
+  changed = first_of (search rules, grind (arith, common_steps));
+  tight = first_of (search rules, grind (arith, common_steps));
+  still = first_of (search rules, grind (arith, common_steps));
+  counts = first_of (search rules, grind (arith, common_steps));
+}
 
 pub returns-in_err-size-clause-err : goal.returns-in_err-size-clause-err
 returns-in_err-size-clause-err g c =
@@ -75,11 +80,25 @@ returns-clause-err g c v held =
     lack-is-too-long s i (len_of s i + 1) (λ small. held.mini_stream.kept ∙ sym held.mini_stream.chain)
     (c.in_ok-size.ensures.none same (len_of s i + 1) (omega arith) (omega (arith, c.content_in-len.ensures.len, c.requires.some)))
 
-pub returns-in_err-take_the_rest-clause-moves : goal.returns-in_err-take_the_rest-clause-moves
-returns-in_err-take_the_rest-clause-moves g c = around-moves c.args.mini.now c.take_the_rest.new.mini c.args.entry c.requires.stream c.take_the_rest.ensures.around
+pub returns-in_err-take_the_rest-clause-changes : goal.returns-in_err-take_the_rest-clause-changes
+returns-in_err-take_the_rest-clause-changes g c = record {
+  moves = around-moves c.args.mini.now c.take_the_rest.new.mini c.args.entry c.requires.size_fits.stream c.take_the_rest.ensures.around;
+  spares = first_of (search rules, grind (arith, common_steps));
+  changed = first_of (search rules, grind (arith, common_steps));
+  tight = first_of (search rules, grind (arith, common_steps));
+  still = first_of (search rules, grind (arith, common_steps));
+  counts = first_of (search rules, grind (arith, common_steps));
+}
 
-pub returns-clause-moves : goal.returns-clause-moves
-returns-clause-moves g c = around-moves c.args.mini.now c.take_the_rest.new.mini c.args.entry c.requires.stream c.take_the_rest.ensures.around
+pub returns-clause-changes : goal.returns-clause-changes
+returns-clause-changes g c = record {
+  moves = around-moves c.args.mini.now c.take_the_rest.new.mini c.args.entry c.requires.size_fits.stream c.take_the_rest.ensures.around;
+  spares = first_of (search rules, grind (arith, common_steps));
+  changed = first_of (search rules, grind (arith, common_steps));
+  tight = first_of (search rules, grind (arith, common_steps));
+  still = first_of (search rules, grind (arith, common_steps));
+  counts = first_of (search rules, grind (arith, common_steps));
+}
 
 pub returns-clause-refused : goal.returns-clause-refused
 returns-clause-refused g c told v held = (c.in_ok-take_the_rest.ensures.begun, c.in_ok-take_the_rest.ensures.full)

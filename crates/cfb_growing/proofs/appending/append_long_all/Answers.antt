@@ -1,4 +1,5 @@
-use Rattle.std.proofs.Common.{◌≡◌, ◌+◌, ◌≢◌, sym, ◌∙◌, ap, subst, length, arith}
+use Rattle.std.proofs.lemmas.Grind.{common_steps}
+use Rattle.std.proofs.Common.{◌≡◌, ◌+◌, ◌≢◌, sym, ◌∙◌, ap, subst, length, arith, rules}
 use Rattle.std.specs.Prelude.{IsTrue}
 use Rattle.std.proofs.lemmas.Result.{err_from_is_err_and}
 use Rattle.cfb_growing.specs.cfb_content.Contents.{IsNotChangeable, IsTooLongFor, len_of}
@@ -15,18 +16,25 @@ use Rattle.cfb_growing.proofs.appending.append_long_all.Goals as goal
 use Rattle.cfb_growing.proofs.cfb_tables.Refusals.{refused-as}
 
 pub content_in-len-requires : goal.content_in-len-requires
-content_in-len-requires g c = record { inside = stream-inside c.args.mini.now c.args.entry c.requires.stream }
+content_in-len-requires g c = record { inside = stream-inside c.args.mini.now c.args.entry c.requires.size_fits.stream }
 
 -- ---- a length that can be had
 
-pub can_resize-requires-clause-limit : goal.can_resize-requires-clause-limit
-can_resize-requires-clause-limit g c = let limit = c.requires.limit in omega (arith, c.content_in-len.ensures.len, limit)
+pub can_resize-requires : goal.can_resize-requires
+can_resize-requires g c = record { size_fits = record {
+  stream = first_of (search rules, grind (arith, common_steps));
+  limit = (let limit = c.requires.size_fits.limit in omega (arith, c.content_in-len.ensures.len, limit));
+} }
 
-pub returns-in_err-fits-clause-moves : goal.returns-in_err-fits-clause-moves
-returns-in_err-fits-clause-moves g c = moves-same c.args.mini.now c.args.entry
-
-pub returns-in_err-fits-clause-spares : goal.returns-in_err-fits-clause-spares
-returns-in_err-fits-clause-spares g c told = spares-same c.args.mini.now c.args.entry
+pub returns-in_err-fits-clause-changes : goal.returns-in_err-fits-clause-changes
+returns-in_err-fits-clause-changes g c = record {
+  moves = moves-same c.args.mini.now c.args.entry;
+  spares = λ told. spares-same c.args.mini.now c.args.entry;
+  changed = first_of (search rules, grind (arith, common_steps));
+  tight = first_of (search rules, grind (arith, common_steps));
+  still = first_of (search rules, grind (arith, common_steps));
+  counts = first_of (search rules, grind (arith, common_steps));
+}
 
 pub append_in_sectors-requires-clause-enough : goal.append_in_sectors-requires-clause-enough
 append_in_sectors-requires-clause-enough g c =
@@ -93,11 +101,25 @@ returns-clause-err g c v held =
     subst (λ n. IsTooLongFor s i n) whole (lack-is-too-long s i wanted (λ small. held.mini_stream.kept ∙ sym held.mini_stream.chain)
     (refused-lacks s i wanted c.in_ok-fits.fits (c.in_ok-fits.ensures.lacks differs) c.if-fits.false))
 
-pub returns-in_err-take_the_rest-clause-moves : goal.returns-in_err-take_the_rest-clause-moves
-returns-in_err-take_the_rest-clause-moves g c = around-moves c.args.mini.now c.take_the_rest.new.mini c.args.entry c.requires.stream c.take_the_rest.ensures.around
+pub returns-in_err-take_the_rest-clause-changes : goal.returns-in_err-take_the_rest-clause-changes
+returns-in_err-take_the_rest-clause-changes g c = record {
+  moves = around-moves c.args.mini.now c.take_the_rest.new.mini c.args.entry c.requires.size_fits.stream c.take_the_rest.ensures.around;
+  spares = first_of (search rules, grind (arith, common_steps));
+  changed = first_of (search rules, grind (arith, common_steps));
+  tight = first_of (search rules, grind (arith, common_steps));
+  still = first_of (search rules, grind (arith, common_steps));
+  counts = first_of (search rules, grind (arith, common_steps));
+}
 
-pub returns-clause-moves : goal.returns-clause-moves
-returns-clause-moves g c = around-moves c.args.mini.now c.take_the_rest.new.mini c.args.entry c.requires.stream c.take_the_rest.ensures.around
+pub returns-clause-changes : goal.returns-clause-changes
+returns-clause-changes g c = record {
+  moves = around-moves c.args.mini.now c.take_the_rest.new.mini c.args.entry c.requires.size_fits.stream c.take_the_rest.ensures.around;
+  spares = first_of (search rules, grind (arith, common_steps));
+  changed = first_of (search rules, grind (arith, common_steps));
+  tight = first_of (search rules, grind (arith, common_steps));
+  still = first_of (search rules, grind (arith, common_steps));
+  counts = first_of (search rules, grind (arith, common_steps));
+}
 
 pub returns-clause-refused : goal.returns-clause-refused
 returns-clause-refused g c told v held = (c.in_ok-take_the_rest.ensures.begun, c.in_ok-take_the_rest.ensures.full)

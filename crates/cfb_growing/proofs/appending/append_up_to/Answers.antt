@@ -1,4 +1,5 @@
-use Rattle.std.proofs.Common.{◌≡◌, ◌+◌, ◌-◌, sym, subst, length, take, arith}
+use Rattle.std.proofs.lemmas.Grind.{common_steps}
+use Rattle.std.proofs.Common.{◌≡◌, ◌+◌, ◌-◌, sym, subst, length, take, arith, rules}
 use Rattle.std.specs.Prelude.{IsTrue}
 use Rattle.std.proofs.lemmas.List.{length-take}
 use Rattle.std.proofs.lemmas.Result.{err_from_is_err_and}
@@ -10,15 +11,19 @@ use Rattle.cfb_growing.proofs.TakenRest.{begun-or-full}
 use Rattle.cfb_growing.proofs.appending.append_up_to.Goals as goal
 
 pub content_in-len-requires : goal.content_in-len-requires
-content_in-len-requires g c = record { inside = stream-inside c.args.mini.now c.args.entry c.requires.stream }
+content_in-len-requires g c = record { inside = stream-inside c.args.mini.now c.args.entry c.requires.size_fits.stream }
 
 -- ---- how many of the bytes that is
 
-pub append_in_sectors-requires-clause-limit : goal.append_in_sectors-requires-clause-limit
-append_in_sectors-requires-clause-limit g c =
-    let size = length-take (c.args.size - c.content_in-len.result.1) c.args.bytes.now in
-    let limit = c.requires.limit in
-    omega (arith, size, limit)
+pub append_in_sectors-requires-clause-size_fits : goal.append_in_sectors-requires-clause-size_fits
+append_in_sectors-requires-clause-size_fits g c = record {
+  stream = first_of (search rules, grind (arith, common_steps));
+  limit = (
+      let size = length-take (c.args.size - c.content_in-len.result.1) c.args.bytes.now in
+      let limit = c.requires.size_fits.limit in
+      omega (arith, size, limit)
+  );
+}
 
 pub append_in_sectors-requires-clause-large : goal.append_in_sectors-requires-clause-large
 append_in_sectors-requires-clause-large g c =

@@ -1,4 +1,5 @@
-use Rattle.std.proofs.Common.{◌+◌, inl, inr, subst, length, arith}
+use Rattle.std.proofs.lemmas.Grind.{common_steps}
+use Rattle.std.proofs.Common.{◌+◌, inl, inr, subst, length, arith, rules}
 use Rattle.std.proofs.lemmas.Result.{IfOk-weaker}
 use Rattle.cfb_growing.proofs.cfb_chains.ChainLists.{on_err}
 use Rattle.cfb_growing.specs.cfb_content.Laws.{LacksNumbersFor}
@@ -9,7 +10,7 @@ use Rattle.cfb_growing.proofs.appending.put_at_end.Goals as goal
 use Rattle.cfb_growing.proofs.cfb_tables.Refusals.{refused-as}
 
 pub content_in-len-requires : goal.content_in-len-requires
-content_in-len-requires g c = record { inside = stream-inside c.args.mini.now c.args.entry c.requires.stream }
+content_in-len-requires g c = record { inside = stream-inside c.args.mini.now c.args.entry c.requires.size_fits.stream }
 
 -- ---- it lies in sectors
 
@@ -27,8 +28,11 @@ returns-then-len-clause-err g c =
 
 -- ---- it moves
 
-pub move_with-requires-clause-limit : goal.move_with-requires-clause-limit
-move_with-requires-clause-limit g c = let limit = c.requires.limit in omega (arith, c.content_in-len.ensures.len, limit)
+pub move_with-requires-clause-size_fits : goal.move_with-requires-clause-size_fits
+move_with-requires-clause-size_fits g c = record {
+  stream = first_of (search rules, grind (arith, common_steps));
+  limit = (let limit = c.requires.size_fits.limit in omega (arith, c.content_in-len.ensures.len, limit));
+}
 
 pub returns-clause-put : goal.returns-clause-put
 returns-clause-put g c told v change =

@@ -1,4 +1,5 @@
-use Rattle.std.proofs.Common.{◌≡◌, ◌≢◌, true, false, sym, ◌∙◌, subst, arith}
+use Rattle.std.proofs.lemmas.Grind.{common_steps}
+use Rattle.std.proofs.Common.{◌≡◌, ◌≢◌, true, false, sym, ◌∙◌, subst, arith, rules}
 use Rattle.std.specs.Prelude.{IsTrue}
 use Rattle.std.proofs.lemmas.Result.{err_from_is_err_and}
 use Rattle.cfb_format.specs.declared.validate.Validation.{Validation}
@@ -17,11 +18,15 @@ use Rattle.cfb_growing.proofs.cfb_mini_changes.MiniExtended.{invalid-refused}
 
 -- ---- no slot for each entry
 
-pub returns-then-not-is_placed-clause-moves : goal.returns-then-not-is_placed-clause-moves
-returns-then-not-is_placed-clause-moves g c = moves-same c.args.mini.now c.args.entry
-
-pub returns-then-not-is_placed-clause-spares : goal.returns-then-not-is_placed-clause-spares
-returns-then-not-is_placed-clause-spares g c told = spares-same c.args.mini.now c.args.entry
+pub returns-then-not-is_placed-clause-changes : goal.returns-then-not-is_placed-clause-changes
+returns-then-not-is_placed-clause-changes g c = record {
+  moves = moves-same c.args.mini.now c.args.entry;
+  spares = λ told. spares-same c.args.mini.now c.args.entry;
+  changed = first_of (search rules, grind (arith, common_steps));
+  tight = first_of (search rules, grind (arith, common_steps));
+  still = first_of (search rules, grind (arith, common_steps));
+  counts = first_of (search rules, grind (arith, common_steps));
+}
 
 pub returns-then-not-is_placed-clause-err : goal.returns-then-not-is_placed-clause-err
 returns-then-not-is_placed-clause-err g c =
@@ -34,11 +39,15 @@ returns-then-not-is_placed-clause-err g c =
 
 -- ---- a length that can be had
 
-pub returns-in_err-fits-clause-moves : goal.returns-in_err-fits-clause-moves
-returns-in_err-fits-clause-moves g c = moves-same c.args.mini.now c.args.entry
-
-pub returns-in_err-fits-clause-spares : goal.returns-in_err-fits-clause-spares
-returns-in_err-fits-clause-spares g c told = spares-same c.args.mini.now c.args.entry
+pub returns-in_err-fits-clause-changes : goal.returns-in_err-fits-clause-changes
+returns-in_err-fits-clause-changes g c = record {
+  moves = moves-same c.args.mini.now c.args.entry;
+  spares = λ told. spares-same c.args.mini.now c.args.entry;
+  changed = first_of (search rules, grind (arith, common_steps));
+  tight = first_of (search rules, grind (arith, common_steps));
+  still = first_of (search rules, grind (arith, common_steps));
+  counts = first_of (search rules, grind (arith, common_steps));
+}
 
 pub returns-in_err-resize_content-clause-refused : goal.returns-in_err-resize_content-clause-refused
 returns-in_err-resize_content-clause-refused g c told v held =
@@ -92,11 +101,25 @@ returns-clause-err g c v held =
     lack-is-too-long s i wanted (λ small. held.mini_stream.kept ∙ sym held.mini_stream.chain)
     (refused-lacks s i wanted c.in_ok-fits.fits (c.in_ok-fits.ensures.lacks differs) c.if-fits.false)
 
-pub returns-in_err-take_the_rest-clause-moves : goal.returns-in_err-take_the_rest-clause-moves
-returns-in_err-take_the_rest-clause-moves g c = around-moves c.args.mini.now c.take_the_rest.new.mini c.args.entry c.requires.stream c.take_the_rest.ensures.around
+pub returns-in_err-take_the_rest-clause-changes : goal.returns-in_err-take_the_rest-clause-changes
+returns-in_err-take_the_rest-clause-changes g c = record {
+  moves = around-moves c.args.mini.now c.take_the_rest.new.mini c.args.entry c.requires.size_fits.stream c.take_the_rest.ensures.around;
+  spares = first_of (search rules, grind (arith, common_steps));
+  changed = first_of (search rules, grind (arith, common_steps));
+  tight = first_of (search rules, grind (arith, common_steps));
+  still = first_of (search rules, grind (arith, common_steps));
+  counts = first_of (search rules, grind (arith, common_steps));
+}
 
-pub returns-clause-moves : goal.returns-clause-moves
-returns-clause-moves g c = around-moves c.args.mini.now c.take_the_rest.new.mini c.args.entry c.requires.stream c.take_the_rest.ensures.around
+pub returns-clause-changes : goal.returns-clause-changes
+returns-clause-changes g c = record {
+  moves = around-moves c.args.mini.now c.take_the_rest.new.mini c.args.entry c.requires.size_fits.stream c.take_the_rest.ensures.around;
+  spares = first_of (search rules, grind (arith, common_steps));
+  changed = first_of (search rules, grind (arith, common_steps));
+  tight = first_of (search rules, grind (arith, common_steps));
+  still = first_of (search rules, grind (arith, common_steps));
+  counts = first_of (search rules, grind (arith, common_steps));
+}
 
 pub returns-clause-refused : goal.returns-clause-refused
 returns-clause-refused g c told v held = (c.in_ok-take_the_rest.ensures.begun, c.in_ok-take_the_rest.ensures.full)

@@ -1,4 +1,5 @@
-use Rattle.std.proofs.Common.{◌≡◌, ◌-◌, ◌+◌, List, sym, ◌∙◌, ap, subst, length, take, arith}
+use Rattle.std.proofs.lemmas.Grind.{common_steps}
+use Rattle.std.proofs.Common.{◌≡◌, ◌-◌, ◌+◌, List, sym, ◌∙◌, ap, subst, length, take, arith, rules}
 use Rattle.std.proofs.lemmas.List.{length-take}
 use Rattle.std.proofs.lemmas.Result.{err_from_is_err_and}
 use Rattle.cfb_growing.proofs.cfb_chains.ChainLists.{on_err}
@@ -21,13 +22,17 @@ use Rattle.cfb_growing.proofs.putting.append_content.Goals as goal
 use Rattle.cfb_growing.proofs.cfb_tables.Refusals.{refused-as}
 
 pub content_in-len-requires : goal.content_in-len-requires
-content_in-len-requires g c = record { inside = stream-inside c.args.mini.now c.args.entry c.requires.stream }
+content_in-len-requires g c = record { inside = stream-inside c.args.mini.now c.args.entry c.requires.size_fits.stream }
 
-pub returns-in_err-list-clause-moves : goal.returns-in_err-list-clause-moves
-returns-in_err-list-clause-moves g c = moves-same c.args.mini.now c.args.entry
-
-pub returns-in_err-list-clause-spares : goal.returns-in_err-list-clause-spares
-returns-in_err-list-clause-spares g c told = spares-same c.args.mini.now c.args.entry
+pub returns-in_err-list-clause-changes : goal.returns-in_err-list-clause-changes
+returns-in_err-list-clause-changes g c = record {
+  moves = moves-same c.args.mini.now c.args.entry;
+  spares = λ told. spares-same c.args.mini.now c.args.entry;
+  changed = first_of (search rules, grind (arith, common_steps));
+  tight = first_of (search rules, grind (arith, common_steps));
+  still = first_of (search rules, grind (arith, common_steps));
+  counts = first_of (search rules, grind (arith, common_steps));
+}
 
 -- ---- it lies in sectors
 
@@ -36,11 +41,15 @@ returns-then-len-clause-stays_full g c told v change stays none = c.append_long.
 
 -- ---- it moves
 
-pub returns-in_err-moved-clause-moves : goal.returns-in_err-moved-clause-moves
-returns-in_err-moved-clause-moves g c = moves-same c.args.mini.now c.args.entry
-
-pub returns-in_err-moved-clause-spares : goal.returns-in_err-moved-clause-spares
-returns-in_err-moved-clause-spares g c told = spares-same c.args.mini.now c.args.entry
+pub returns-in_err-moved-clause-changes : goal.returns-in_err-moved-clause-changes
+returns-in_err-moved-clause-changes g c = record {
+  moves = moves-same c.args.mini.now c.args.entry;
+  spares = λ told. spares-same c.args.mini.now c.args.entry;
+  changed = first_of (search rules, grind (arith, common_steps));
+  tight = first_of (search rules, grind (arith, common_steps));
+  still = first_of (search rules, grind (arith, common_steps));
+  counts = first_of (search rules, grind (arith, common_steps));
+}
 
 pub returns-in_err-moved-clause-err : goal.returns-in_err-moved-clause-err
 returns-in_err-moved-clause-err g c =
@@ -75,20 +84,25 @@ returns-then-moved-gt0-clause-stays_full g c told v change stays none = c.append
 pub write_listed-requires-clause-stream : goal.write_listed-requires-clause-stream
 write_listed-requires-clause-stream g c =
     let grown = c.grow_content.ensures in
-    stream-stays c.args.mini.now c.grow_content.new.mini c.args.entry c.args.entry grown.moves.limits.cases grown.moves.entries c.requires.stream
+    stream-stays c.args.mini.now c.grow_content.new.mini c.args.entry c.args.entry grown.changes.moves.limits.cases grown.changes.moves.entries c.requires.size_fits.stream
 
-pub returns-in_err-write_listed-clause-moves : goal.returns-in_err-write_listed-clause-moves
-returns-in_err-write_listed-clause-moves g c = filed-alone c.grow_content.new.mini c.write_listed.new.mini c.write_listed.ensures.rest c.args.mini.now c.args.entry c.grow_content.ensures.moves
-
-pub returns-in_err-write_listed-clause-spares : goal.returns-in_err-write_listed-clause-spares
-returns-in_err-write_listed-clause-spares g c told =
-    spares-behind c.args.mini.now c.grow_content.new.mini c.write_listed.new.mini c.args.entry c.grow_content.ensures.moves (c.grow_content.ensures.spares told) (c.in_ok-grown.ensures.changed told) (c.write_listed.ensures.others told)
-    (c.write_listed.ensures.header told) (still-begun c.args.mini.now c.grow_content.new.mini c.write_listed.new.mini c.in_err-write_listed.field-0.0 c.in_ok-grown.ensures.begun c.in_err-write_listed.ensures.refused)
+pub returns-in_err-write_listed-clause-changes : goal.returns-in_err-write_listed-clause-changes
+returns-in_err-write_listed-clause-changes g c = record {
+  moves = filed-alone c.grow_content.new.mini c.write_listed.new.mini c.write_listed.ensures.rest c.args.mini.now c.args.entry c.grow_content.ensures.changes.moves;
+  spares = λ told. (
+      spares-behind c.args.mini.now c.grow_content.new.mini c.write_listed.new.mini c.args.entry c.grow_content.ensures.changes.moves (c.grow_content.ensures.changes.spares told) (c.in_ok-grown.ensures.changes.changed told) (c.write_listed.ensures.others told)
+      (c.write_listed.ensures.header told) (still-begun c.args.mini.now c.grow_content.new.mini c.write_listed.new.mini c.in_err-write_listed.field-0.0 c.in_ok-grown.ensures.begun c.in_err-write_listed.ensures.refused)
+  );
+  changed = first_of (search rules, grind (arith, common_steps));
+  tight = first_of (search rules, grind (arith, common_steps));
+  still = first_of (search rules, grind (arith, common_steps));
+  counts = first_of (search rules, grind (arith, common_steps));
+}
 
 pub returns-in_err-write_listed-clause-err : goal.returns-in_err-write_listed-clause-err
 returns-in_err-write_listed-clause-err g c =
     let p = err_from_is_err_and c.from_residual-in_err-write_listed.result c.from_residual-in_err-write_listed.ensures.1 in
-    rw (p.1, p.2) (refused-as _ _ _ _ _ _ _ _ (λ bad told v change. bad v ((c.in_ok-grown.ensures.changed told).holds v change)) (λ u. u) (λ no. absurd no) (λ u. u)
+    rw (p.1, p.2) (refused-as _ _ _ _ _ _ _ _ (λ bad told v change. bad v ((c.in_ok-grown.ensures.changes.changed told).holds v change)) (λ u. u) (λ no. absurd no) (λ u. u)
     c.in_err-write_listed.field-0.0 c.in_err-write_listed.ensures.err)
 
 pub returns-in_err-write_listed-clause-refused : goal.returns-in_err-write_listed-clause-refused
@@ -97,10 +111,35 @@ returns-in_err-write_listed-clause-refused g c told v held =
     rw (p.1, p.2) (stops-behind c.args.mini.now c.grow_content.new.mini c.write_listed.new.mini c.in_err-write_listed.field-0.0 c.in_ok-grown.ensures.begun
     c.in_err-write_listed.ensures.refused c.in_err-write_listed.ensures.err)
 
-pub returns-clause-tight : goal.returns-clause-tight
-returns-clause-tight g c =
-    tight-then c.args.mini.now c.grow_content.new.mini c.write_listed.new.mini c.in_ok-grown.ensures.tight
-    (filed-tables c.grow_content.new.mini c.write_listed.new.mini c.in_ok-write_listed.ensures.rest)
+pub returns-clause-changes : goal.returns-clause-changes
+returns-clause-changes g c = record {
+  moves = filed-alone c.grow_content.new.mini c.write_listed.new.mini c.write_listed.ensures.rest c.args.mini.now c.args.entry c.grow_content.ensures.changes.moves;
+  spares = λ told. (
+      spares-behind c.args.mini.now c.grow_content.new.mini c.write_listed.new.mini c.args.entry c.grow_content.ensures.changes.moves (c.grow_content.ensures.changes.spares told) (c.in_ok-grown.ensures.changes.changed told) (c.write_listed.ensures.others told)
+      (c.write_listed.ensures.header told) c.in_ok-write_listed.ensures.begun
+  );
+  changed = λ told. (
+      let made = c.in_ok-grown.ensures.changes.changed told in
+      record {
+        holds = λ v change. c.in_ok-write_listed.ensures.holds told v (made.holds v change);
+        owned = λ v change. none-lost-then c.args.mini.now c.grow_content.new.mini c.write_listed.new.mini (made.owned v change)
+            (filed-loses-none c.grow_content.new.mini c.write_listed.new.mini c.in_ok-write_listed.ensures.rest);
+        sized = λ v change. filed-sized c.grow_content.new.mini c.write_listed.new.mini c.in_ok-write_listed.ensures.rest c.args.mini.now c.args.entry (made.sized v change);
+        snug_mini = λ v change snug. filed-snug c.grow_content.new.mini c.write_listed.new.mini c.in_ok-write_listed.ensures.rest (made.snug_mini v change snug);
+        gives_back = λ v change frees. filed-snug c.grow_content.new.mini c.write_listed.new.mini c.in_ok-write_listed.ensures.rest
+            (made.gives_back v change (filed-frees c.args.mini.now c.grow_content.new.mini c.write_listed.new.mini c.in_ok-write_listed.ensures.rest frees));
+        tidy = λ v change.
+            filed-tidy c.grow_content.new.mini c.write_listed.new.mini c.in_ok-write_listed.ensures.rest v c.args.mini.now (c.in_ok-write_listed.ensures.holds told v (made.holds v change)).held
+            (c.in_ok-write_listed.ensures.counted told v (made.holds v change)) (c.write_listed.ensures.header told).no_shorter (made.tidy v change);
+      }
+  );
+  tight = (
+      tight-then c.args.mini.now c.grow_content.new.mini c.write_listed.new.mini c.in_ok-grown.ensures.changes.tight
+      (filed-tables c.grow_content.new.mini c.write_listed.new.mini c.in_ok-write_listed.ensures.rest)
+  );
+  still = first_of (search rules, grind (arith, common_steps));
+  counts = first_of (search rules, grind (arith, common_steps));
+}
 
 pub returns-clause-content : goal.returns-clause-content
 returns-clause-content g c told v change =
@@ -113,37 +152,13 @@ returns-clause-content g c told v change =
     let from = take (c.in_ok-grown.grown - len) c.args.bytes.now in
     let len-is = c.content_in-len.ensures.len in
     let grown = c.in_ok-grown.ensures.len in
-    let whole : length was ≡ len = whole-of v s i change c.requires.stream ∙ sym len-is in
+    let whole : length was ≡ len = whole-of v s i change c.requires.size_fits.stream ∙ sym len-is in
     let sum : len + length from ≡ len_of mid i = omega (arith, length-take (c.in_ok-grown.grown - len) c.args.bytes.now, len-is, grown.0, grown.1, grown.2) in
     ap (λ (es : List Entry). content_of new (entry_at es i)) (filed-entries mid new c.in_ok-write_listed.ensures.rest)
-    ∙ c.in_ok-write_listed.ensures.content told v ((c.in_ok-grown.ensures.changed told).holds v change)
+    ∙ c.in_ok-write_listed.ensures.content told v ((c.in_ok-grown.ensures.changes.changed told).holds v change)
     ∙ ap (λ l. written l len from) ((c.in_ok-grown.ensures.content told).content v change)
     ∙ appended was from len (len_of mid i) whole sum
     ∙ ap (λ n. written was n from) len-is
-
-pub returns-clause-moves : goal.returns-clause-moves
-returns-clause-moves g c = filed-alone c.grow_content.new.mini c.write_listed.new.mini c.write_listed.ensures.rest c.args.mini.now c.args.entry c.grow_content.ensures.moves
-
-pub returns-clause-spares : goal.returns-clause-spares
-returns-clause-spares g c told =
-    spares-behind c.args.mini.now c.grow_content.new.mini c.write_listed.new.mini c.args.entry c.grow_content.ensures.moves (c.grow_content.ensures.spares told) (c.in_ok-grown.ensures.changed told) (c.write_listed.ensures.others told)
-    (c.write_listed.ensures.header told) c.in_ok-write_listed.ensures.begun
-
-pub returns-clause-changed : goal.returns-clause-changed
-returns-clause-changed g c told =
-    let made = c.in_ok-grown.ensures.changed told in
-    record {
-      holds = λ v change. c.in_ok-write_listed.ensures.holds told v (made.holds v change);
-      owned = λ v change. none-lost-then c.args.mini.now c.grow_content.new.mini c.write_listed.new.mini (made.owned v change)
-          (filed-loses-none c.grow_content.new.mini c.write_listed.new.mini c.in_ok-write_listed.ensures.rest);
-      sized = λ v change. filed-sized c.grow_content.new.mini c.write_listed.new.mini c.in_ok-write_listed.ensures.rest c.args.mini.now c.args.entry (made.sized v change);
-      snug_mini = λ v change snug. filed-snug c.grow_content.new.mini c.write_listed.new.mini c.in_ok-write_listed.ensures.rest (made.snug_mini v change snug);
-      gives_back = λ v change frees. filed-snug c.grow_content.new.mini c.write_listed.new.mini c.in_ok-write_listed.ensures.rest
-          (made.gives_back v change (filed-frees c.args.mini.now c.grow_content.new.mini c.write_listed.new.mini c.in_ok-write_listed.ensures.rest frees));
-      tidy = λ v change.
-          filed-tidy c.grow_content.new.mini c.write_listed.new.mini c.in_ok-write_listed.ensures.rest v c.args.mini.now (c.in_ok-write_listed.ensures.holds told v (made.holds v change)).held
-          (c.in_ok-write_listed.ensures.counted told v (made.holds v change)) (c.write_listed.ensures.header told).no_shorter (made.tidy v change);
-    }
 
 pub returns-clause-stays_full : goal.returns-clause-stays_full
 returns-clause-stays_full g c told v change stays none =

@@ -28,7 +28,7 @@ pub returns-in_err-ids-clause-err : goal.returns-in_err-ids-clause-err
 returns-in_err-ids-clause-err g c =
     let p = err_from_is_err_and c.from_residual.result c.from_residual.ensures.1 in
     rw (p.1, p.2) (refused-as _ _ _ _ _ _ _ _
-    (not-whole-minis c.args.mini.now c.args.entry c.content_in-start.result.0 c.content_in-start.result.1 c.content_in-start.ensures.start c.content_in-start.ensures.len c.requires.stream c.requires.small)
+    (not-whole-minis c.args.mini.now c.args.entry c.content_in-start.result.0 c.content_in-start.result.1 c.content_in-start.ensures.start c.content_in-start.ensures.len c.requires.size_fits.stream c.requires.small)
     (λ u. u) (λ no. absurd no) (λ no. absurd no) c.in_err-ids.field-0.0 c.in_err-ids.ensures.err)
 
 pub cut_mini_listed-requires : goal.cut_mini_listed-requires
@@ -47,7 +47,7 @@ returns-in_err-cut_mini_listed-clause-spares g c told = record {
       let i = c.args.entry in
       let list = c.in_ok-ids.ids.items in
       let whole = whole-minis-as s i c.content_in-start.result.0 c.content_in-start.result.1 list c.content_in-start.ensures.start c.content_in-start.ensures.len c.in_ok-ids.ensures.whole in
-      own-minis-kept v s c.cut_mini_listed.new.self i list change c.requires.stream (owned-minis s i c.requires.small list whole) (c.cut_mini_listed.ensures.changes.spares told)
+      own-minis-kept v s c.cut_mini_listed.new.self i list change c.requires.size_fits.stream (owned-minis s i c.requires.small list whole) (c.cut_mini_listed.ensures.changes.spares told)
       (c.cut_mini_listed.ensures.holds.mini_spares told v change.held);
   header =
       spared-keeps-header _ c.args.mini.now c.cut_mini_listed.new.self (c.cut_mini_listed.ensures.changes.spares told);
@@ -66,7 +66,7 @@ returns-clause-turned g c told = record {
       let list' = c.cut_mini_listed.new.ids.items in
       let whole = whole-minis-as s i c.content_in-start.result.0 c.content_in-start.result.1 list c.content_in-start.ensures.start c.content_in-start.ensures.len c.in_ok-ids.ensures.whole in
       subst (λ n. Turns s new i c.args.size n) (sym (c.first_number.ensures ∙ ap first_or_end c.deref.ensures.value))
-      (mini-cut-turns v s new i c.args.size c.div_ceil-wanted.result list list' change c.requires.stream c.requires.small c.requires.shorter whole
+      (mini-cut-turns v s new i c.args.size c.div_ceil-wanted.result list list' change c.requires.size_fits.stream c.requires.small c.requires.shorter whole
       (omega (arith, c.div_ceil-wanted.ensures)) c.in_ok-cut_mini_listed.ensures.cuts.listed c.in_ok-cut_mini_listed.ensures.cuts.given_back
       (cut-settles v s new c.div_ceil-wanted.result list change.held c.in_ok-cut_mini_listed.ensures.room.given (λ all. (c.cut_mini_listed.ensures.none all).1))
       c.cut_mini_listed.ensures.changes.limits.version c.cut_mini_listed.ensures.ends.stays c.cut_mini_listed.ensures.cuts.chain (c.cut_mini_listed.ensures.holds.bytes told v change.held) (c.in_ok-cut_mini_listed.ensures.holds.wiped told v change.held)
@@ -79,7 +79,7 @@ returns-clause-turned g c told = record {
       let shorter = c.requires.shorter in
       let whole = whole-minis-as s i c.content_in-start.result.0 c.content_in-start.result.1 list c.content_in-start.ensures.start c.content_in-start.ensures.len c.in_ok-ids.ensures.whole in
       let first = (whole.there 0 (omega (arith, shorter))).listed in
-      c.in_ok-cut_mini_listed.ensures.holds.holds told v change.held (λ none. starts-unnamed v s i change c.requires.stream) (λ zero. first-unnamed s i c.requires.small v change c.requires.stream list whole (omega (arith, first)));
+      c.in_ok-cut_mini_listed.ensures.holds.holds told v change.held (λ none. starts-unnamed v s i change c.requires.size_fits.stream) (λ zero. first-unnamed s i c.requires.small v change c.requires.size_fits.stream list whole (omega (arith, first)));
   snug_mini = λ v change snug.
       freed-snug c.args.mini.now c.cut_mini_listed.new.self c.div_ceil-wanted.result (length c.in_ok-ids.ids.items)
       (λ fewer. c.in_ok-cut_mini_listed.ensures.room.snug fewer v change.held) (λ all. (c.cut_mini_listed.ensures.none all).1) snug;
@@ -92,7 +92,7 @@ returns-clause-turned g c told = record {
         let shorter = c.requires.shorter in
         let whole = whole-minis-as s i c.content_in-start.result.0 c.content_in-start.result.1 list c.content_in-start.ensures.start c.content_in-start.ensures.len c.in_ok-ids.ensures.whole in
         let first = (whole.there 0 (omega (arith, shorter))).listed in
-        let held = c.in_ok-cut_mini_listed.ensures.holds.holds told v change.held (λ none. starts-unnamed v s i change c.requires.stream) (λ zero. first-unnamed s i c.requires.small v change c.requires.stream list whole (omega (arith, first))) in
+        let held = c.in_ok-cut_mini_listed.ensures.holds.holds told v change.held (λ none. starts-unnamed v s i change c.requires.size_fits.stream) (λ zero. first-unnamed s i c.requires.small v change c.requires.size_fits.stream list whole (omega (arith, first))) in
         same-whole v (table_of s) (table_of c.cut_mini_listed.new.self) held.directory.tables c.cut_mini_listed.ensures.changes.limits.version c.cut_mini_listed.ensures.ends.sizes.sectors
         (c.cut_mini_listed.ensures.changes.spares told).no_shorter was;
   };
@@ -105,7 +105,7 @@ returns-clause-spares g c told = record {
       let i = c.args.entry in
       let list = c.in_ok-ids.ids.items in
       let whole = whole-minis-as s i c.content_in-start.result.0 c.content_in-start.result.1 list c.content_in-start.ensures.start c.content_in-start.ensures.len c.in_ok-ids.ensures.whole in
-      own-minis-kept v s c.cut_mini_listed.new.self i list change c.requires.stream (owned-minis s i c.requires.small list whole) (c.cut_mini_listed.ensures.changes.spares told)
+      own-minis-kept v s c.cut_mini_listed.new.self i list change c.requires.size_fits.stream (owned-minis s i c.requires.small list whole) (c.cut_mini_listed.ensures.changes.spares told)
       (c.cut_mini_listed.ensures.holds.mini_spares told v change.held);
   header =
       spared-keeps-header _ c.args.mini.now c.cut_mini_listed.new.self (c.cut_mini_listed.ensures.changes.spares told);

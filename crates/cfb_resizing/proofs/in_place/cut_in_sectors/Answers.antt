@@ -34,7 +34,7 @@ returns-in_err-ids-clause-err g c =
     let shorter = c.requires.shorter in
     rw (p.1, p.2) (refused-as _ _ _ _ _ _ _ _
     (not-whole c.args.mini.now c.args.entry c.allocator_mut-allocator.result.now c.content_in-start.result.0 c.content_in-start.result.1 c.allocator_mut-allocator.ensures.value c.content_in-start.ensures.start
-    c.content_in-start.ensures.len c.requires.stream (omega (arith, large, shorter)))
+    c.content_in-start.ensures.len c.requires.size_fits.stream (omega (arith, large, shorter)))
     (λ u. u) (λ no. absurd no) (λ no. absurd no) c.in_err-ids.field-0.0 c.in_err-ids.ensures.err)
 
 pub cut_listed-requires : goal.cut_listed-requires
@@ -52,7 +52,7 @@ pub returns-in_err-cut_listed-clause-spares : goal.returns-in_err-cut_listed-cla
 returns-in_err-cut_listed-clause-spares g c told = record {
   others = λ v change.
       cut-spares-others c.args.mini.now c.args.entry c.args.size c.div_ceil-wanted.result c.content_in-start.result.0 c.content_in-start.result.1 c.sector_len.result
-      c.allocator_mut-allocator.result.now c.open_whole_chain.new.allocator c.cut_listed.new.self c.in_ok-ids.ids.items c.cut_listed.new.ids.items c.requires.stream c.requires.large c.requires.shorter
+      c.allocator_mut-allocator.result.now c.open_whole_chain.new.allocator c.cut_listed.new.self c.in_ok-ids.ids.items c.cut_listed.new.ids.items c.requires.size_fits.stream c.requires.large c.requires.shorter
       c.allocator_mut-allocator.ensures.value (c.open_whole_chain.ensures.unchanged ∙ c.allocator_mut-allocator.ensures.value) c.content_in-start.ensures.start c.content_in-start.ensures.len c.in_ok-ids.ensures.whole c.sector_len.ensures c.div_ceil-wanted.ensures
       (c.cut_listed.ensures.cuts.spares told) v change;
   header =
@@ -73,22 +73,22 @@ returns-clause-turned g c told =
     rw c.end_chain.ensures (record {
       turned = λ v change.
           let held = cut-keeps-tables c.args.mini.now c.args.entry c.args.size c.div_ceil-wanted.result c.content_in-start.result.0 c.content_in-start.result.1 c.sector_len.result
-          c.allocator_mut-allocator.result.now c.open_whole_chain.new.allocator c.cut_listed.new.self c.in_ok-ids.ids.items c.cut_listed.new.ids.items c.requires.stream c.requires.large c.requires.shorter
+          c.allocator_mut-allocator.result.now c.open_whole_chain.new.allocator c.cut_listed.new.self c.in_ok-ids.ids.items c.cut_listed.new.ids.items c.requires.size_fits.stream c.requires.large c.requires.shorter
           c.allocator_mut-allocator.ensures.value (c.open_whole_chain.ensures.unchanged ∙ c.allocator_mut-allocator.ensures.value) c.content_in-start.ensures.start c.content_in-start.ensures.len c.in_ok-ids.ensures.whole c.sector_len.ensures c.div_ceil-wanted.ensures
           (λ w. c.in_ok-cut_listed.ensures.holds told w) v change in
           (cut-turned c.args.mini.now c.args.entry c.args.size c.div_ceil-wanted.result c.content_in-start.result.0 c.content_in-start.result.1 c.sector_len.result
-          c.allocator_mut-allocator.result.now c.open_whole_chain.new.allocator c.cut_listed.new.self c.in_ok-ids.ids.items c.cut_listed.new.ids.items c.requires.stream c.requires.large c.requires.shorter
+          c.allocator_mut-allocator.result.now c.open_whole_chain.new.allocator c.cut_listed.new.self c.in_ok-ids.ids.items c.cut_listed.new.ids.items c.requires.size_fits.stream c.requires.large c.requires.shorter
           c.allocator_mut-allocator.ensures.value (c.open_whole_chain.ensures.unchanged ∙ c.allocator_mut-allocator.ensures.value) c.content_in-start.ensures.start c.content_in-start.ensures.len c.in_ok-ids.ensures.whole c.sector_len.ensures c.div_ceil-wanted.ensures
           c.in_ok-cut_listed.ensures.cuts.shortened (c.cut_listed.ensures.cuts.changes told) v change held (c.cut_listed.ensures.chain (subst (λ (a : AllocatorState). IsChain a.tables.fat (first_or_end c.in_ok-ids.ids.items) c.in_ok-ids.ids.items) (sym c.open_whole_chain.ensures.unchanged)
           (subst (λ n. IsChain c.allocator_mut-allocator.result.now.tables.fat n c.in_ok-ids.ids.items)
           (begins c.allocator_mut-allocator.result.now.tables.fat c.content_in-start.result.0 c.in_ok-ids.ids.items c.in_ok-ids.ensures.whole.chain.follows) c.in_ok-ids.ensures.whole.chain))));
       holds = λ v change.
           let held = cut-keeps-tables c.args.mini.now c.args.entry c.args.size c.div_ceil-wanted.result c.content_in-start.result.0 c.content_in-start.result.1 c.sector_len.result
-          c.allocator_mut-allocator.result.now c.open_whole_chain.new.allocator c.cut_listed.new.self c.in_ok-ids.ids.items c.cut_listed.new.ids.items c.requires.stream c.requires.large c.requires.shorter
+          c.allocator_mut-allocator.result.now c.open_whole_chain.new.allocator c.cut_listed.new.self c.in_ok-ids.ids.items c.cut_listed.new.ids.items c.requires.size_fits.stream c.requires.large c.requires.shorter
           c.allocator_mut-allocator.ensures.value (c.open_whole_chain.ensures.unchanged ∙ c.allocator_mut-allocator.ensures.value) c.content_in-start.ensures.start c.content_in-start.ensures.len c.in_ok-ids.ensures.whole c.sector_len.ensures c.div_ceil-wanted.ensures
           (λ w. c.in_ok-cut_listed.ensures.holds told w) v change in
           (cut-held c.args.mini.now c.args.entry c.args.size c.div_ceil-wanted.result c.content_in-start.result.0 c.content_in-start.result.1 c.sector_len.result
-          c.allocator_mut-allocator.result.now c.open_whole_chain.new.allocator c.cut_listed.new.self c.in_ok-ids.ids.items c.cut_listed.new.ids.items c.requires.stream c.requires.large c.requires.shorter
+          c.allocator_mut-allocator.result.now c.open_whole_chain.new.allocator c.cut_listed.new.self c.in_ok-ids.ids.items c.cut_listed.new.ids.items c.requires.size_fits.stream c.requires.large c.requires.shorter
           c.allocator_mut-allocator.ensures.value (c.open_whole_chain.ensures.unchanged ∙ c.allocator_mut-allocator.ensures.value) c.content_in-start.ensures.start c.content_in-start.ensures.len c.in_ok-ids.ensures.whole c.sector_len.ensures c.div_ceil-wanted.ensures
           c.in_ok-cut_listed.ensures.cuts.shortened (c.cut_listed.ensures.cuts.changes told) v change held (c.cut_listed.ensures.cuts.spares told));
       snug_mini = λ v change snug.
@@ -102,7 +102,7 @@ returns-clause-turned g c told =
         whole = λ was.
             let same = c.open_whole_chain.ensures.unchanged ∙ c.allocator_mut-allocator.ensures.value in
             let held = cut-keeps-tables c.args.mini.now c.args.entry c.args.size c.div_ceil-wanted.result c.content_in-start.result.0 c.content_in-start.result.1 c.sector_len.result
-            c.allocator_mut-allocator.result.now c.open_whole_chain.new.allocator c.cut_listed.new.self c.in_ok-ids.ids.items c.cut_listed.new.ids.items c.requires.stream c.requires.large c.requires.shorter
+            c.allocator_mut-allocator.result.now c.open_whole_chain.new.allocator c.cut_listed.new.self c.in_ok-ids.ids.items c.cut_listed.new.ids.items c.requires.size_fits.stream c.requires.large c.requires.shorter
             c.allocator_mut-allocator.ensures.value same c.content_in-start.ensures.start c.content_in-start.ensures.len c.in_ok-ids.ensures.whole c.sector_len.ensures c.div_ceil-wanted.ensures
             (λ w. c.in_ok-cut_listed.ensures.holds told w) v change in
             let given = c.in_ok-cut_listed.ensures.cuts.shortened.given_back in
@@ -116,7 +116,7 @@ returns-clause-spares g c told =
     rw c.end_chain.ensures (record {
       others = λ v change.
           (cut-spares-others c.args.mini.now c.args.entry c.args.size c.div_ceil-wanted.result c.content_in-start.result.0 c.content_in-start.result.1 c.sector_len.result
-          c.allocator_mut-allocator.result.now c.open_whole_chain.new.allocator c.cut_listed.new.self c.in_ok-ids.ids.items c.cut_listed.new.ids.items c.requires.stream c.requires.large c.requires.shorter
+          c.allocator_mut-allocator.result.now c.open_whole_chain.new.allocator c.cut_listed.new.self c.in_ok-ids.ids.items c.cut_listed.new.ids.items c.requires.size_fits.stream c.requires.large c.requires.shorter
           c.allocator_mut-allocator.ensures.value (c.open_whole_chain.ensures.unchanged ∙ c.allocator_mut-allocator.ensures.value) c.content_in-start.ensures.start c.content_in-start.ensures.len c.in_ok-ids.ensures.whole c.sector_len.ensures c.div_ceil-wanted.ensures
           (c.cut_listed.ensures.cuts.spares told) v change);
       header =

@@ -19,7 +19,7 @@ use Rattle.cfb_resizing.proofs.in_place.grow_in_minis.Goals as goal
 use Rattle.cfb_tables.proofs.Refusals.{refused-as}
 
 pub content_in-start-requires : goal.content_in-start-requires
-content_in-start-requires g c = record { inside = stream-inside c.args.mini.now c.args.entry c.requires.stream }
+content_in-start-requires g c = record { inside = stream-inside c.args.mini.now c.args.entry c.requires.size_fits.stream }
 
 pub returns-in_err-ids-clause-spares : goal.returns-in_err-ids-clause-spares
 returns-in_err-ids-clause-spares g c told = spares-same c.args.mini.now c.args.entry
@@ -30,7 +30,7 @@ returns-in_err-ids-clause-err g c =
     let small = c.requires.small in
     let longer = c.requires.longer in
     rw (p.1, p.2) (refused-as _ _ _ _ _ _ _ _
-    (not-whole-minis c.args.mini.now c.args.entry c.content_in-start.result.0 c.content_in-start.result.1 c.content_in-start.ensures.start c.content_in-start.ensures.len c.requires.stream
+    (not-whole-minis c.args.mini.now c.args.entry c.content_in-start.result.0 c.content_in-start.result.1 c.content_in-start.ensures.start c.content_in-start.ensures.len c.requires.size_fits.stream
     (omega (arith, small, longer)))
     (λ u. u) (λ no. absurd no) (λ no. absurd no) c.in_err-ids.field-0.0 c.in_err-ids.ensures.err)
 
@@ -57,7 +57,7 @@ returns-in_err-reserve-clause-err g c =
     omega (arith, c.saturating_sub-lacking.ensures, c.div_ceil.ensures, c.len-2.ensures, c.in_ok-ids.ids.ok.0) in
     let p = err_from_is_err_and c.from_residual-in_err-reserve.result c.from_residual-in_err-reserve.ensures.1 in
     let lacks = grow-minis-lacks c.args.mini.now c.args.entry c.args.size c.content_in-start.result.0 c.content_in-start.result.1 c.saturating_sub-lacking.result c.reserve.new.self c.reserve.new.self
-    c.in_ok-ids.ids.items c.in_ok-ids.ids.items c.requires.stream c.requires.small c.requires.longer c.reserve.ensures.unchanged c.content_in-start.ensures.start
+    c.in_ok-ids.ids.items c.in_ok-ids.ids.items c.requires.size_fits.stream c.requires.small c.requires.longer c.reserve.ensures.unchanged c.content_in-start.ensures.start
     c.content_in-start.ensures.len c.in_ok-ids.ensures.whole lacking in
     rw (p.1, p.2) (refused-as _ _ _ _ _ _ _ _ (not-held c.args.mini.now) (λ enough. tt) lacks.1 (λ no. absurd no) c.in_err-reserve.field-0.0 c.in_err-reserve.ensures.err)
 
@@ -66,7 +66,7 @@ lengthen_in_minis-requires-clause-chain g c =
     let lacking : c.saturating_sub-lacking.result ≡ rounded_up c.args.size 64 - length c.in_ok-ids.ids.items =
     omega (arith, c.saturating_sub-lacking.ensures, c.div_ceil.ensures, c.len-2.ensures, c.in_ok-ids.ids.ok.0) in
     grow-minis-starts c.args.mini.now c.args.entry c.args.size c.content_in-start.result.0 c.content_in-start.result.1 c.saturating_sub-lacking.result c.reserve.new.self c.reserve.new.self
-    c.in_ok-ids.ids.items c.in_ok-ids.ids.items c.requires.stream c.requires.small c.requires.longer c.reserve.ensures.unchanged c.content_in-start.ensures.start
+    c.in_ok-ids.ids.items c.in_ok-ids.ids.items c.requires.size_fits.stream c.requires.small c.requires.longer c.reserve.ensures.unchanged c.content_in-start.ensures.start
     c.content_in-start.ensures.len c.in_ok-ids.ensures.whole lacking
 
 pub lengthen_in_minis-requires-clause-there : goal.lengthen_in_minis-requires-clause-there
@@ -80,7 +80,7 @@ lengthen_in_minis-requires-clause-enough g c =
     let lacking : c.saturating_sub-lacking.result ≡ rounded_up c.args.size 64 - length c.in_ok-ids.ids.items =
     omega (arith, c.saturating_sub-lacking.ensures, c.div_ceil.ensures, c.len-2.ensures, c.in_ok-ids.ids.ok.0) in
     grow-minis-room c.args.mini.now c.args.entry c.args.size c.content_in-start.result.0 c.content_in-start.result.1 c.saturating_sub-lacking.result c.reserve.new.self c.reserve.new.self
-    c.in_ok-ids.ids.items c.in_ok-ids.ids.items c.requires.stream c.requires.small c.requires.longer c.reserve.ensures.unchanged c.content_in-start.ensures.start
+    c.in_ok-ids.ids.items c.in_ok-ids.ids.items c.requires.size_fits.stream c.requires.small c.requires.longer c.reserve.ensures.unchanged c.content_in-start.ensures.start
     c.content_in-start.ensures.len c.in_ok-ids.ensures.whole lacking c.in_ok-reserve.ensures.enough
 
 pub returns-in_err-lengthen_in_minis-clause-spares : goal.returns-in_err-lengthen_in_minis-clause-spares
@@ -89,7 +89,7 @@ returns-in_err-lengthen_in_minis-clause-spares g c told = record {
       let lacking : c.saturating_sub-lacking.result ≡ rounded_up c.args.size 64 - length c.in_ok-ids.ids.items =
       omega (arith, c.saturating_sub-lacking.ensures, c.div_ceil.ensures, c.len-2.ensures, c.in_ok-ids.ids.ok.0) in
       grow-minis-others c.args.mini.now c.args.entry c.args.size c.content_in-start.result.0 c.content_in-start.result.1 c.saturating_sub-lacking.result c.reserve.new.self c.lengthen_in_minis.new.mini
-      c.in_ok-ids.ids.items c.lengthen_in_minis.new.ids.items c.requires.stream c.requires.small c.requires.longer c.reserve.ensures.unchanged c.content_in-start.ensures.start
+      c.in_ok-ids.ids.items c.lengthen_in_minis.new.ids.items c.requires.size_fits.stream c.requires.small c.requires.longer c.reserve.ensures.unchanged c.content_in-start.ensures.start
       c.content_in-start.ensures.len c.in_ok-ids.ensures.whole lacking
       (c.lengthen_in_minis.ensures.spares told) (λ w held. c.lengthen_in_minis.ensures.mini_spares told w held) v change;
   header =
@@ -112,11 +112,11 @@ returns-clause-turned g c told = record {
       let new = c.lengthen_in_minis.new.mini in
       let held = subst (λ (m : MiniState). HoldsMini v m) (sym c.reserve.ensures.unchanged) change.held in
       let there = grow-minis-there c.args.mini.now c.args.entry c.args.size c.content_in-start.result.0 c.content_in-start.result.1 c.saturating_sub-lacking.result c.reserve.new.self c.reserve.new.self
-      c.in_ok-ids.ids.items c.in_ok-ids.ids.items c.requires.stream c.requires.small c.requires.longer c.reserve.ensures.unchanged c.content_in-start.ensures.start
+      c.in_ok-ids.ids.items c.in_ok-ids.ids.items c.requires.size_fits.stream c.requires.small c.requires.longer c.reserve.ensures.unchanged c.content_in-start.ensures.start
       c.content_in-start.ensures.len c.in_ok-ids.ensures.whole lacking in
       subst (λ n. Turns s new c.args.entry c.args.size n) (sym (c.first_number.ensures ∙ ap first_or_end c.deref-2.ensures.value))
       (grow-minis-turned c.args.mini.now c.args.entry c.args.size c.content_in-start.result.0 c.content_in-start.result.1 c.saturating_sub-lacking.result c.reserve.new.self c.lengthen_in_minis.new.mini
-      c.in_ok-ids.ids.items c.lengthen_in_minis.new.ids.items c.requires.stream c.requires.small c.requires.longer c.reserve.ensures.unchanged c.content_in-start.ensures.start
+      c.in_ok-ids.ids.items c.lengthen_in_minis.new.ids.items c.requires.size_fits.stream c.requires.small c.requires.longer c.reserve.ensures.unchanged c.content_in-start.ensures.start
       c.content_in-start.ensures.len c.in_ok-ids.ensures.whole lacking v change
       c.lengthen_in_minis.ensures.listed c.in_ok-lengthen_in_minis.ensures.count c.in_ok-lengthen_in_minis.ensures.grown c.in_ok-lengthen_in_minis.ensures.taken
       c.lengthen_in_minis.ensures.none c.lengthen_in_minis.ensures.chain (c.in_ok-lengthen_in_minis.ensures.padded told v held there));
@@ -140,7 +140,7 @@ returns-clause-spares g c told = record {
       let lacking : c.saturating_sub-lacking.result ≡ rounded_up c.args.size 64 - length c.in_ok-ids.ids.items =
       omega (arith, c.saturating_sub-lacking.ensures, c.div_ceil.ensures, c.len-2.ensures, c.in_ok-ids.ids.ok.0) in
       grow-minis-others c.args.mini.now c.args.entry c.args.size c.content_in-start.result.0 c.content_in-start.result.1 c.saturating_sub-lacking.result c.reserve.new.self c.lengthen_in_minis.new.mini
-      c.in_ok-ids.ids.items c.lengthen_in_minis.new.ids.items c.requires.stream c.requires.small c.requires.longer c.reserve.ensures.unchanged c.content_in-start.ensures.start
+      c.in_ok-ids.ids.items c.lengthen_in_minis.new.ids.items c.requires.size_fits.stream c.requires.small c.requires.longer c.reserve.ensures.unchanged c.content_in-start.ensures.start
       c.content_in-start.ensures.len c.in_ok-ids.ensures.whole lacking
       (c.lengthen_in_minis.ensures.spares told) (λ w held. c.lengthen_in_minis.ensures.mini_spares told w held) v change;
   header =
@@ -153,6 +153,6 @@ returns-clause-enough g c =
     let lacking : c.saturating_sub-lacking.result ≡ rounded_up c.args.size 64 - length c.in_ok-ids.ids.items =
     omega (arith, c.saturating_sub-lacking.ensures, c.div_ceil.ensures, c.len-2.ensures, c.in_ok-ids.ids.ok.0) in
     let lacks = grow-minis-lacks c.args.mini.now c.args.entry c.args.size c.content_in-start.result.0 c.content_in-start.result.1 c.saturating_sub-lacking.result c.reserve.new.self c.reserve.new.self
-    c.in_ok-ids.ids.items c.in_ok-ids.ids.items c.requires.stream c.requires.small c.requires.longer c.reserve.ensures.unchanged c.content_in-start.ensures.start
+    c.in_ok-ids.ids.items c.in_ok-ids.ids.items c.requires.size_fits.stream c.requires.small c.requires.longer c.reserve.ensures.unchanged c.content_in-start.ensures.start
     c.content_in-start.ensures.len c.in_ok-ids.ensures.whole lacking in
     λ few. c.in_ok-reserve.ensures.enough (lacks.0 few)

@@ -81,8 +81,8 @@ returns-clause-padded g c told v held there =
     c.extend_mini_listed.ensures.longer.listed chain c.zero_in_minis.new.mini c.zero_in_minis.ensures.writes.kept v c.deref.result.now c.args.size c.args.len c.len.result c.saturating_mul-room.result
     c.min.result c.deref.ensures.value held now c.requires.chain c.extend_mini_listed.ensures.changes.limits.version c.extend_mini_listed.ensures.grows.goes_on
     (c.extend_mini_listed.ensures.holds.bytes told v held) (c.in_ok-extend_mini_listed.ensures.holds.filled told v held) have c.saturating_mul-room.ensures c.min.ensures c.ranges.size.fits
-    c.requires.lacking c.in_ok-extend_mini_listed.ensures.longer.counted there put (c.zero_in_minis.ensures.others told))
-    (c.zero_in_minis.ensures.put told v now (subst (λ (l : List ℕ). IsDistinct nat_eq l) (sym c.deref.ensures.value) chain.distinct))
+    c.requires.lacking c.in_ok-extend_mini_listed.ensures.longer.counted there put (c.zero_in_minis.ensures.along.others told))
+    (c.zero_in_minis.ensures.along.put told v now (subst (λ (l : List ℕ). IsDistinct nat_eq l) (sym c.deref.ensures.value) chain.distinct))
 
 pub returns-clause-holds : goal.returns-clause-holds
 returns-clause-holds g c told v held = c.zero_in_minis.ensures.writes.holds told v (c.in_ok-extend_mini_listed.ensures.holds.holds told v held)
@@ -109,7 +109,7 @@ returns-clause-mini_spares g c told v held =
     minis-lengthened-mini-spare c.args.mini.now c.extend_mini_listed.new.self c.args.lacking c.args.ids.now.items c.extend_mini_listed.new.ids.items c.extend_mini_listed.ensures.longer.listed
     (c.extend_mini_listed.ensures.longer.chain c.requires.chain) c.zero_in_minis.new.mini c.zero_in_minis.ensures.writes.kept v c.deref.result.now c.deref.ensures.value held
     c.extend_mini_listed.ensures.changes.limits.version (λ z. (c.extend_mini_listed.ensures.longer.none z).2) c.in_ok-extend_mini_listed.ensures.longer.taken (c.extend_mini_listed.ensures.holds.mini_spares told v held)
-    (c.zero_in_minis.ensures.mini_spares told v (c.in_ok-extend_mini_listed.ensures.holds.holds told v held))
+    (c.zero_in_minis.ensures.along.mini_spares told v (c.in_ok-extend_mini_listed.ensures.holds.holds told v held))
 
 pub returns-clause-header : goal.returns-clause-header
 returns-clause-header g c told =
@@ -117,7 +117,7 @@ returns-clause-header g c told =
     let mid = c.extend_mini_listed.new.self in
     let new = c.zero_in_minis.new.mini in
     all_ok c.zero_in_minis.result (both-outside (bytes_of s) (bytes_of mid) (bytes_of new) (c.extend_mini_listed.ensures.changes.spares told).no_shorter (c.extend_mini_listed.ensures.changes.header told)
-    (minis-outside mid c.deref.result.now c.args.len _ (bytes_of mid) (bytes_of new) (c.zero_in_minis.ensures.others told)))
+    (minis-outside mid c.deref.result.now c.args.len _ (bytes_of mid) (bytes_of new) (c.zero_in_minis.ensures.along.others told)))
 
 pub returns-clause-around : goal.returns-clause-around
 returns-clause-around g c = file-around c.args.mini.now c.extend_mini_listed.new.self c.zero_in_minis.new.mini c.zero_in_minis.ensures.writes.kept (record {
@@ -141,7 +141,7 @@ returns-clause-unwritten g c told not =
 pub returns-clause-counts : goal.returns-clause-counts
 returns-clause-counts g c told =
     subst (λ (n : ℕ). CountsFailure g.F.Medium.write_faults c.zero_in_minis.result n (table_of c.zero_in_minis.new.mini).file.failures) (c.in_ok-extend_mini_listed.ensures.changes.counts told)
-    (c.zero_in_minis.ensures.counts told)
+    (c.zero_in_minis.ensures.along.counts told)
 
 pub returns-clause-snug_mini : goal.returns-clause-snug_mini
 returns-clause-snug_mini g c told v held snug =

@@ -1,4 +1,5 @@
-use Rattle.std.proofs.Common.{List, ℕ, ◌++◌, length, subst}
+use Rattle.std.proofs.lemmas.Grind.{common_steps}
+use Rattle.std.proofs.Common.{List, ℕ, ◌++◌, length, subst, rules, arith}
 use Rattle.cfb_sectors.specs.declared.sector.SectorInit.TheVariants.{Zero}
 use Rattle.cfb_resizing.proofs.cfb_table_words.FilledSectors.{filled_whole_each}
 use Rattle.cfb_tables.specs.Listed.{ends_of, gained}
@@ -17,15 +18,19 @@ returns-clause-padded g c told validation held =
     c.in_ok-extend_listed_from.ensures.extends.lengthened c.args.bytes.now c.extend_listed_from.new.self.file.bytes
     (c.in_ok-extend_listed_from.ensures.fills.put told validation held)
 
-pub returns-clause-whole : goal.returns-clause-whole
-returns-clause-whole g c told validation held was =
-    let old = c.args.allocator.now in
-    let ids = c.args.ids.now.items in
-    let new = c.extend_listed_from.new.self in
-    let ids' = c.extend_listed_from.new.ids.items in
-    taken-whole validation old new (ends_of ids) (gained ids ids') (c.in_ok-extend_listed_from.ensures.takes.holds told validation held) c.in_ok-extend_listed_from.ensures.extends.lengthened.taken
-    (c.extend_listed_from.ensures.takes.others told).no_shorter
-    (filled_whole_each new.tables.version Zero _ new.file.bytes (gained ids ids') (c.in_ok-extend_listed_from.ensures.fills.put told validation held)) was
+pub returns-clause-holds : goal.returns-clause-holds
+returns-clause-holds g c = record {
+  holds = first_of (search rules, grind (arith, common_steps));
+  whole = λ told validation held was. (
+      let old = c.args.allocator.now in
+      let ids = c.args.ids.now.items in
+      let new = c.extend_listed_from.new.self in
+      let ids' = c.extend_listed_from.new.ids.items in
+      taken-whole validation old new (ends_of ids) (gained ids ids') (c.in_ok-extend_listed_from.ensures.takes.holds told validation held) c.in_ok-extend_listed_from.ensures.extends.lengthened.taken
+      (c.extend_listed_from.ensures.takes.others told).no_shorter
+      (filled_whole_each new.tables.version Zero _ new.file.bytes (gained ids ids') (c.in_ok-extend_listed_from.ensures.fills.put told validation held)) was
+  );
+}
 
 pub returns-clause-spares : goal.returns-clause-spares
 returns-clause-spares g c told =

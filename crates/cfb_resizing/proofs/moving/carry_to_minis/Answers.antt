@@ -59,7 +59,7 @@ returns-clause-stands g c told v held apart unnamed =
     (c.free_listed.ensures.frees.spares told) (c.free_listed.ensures.frees.changes told) in
     let now = c.in_ok-extend_mini_listed.ensures.holds.holds told v freed-held in
     on_ok _ _ c.put_in_minis.result (minis-stand c.extend_mini_listed.new.self c.args.count c.args.ids.now.items c.extend_mini_listed.new.ids.items c.deref.result.now c.requires.fresh c.deref.ensures.value c.in_ok-extend_mini_listed.ensures.longer.counted c.put_in_minis.new.mini c.args.bytes.now c.put_in_minis.ensures.writes.kept)
-    (c.put_in_minis.ensures.put told v now (subst (λ (l : List ℕ). IsDistinct nat_eq l) (sym c.deref.ensures.value) chain.distinct))
+    (c.put_in_minis.ensures.along.put told v now (subst (λ (l : List ℕ). IsDistinct nat_eq l) (sym c.deref.ensures.value) chain.distinct))
 
 pub returns-clause-holds : goal.returns-clause-holds
 returns-clause-holds g c told v held apart unnamed =
@@ -110,7 +110,7 @@ returns-clause-mini_spares g c told v held apart unnamed =
     c.extend_mini_listed.ensures.changes.limits.version second
     (came-free c.args.mini.now.max_mini_sectors c.args.count c.args.mini.now.minifat c.extend_mini_listed.new.self.minifat c.args.ids.now.items c.extend_mini_listed.new.ids.items
     c.requires.fresh (λ none. (c.extend_mini_listed.ensures.longer.none none).2) taken)
-    (subst (λ (l : List ℕ). SparesMini l c.extend_mini_listed.new.self c.put_in_minis.new.mini) c.deref.ensures.value (c.put_in_minis.ensures.mini_spares told v now))
+    (subst (λ (l : List ℕ). SparesMini l c.extend_mini_listed.new.self c.put_in_minis.new.mini) c.deref.ensures.value (c.put_in_minis.ensures.along.mini_spares told v now))
 
 pub returns-clause-whole : goal.returns-clause-whole
 returns-clause-whole g c told v held apart unnamed was =
@@ -145,7 +145,7 @@ returns-clause-header g c told =
     let grown = (c.extend_mini_listed.ensures.changes.spares told).no_shorter in
     let second = both-outside (bytes_of s) freed.file.bytes (bytes_of mid) first.0 first.1 (c.extend_mini_listed.ensures.changes.header told) in
     all_ok c.put_in_minis.result (both-outside (bytes_of s) (bytes_of mid) (bytes_of new) (omega (arith, first.0, grown)) second
-    (minis-outside mid c.deref.result.now 0 (length c.args.bytes.now) (bytes_of mid) (bytes_of new) (c.put_in_minis.ensures.others told)))
+    (minis-outside mid c.deref.result.now 0 (length c.args.bytes.now) (bytes_of mid) (bytes_of new) (c.put_in_minis.ensures.along.others told)))
 
 pub returns-clause-around : goal.returns-clause-around
 returns-clause-around g c =

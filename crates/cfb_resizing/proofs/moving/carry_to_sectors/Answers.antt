@@ -58,7 +58,7 @@ returns-clause-holds g c told v held unnamed =
     let held' = freed-held s mid list v held unnamed (c.in_ok-cut_mini_listed.ensures.holds.holds told v held) (λ few. (c.cut_mini_listed.ensures.none few).1) in
     on_both _ _ _ c.begin_in_sectors.result
     (λ tables sizes. carried-held s mid list lent a c.allocator_mut.ensures.value limits v held' tables sizes (c.begin_in_sectors.ensures.spares told) (c.begin_in_sectors.ensures.header told))
-    (c.begin_in_sectors.ensures.holds told v (carried-tables s mid list lent a c.allocator_mut.ensures.value limits v held')) c.begin_in_sectors.ensures.sizes
+    (c.begin_in_sectors.ensures.holds.holds told v (carried-tables s mid list lent a c.allocator_mut.ensures.value limits v held')) c.begin_in_sectors.ensures.sizes
 
 pub returns-clause-wiped : goal.returns-clause-wiped
 returns-clause-wiped g c told v held unnamed =
@@ -107,7 +107,7 @@ returns-clause-whole g c told v held unnamed was =
     let held' = freed-held s mid list v held unnamed (c.in_ok-cut_mini_listed.ensures.holds.holds told v held) (λ few. (c.cut_mini_listed.ensures.none few).1) in
     let first = same-whole v (table_of s) (table_of mid) held'.directory.tables c.cut_mini_listed.ensures.changes.limits.version c.cut_mini_listed.ensures.ends.sizes.sectors
     (c.cut_mini_listed.ensures.changes.spares told).no_shorter was in
-    c.begin_in_sectors.ensures.whole told v
+    c.begin_in_sectors.ensures.holds.whole told v
     (carried-tables s mid list lent c.begin_in_sectors.new.allocator c.allocator_mut.ensures.value c.cut_mini_listed.ensures.changes.limits v held')
     (subst IsOfWholeSectors (sym c.allocator_mut.ensures.value) first)
 

@@ -23,7 +23,7 @@ use Rattle.cfb_tables.proofs.Refusals.{refused-as}
 
 pub content_in-start-requires : goal.content_in-start-requires
 content_in-start-requires g c =
-    record { inside = stream-inside c.args.mini.now c.args.entry c.requires.stream }
+    record { inside = stream-inside c.args.mini.now c.args.entry c.requires.size_fits.stream }
 
 pub returns-in_err-old-clause-spares : goal.returns-in_err-old-clause-spares
 returns-in_err-old-clause-spares g c told = spares-same c.args.mini.now c.args.entry
@@ -32,7 +32,7 @@ pub returns-in_err-old-clause-err : goal.returns-in_err-old-clause-err
 returns-in_err-old-clause-err g c =
     let p = err_from_is_err_and c.from_residual.result c.from_residual.ensures.1 in
     let none = not-whole c.args.mini.now c.args.entry c.allocator.result.now c.content_in-start.result.0 c.content_in-start.result.1 c.allocator.ensures c.content_in-start.ensures.start
-    c.content_in-start.ensures.len c.requires.stream c.requires.large in
+    c.content_in-start.ensures.len c.requires.size_fits.stream c.requires.large in
     rw (p.1, p.2) (refused-as _ _ _ _ _ _ _ _ (λ bad told. none bad) (λ u. u) (λ no. absurd no) (λ no. absurd no) c.in_err-old.field-0.0 c.in_err-old.ensures.err)
 
 pub returns-in_err-reserve-clause-spares : goal.returns-in_err-reserve-clause-spares
@@ -115,7 +115,7 @@ returns-in_err-reserve-clause-err g c =
     let long : c.len.result ≡ length c.in_ok-old.old.items = omega (arith, c.len.ensures, c.in_ok-old.old.ok.0) in
     let p = err_from_is_err_and c.from_residual-in_err-reserve.result c.from_residual-in_err-reserve.ensures.1 in
     let lacks = leave-lacks c.args.mini.now c.args.mini.now c.args.mini.now c.args.entry c.args.size c.div_ceil-count.result c.content_in-start.result.0 c.content_in-start.result.1
-    c.allocator.result.now c.in_ok-old.old.items c.requires.stream c.requires.large c.requires.small c.allocator.ensures c.content_in-start.ensures.start c.content_in-start.ensures.len
+    c.allocator.result.now c.in_ok-old.old.items c.requires.size_fits.stream c.requires.large c.requires.small c.allocator.ensures c.content_in-start.ensures.start c.content_in-start.ensures.len
     c.in_ok-old.ensures.whole wanted in
     rw (p.1, p.2) (refused-as _ _ _ _ _ _ _ _ (λ bad told. not-held c.args.mini.now bad) (λ enough. tt)
     (λ few. lacks.1 (subst (λ n. IsTooFewAfterFor c.args.mini.now n c.div_ceil-count.result) long few)) (λ no. absurd no) c.in_err-reserve.field-0.0 c.in_err-reserve.ensures.err)
@@ -130,7 +130,7 @@ returns-in_err-check_growth-clause-err g c =
     (subst (λ (m : MiniState). AreDisjoint (system_sectors m) c.deref.result.now) (sym c.reserve.ensures.unchanged)
     (subst (λ (l : List ℕ). AreDisjoint (system_sectors c.args.mini.now) l) (sym c.deref.ensures.value)
     (leave-apart c.args.mini.now c.args.mini.now c.args.mini.now c.args.entry c.args.size c.div_ceil-count.result c.content_in-start.result.0 c.content_in-start.result.1
-    c.allocator.result.now c.in_ok-old.old.items c.requires.stream c.requires.large c.requires.small c.allocator.ensures c.content_in-start.ensures.start c.content_in-start.ensures.len
+    c.allocator.result.now c.in_ok-old.old.items c.requires.size_fits.stream c.requires.large c.requires.small c.allocator.ensures c.content_in-start.ensures.start c.content_in-start.ensures.len
     c.in_ok-old.ensures.whole wanted v change)))))
 
 pub returns-in_err-content-clause-spares : goal.returns-in_err-content-clause-spares
@@ -138,7 +138,7 @@ returns-in_err-content-clause-spares g c told = record {
   others = λ v change.
       let first = c.reserve.ensures.unchanged in
       let still = subst (λ (m : MiniState). IsStill m c.taken_from_sectors.new.mini) first c.taken_from_sectors.ensures.reads.still in
-      still-kept v c.args.mini.now c.taken_from_sectors.new.mini c.args.entry change c.requires.stream still (c.taken_from_sectors.ensures.reads.bytes told ∙ ap bytes_of first);
+      still-kept v c.args.mini.now c.taken_from_sectors.new.mini c.args.entry change c.requires.size_fits.stream still (c.taken_from_sectors.ensures.reads.bytes told ∙ ap bytes_of first);
   header =
       let first = c.reserve.ensures.unchanged in
       bytes-keep-header c.args.mini.now c.taken_from_sectors.new.mini (c.taken_from_sectors.ensures.reads.bytes told ∙ ap bytes_of first);
@@ -151,7 +151,7 @@ carry_to_minis-requires-clause-some g c =
     let found = subst (λ (l : List ℕ). IsWholeChain c.allocator.result.now.tables.version c.allocator.result.now.tables.fat c.allocator.result.now.file.len
     c.content_in-start.result.0 c.content_in-start.result.1 l) (sym c.deref-3.ensures.value) c.in_ok-old.ensures.whole in
     leave-some c.args.mini.now c.args.mini.now c.args.mini.now c.args.entry c.args.size c.div_ceil-count.result c.content_in-start.result.0 c.content_in-start.result.1
-    c.allocator.result.now c.deref-3.result.now c.requires.stream c.requires.large c.requires.small c.allocator.ensures c.content_in-start.ensures.start c.content_in-start.ensures.len
+    c.allocator.result.now c.deref-3.result.now c.requires.size_fits.stream c.requires.large c.requires.small c.allocator.ensures c.content_in-start.ensures.start c.content_in-start.ensures.len
     found wanted
 
 pub carry_to_minis-requires-clause-enough : goal.carry_to_minis-requires-clause-enough
@@ -171,7 +171,7 @@ returns-in_err-carry_to_minis-clause-spares g c told = record {
       let first = c.reserve.ensures.unchanged in
       let same = c.in_ok-content.ensures.reads.same told ∙ first in
       leave-others c.args.mini.now c.taken_from_sectors.new.mini c.carry_to_minis.new.mini c.args.entry c.args.size c.div_ceil-count.result c.content_in-start.result.0 c.content_in-start.result.1
-      c.allocator.result.now c.deref-3.result.now c.requires.stream c.requires.large c.requires.small c.allocator.ensures c.content_in-start.ensures.start c.content_in-start.ensures.len
+      c.allocator.result.now c.deref-3.result.now c.requires.size_fits.stream c.requires.large c.requires.small c.allocator.ensures c.content_in-start.ensures.start c.content_in-start.ensures.len
       found wanted same (c.carry_to_minis.ensures.spares told)
       (λ w held apart unnamed. c.carry_to_minis.ensures.mini_spares told w held apart unnamed) v change;
   header =
@@ -211,7 +211,7 @@ returns-in_err-carry_to_minis-clause-err g c =
     let p = err_from_is_err_and c.from_residual-in_err-carry_to_minis.result c.from_residual-in_err-carry_to_minis.ensures.1 in
     rw (p.1, p.2) (refused-as _ _ _ _ _ _ _ _
     (λ none told v change. leave-asked c.args.mini.now c.taken_from_sectors.new.mini c.carry_to_minis.new.mini c.args.entry c.args.size c.div_ceil-count.result c.content_in-start.result.0 c.content_in-start.result.1
-    c.allocator.result.now c.deref-3.result.now c.requires.stream c.requires.large c.requires.small c.allocator.ensures c.content_in-start.ensures.start c.content_in-start.ensures.len
+    c.allocator.result.now c.deref-3.result.now c.requires.size_fits.stream c.requires.large c.requires.small c.allocator.ensures c.content_in-start.ensures.start c.content_in-start.ensures.len
     found wanted (λ m. ⊥) (c.in_ok-content.ensures.reads.same told ∙ first) v change (λ held apart unnamed. none told v held apart unnamed))
     (λ u. u) (λ no. absurd no) (λ u. u) c.in_err-carry_to_minis.field-0.0 c.in_err-carry_to_minis.ensures.err)
 
@@ -225,7 +225,7 @@ returns-clause-turned g c told = record {
       let same = c.in_ok-content.ensures.reads.same told ∙ first in
       subst (λ n. Turns c.args.mini.now c.carry_to_minis.new.mini c.args.entry c.args.size n) (sym (c.first_number.ensures ∙ ap first_or_end c.deref-5.ensures.value))
       (leave-turned c.args.mini.now c.taken_from_sectors.new.mini c.carry_to_minis.new.mini c.args.entry c.args.size c.div_ceil-count.result c.content_in-start.result.0 c.content_in-start.result.1
-      c.allocator.result.now c.deref-3.result.now c.requires.stream c.requires.large c.requires.small c.allocator.ensures c.content_in-start.ensures.start c.content_in-start.ensures.len
+      c.allocator.result.now c.deref-3.result.now c.requires.size_fits.stream c.requires.large c.requires.small c.allocator.ensures c.content_in-start.ensures.start c.content_in-start.ensures.len
       found wanted
       c.carry_to_minis.new.ids.items c.deref-4.result.now c.in_ok-content.content.items c.deref-2.result.now c.reserve.new.self same first
       (c.deref-2.ensures.value ∙ sym c.deref-3.ensures.value) c.deref-4.ensures.value v change c.in_ok-carry_to_minis.ensures.carried c.in_ok-carry_to_minis.ensures.chain
@@ -237,7 +237,7 @@ returns-clause-turned g c told = record {
       let first = c.reserve.ensures.unchanged in
       let same = c.in_ok-content.ensures.reads.same told ∙ first in
       leave-asked c.args.mini.now c.taken_from_sectors.new.mini c.carry_to_minis.new.mini c.args.entry c.args.size c.div_ceil-count.result c.content_in-start.result.0 c.content_in-start.result.1
-      c.allocator.result.now c.deref-3.result.now c.requires.stream c.requires.large c.requires.small c.allocator.ensures c.content_in-start.ensures.start c.content_in-start.ensures.len
+      c.allocator.result.now c.deref-3.result.now c.requires.size_fits.stream c.requires.large c.requires.small c.allocator.ensures c.content_in-start.ensures.start c.content_in-start.ensures.len
       found wanted (λ m. HoldsMini v c.carry_to_minis.new.mini) same v change (c.in_ok-carry_to_minis.ensures.holds told v);
   snug_mini = λ v change snug.
       let wanted : c.div_ceil-count.result ≡ rounded_up c.args.size 64 = omega (arith, c.div_ceil-count.ensures) in
@@ -246,7 +246,7 @@ returns-clause-turned g c told = record {
       let first = c.reserve.ensures.unchanged in
       let same = c.in_ok-content.ensures.reads.same told ∙ first in
       leave-asked c.args.mini.now c.taken_from_sectors.new.mini c.carry_to_minis.new.mini c.args.entry c.args.size c.div_ceil-count.result c.content_in-start.result.0 c.content_in-start.result.1
-      c.allocator.result.now c.deref-3.result.now c.requires.stream c.requires.large c.requires.small c.allocator.ensures c.content_in-start.ensures.start c.content_in-start.ensures.len
+      c.allocator.result.now c.deref-3.result.now c.requires.size_fits.stream c.requires.large c.requires.small c.allocator.ensures c.content_in-start.ensures.start c.content_in-start.ensures.len
       found wanted (λ m. IsSnugMini m → IsSnugMini c.carry_to_minis.new.mini) same v change (c.in_ok-carry_to_minis.ensures.snug_mini told v) snug;
   tidy = λ v change. record {
     counted =
@@ -259,7 +259,7 @@ returns-clause-turned g c told = record {
         let first = c.reserve.ensures.unchanged in
         let same = c.in_ok-content.ensures.reads.same told ∙ first in
         leave-asked c.args.mini.now c.taken_from_sectors.new.mini c.carry_to_minis.new.mini c.args.entry c.args.size c.div_ceil-count.result c.content_in-start.result.0 c.content_in-start.result.1
-        c.allocator.result.now c.deref-3.result.now c.requires.stream c.requires.large c.requires.small c.allocator.ensures c.content_in-start.ensures.start c.content_in-start.ensures.len
+        c.allocator.result.now c.deref-3.result.now c.requires.size_fits.stream c.requires.large c.requires.small c.allocator.ensures c.content_in-start.ensures.start c.content_in-start.ensures.len
         found wanted (λ m. IsOfWholeSectors (table_of m) → IsOfWholeSectors (table_of c.carry_to_minis.new.mini)) same v change (c.in_ok-carry_to_minis.ensures.whole told v) was;
   };
 }
@@ -273,7 +273,7 @@ returns-clause-spares g c told = record {
       let first = c.reserve.ensures.unchanged in
       let same = c.in_ok-content.ensures.reads.same told ∙ first in
       leave-others c.args.mini.now c.taken_from_sectors.new.mini c.carry_to_minis.new.mini c.args.entry c.args.size c.div_ceil-count.result c.content_in-start.result.0 c.content_in-start.result.1
-      c.allocator.result.now c.deref-3.result.now c.requires.stream c.requires.large c.requires.small c.allocator.ensures c.content_in-start.ensures.start c.content_in-start.ensures.len
+      c.allocator.result.now c.deref-3.result.now c.requires.size_fits.stream c.requires.large c.requires.small c.allocator.ensures c.content_in-start.ensures.start c.content_in-start.ensures.len
       found wanted same (c.carry_to_minis.ensures.spares told)
       (λ w held apart unnamed. c.carry_to_minis.ensures.mini_spares told w held apart unnamed) v change;
   header =
@@ -301,6 +301,6 @@ returns-clause-enough g c lacking =
     let wanted : c.div_ceil-count.result ≡ rounded_up c.args.size 64 = omega (arith, c.div_ceil-count.ensures) in
     let long : c.len.result ≡ length c.in_ok-old.old.items = omega (arith, c.len.ensures, c.in_ok-old.old.ok.0) in
     let lacks = leave-lacks c.args.mini.now c.args.mini.now c.args.mini.now c.args.entry c.args.size c.div_ceil-count.result c.content_in-start.result.0 c.content_in-start.result.1
-    c.allocator.result.now c.in_ok-old.old.items c.requires.stream c.requires.large c.requires.small c.allocator.ensures c.content_in-start.ensures.start c.content_in-start.ensures.len
+    c.allocator.result.now c.in_ok-old.old.items c.requires.size_fits.stream c.requires.large c.requires.small c.allocator.ensures c.content_in-start.ensures.start c.content_in-start.ensures.len
     c.in_ok-old.ensures.whole wanted in
     c.in_ok-reserve.ensures.enough (subst (λ n. IsTooFewAfterFor c.args.mini.now n c.div_ceil-count.result) (sym long) (lacks.0 lacking))

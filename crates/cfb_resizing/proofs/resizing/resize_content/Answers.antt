@@ -1,4 +1,5 @@
-use Rattle.std.proofs.Common.{refl, ◌≡◌, ◌<◌, ◌≤◌, ℕ, List, false, true, sym, ◌∙◌, ap, subst, length, arith}
+use Rattle.std.proofs.lemmas.Grind.{common_steps}
+use Rattle.std.proofs.Common.{refl, ◌≡◌, ◌<◌, ◌≤◌, ℕ, List, false, true, sym, ◌∙◌, ap, subst, length, arith, rules}
 use Rattle.std.specs.Prelude.{IsTrue, OnOk}
 use Rattle.std.proofs.lemmas.Result.{err_from_is_err_and, on_ok_weaker}
 use Rattle.cfb_format.specs.declared.validate.Validation.{Validation}
@@ -39,7 +40,7 @@ use Rattle.cfb_tables.proofs.Refusals.{refused-as}
 use Rattle.cfb_resizing.proofs.cfb_mini_changes.MiniExtended.{invalid-refused, limits-then}
 
 pub content_in-len-requires : goal.content_in-len-requires
-content_in-len-requires g c = record { inside = stream-inside c.args.mini.now c.args.entry c.requires.stream }
+content_in-len-requires g c = record { inside = stream-inside c.args.mini.now c.args.entry c.requires.size_fits.stream }
 
 -- ---- the length that it has
 
@@ -48,7 +49,7 @@ returns-then-size-len-clause-content g c told = record {
   content = λ v change.
       let s = c.args.mini.now in
       resized-same (content_of s (entry_at (entries_of s) c.args.entry)) c.args.size
-      (whole-of v s c.args.entry change c.requires.stream ∙ sym c.content_in-len.ensures.len ∙ sym c.if-size-len.true);
+      (whole-of v s c.args.entry change c.requires.size_fits.stream ∙ sym c.content_in-len.ensures.len ∙ sym c.if-size-len.true);
   wiped = λ v change m mine out. absurd (out mine);
   erased = λ v change m mine out other. absurd (out mine);
   stays_full = λ v change more leaves none. none;
@@ -63,25 +64,27 @@ returns-then-size-len-clause-trimmed g c = record {
   empty = λ zero some. absurd (omega (arith, zero, some, c.content_in-len.ensures.len, c.if-size-len.true));
 }
 
-pub returns-then-size-len-clause-moves : goal.returns-then-size-len-clause-moves
-returns-then-size-len-clause-moves g c = moves-same c.args.mini.now c.args.entry
-
-pub returns-then-size-len-clause-spares : goal.returns-then-size-len-clause-spares
-returns-then-size-len-clause-spares g c told = spares-same c.args.mini.now c.args.entry
-
-pub returns-then-size-len-clause-changed : goal.returns-then-size-len-clause-changed
-returns-then-size-len-clause-changed g c told = changed-same c.args.mini.now c.args.entry c.requires.stream
-
-pub returns-then-size-len-clause-tight : goal.returns-then-size-len-clause-tight
-returns-then-size-len-clause-tight g c = same-tight c.args.mini.now c.args.mini.now refl
+pub returns-then-size-len-clause-changes : goal.returns-then-size-len-clause-changes
+returns-then-size-len-clause-changes g c = record {
+  moves = moves-same c.args.mini.now c.args.entry;
+  spares = λ told. spares-same c.args.mini.now c.args.entry;
+  changed = λ told. changed-same c.args.mini.now c.args.entry c.requires.size_fits.stream;
+  tight = same-tight c.args.mini.now c.args.mini.now refl;
+  still = first_of (search rules, grind (arith, common_steps));
+  counts = first_of (search rules, grind (arith, common_steps));
+}
 
 -- ---- no slot for each entry
 
-pub returns-then-not-is_placed-clause-moves : goal.returns-then-not-is_placed-clause-moves
-returns-then-not-is_placed-clause-moves g c = moves-same c.args.mini.now c.args.entry
-
-pub returns-then-not-is_placed-clause-spares : goal.returns-then-not-is_placed-clause-spares
-returns-then-not-is_placed-clause-spares g c told = spares-same c.args.mini.now c.args.entry
+pub returns-then-not-is_placed-clause-changes : goal.returns-then-not-is_placed-clause-changes
+returns-then-not-is_placed-clause-changes g c = record {
+  moves = moves-same c.args.mini.now c.args.entry;
+  spares = λ told. spares-same c.args.mini.now c.args.entry;
+  changed = first_of (search rules, grind (arith, common_steps));
+  tight = first_of (search rules, grind (arith, common_steps));
+  still = first_of (search rules, grind (arith, common_steps));
+  counts = first_of (search rules, grind (arith, common_steps));
+}
 
 pub returns-then-not-is_placed-clause-first : goal.returns-then-not-is_placed-clause-first
 returns-then-not-is_placed-clause-first g c told none = kept-after c.args.mini.now c.args.mini.now c.unplaced.result refl
@@ -98,8 +101,15 @@ returns-then-not-is_placed-clause-err g c =
 
 -- ---- the content was refused its length
 
-pub returns-in_err-start-clause-moves : goal.returns-in_err-start-clause-moves
-returns-in_err-start-clause-moves g c = around-moves c.args.mini.now c.turn.new.mini c.args.entry c.requires.stream c.turn.ensures.around
+pub returns-in_err-start-clause-changes : goal.returns-in_err-start-clause-changes
+returns-in_err-start-clause-changes g c = record {
+  moves = around-moves c.args.mini.now c.turn.new.mini c.args.entry c.requires.size_fits.stream c.turn.ensures.around;
+  spares = first_of (search rules, grind (arith, common_steps));
+  changed = first_of (search rules, grind (arith, common_steps));
+  tight = first_of (search rules, grind (arith, common_steps));
+  still = first_of (search rules, grind (arith, common_steps));
+  counts = first_of (search rules, grind (arith, common_steps));
+}
 
 pub returns-in_err-start-clause-err : goal.returns-in_err-start-clause-err
 returns-in_err-start-clause-err g c =
@@ -118,7 +128,7 @@ name_content-requires-clause-stream g c =
     let s = c.args.mini.now in
     let i = c.args.entry in
     let around = c.turn.ensures.around in
-    stream-stays s c.turn.new.mini i i around.limits.cases (moved-root-moved s c.turn.new.mini i (stream-is-no-root s i c.requires.stream) around.entries) c.requires.stream
+    stream-stays s c.turn.new.mini i i around.limits.cases (moved-root-moved s c.turn.new.mini i (stream-is-no-root s i c.requires.size_fits.stream) around.entries) c.requires.size_fits.stream
 
 pub name_content-requires-clause-placed : goal.name_content-requires-clause-placed
 name_content-requires-clause-placed g c =
@@ -130,7 +140,7 @@ named : (g : _) (c : goal.After-name_content g) → IsTrue g.F.ReadMedium.tells 
     → WasNamed validation c.args.mini.now c.turn.new.mini c.name_content.new.mini c.args.entry
 named g c told validation change = record {
   changeable = change;
-  stream = c.requires.stream;
+  stream = c.requires.size_fits.stream;
   around = c.turn.ensures.around;
   others = (c.turn.ensures.spares told).others validation change;
   held = (c.in_ok-start.ensures.turned told).holds validation change;
@@ -146,7 +156,7 @@ held-then : (g : _) (c : goal.After-name_content g) → IsTrue g.F.ReadMedium.te
     → OnOk c.name_content.result (HoldsMini validation c.name_content.new.mini)
 held-then g c told validation change =
     c.name_content.ensures.holds told validation ((c.in_ok-start.ensures.turned told).holds validation change)
-    (subst (λ (v : Version). c.args.size ≤ max_stream_len v) (sym c.turn.ensures.around.limits.version) c.requires.limit)
+    (subst (λ (v : Version). c.args.size ≤ max_stream_len v) (sym c.turn.ensures.around.limits.version) c.requires.size_fits.limit)
 
 turned-then : (g : _) (c : goal.After-name_content g) → IsTrue g.F.ReadMedium.tells → (validation : Validation) → IsChangeable validation c.args.mini.now
     → OnOk c.name_content.result (HoldsMini validation c.name_content.new.mini × WasTurned c.args.mini.now c.name_content.new.mini c.args.entry c.args.size)
@@ -158,12 +168,53 @@ turned-then g c told validation change = on_both _ _ _ c.name_content.result
     ))
     (held-then g c told validation change) c.name_content.ensures.named
 
-pub returns-clause-moves : goal.returns-clause-moves
-returns-clause-moves g c = record {
-  entries =
-      moves-then c.args.mini.now c.turn.new.mini c.name_content.new.mini c.args.entry c.requires.stream c.turn.ensures.around c.name_content.ensures.entries;
-  limits = limits-then c.args.mini.now c.turn.new.mini c.name_content.new.mini c.turn.ensures.around.limits c.name_content.ensures.limits;
-  directory = c.name_content.ensures.system.directory ∙ c.turn.ensures.around.directory;
+pub returns-clause-changes : goal.returns-clause-changes
+returns-clause-changes g c = record {
+  moves = (
+      record {
+    entries =
+        moves-then c.args.mini.now c.turn.new.mini c.name_content.new.mini c.args.entry c.requires.size_fits.stream c.turn.ensures.around c.name_content.ensures.entries;
+    limits = limits-then c.args.mini.now c.turn.new.mini c.name_content.new.mini c.turn.ensures.around.limits c.name_content.ensures.limits;
+    directory = c.name_content.ensures.system.directory ∙ c.turn.ensures.around.directory;
+  }
+  );
+  spares = λ told. (
+      record {
+    others = λ v change.
+        named-keeps-others v c.args.mini.now c.turn.new.mini c.name_content.new.mini c.args.entry (named g c told v change);
+    header =
+        header-then c.args.mini.now c.turn.new.mini c.name_content.new.mini c.turn.ensures.around.limits.version (c.turn.ensures.spares told).header
+        (spared-keeps-header _ c.turn.new.mini c.name_content.new.mini (c.name_content.ensures.spares told));
+    unwritten = λ calm. absurd (not-both (table_of c.name_content.new.mini).file.begun c.name_content.ensures.begun calm);
+  }
+  );
+  changed = λ told. (
+      let s = c.args.mini.now in
+      let new = c.name_content.new.mini in
+      let i = c.args.entry in
+      all-changed c.name_content.result s new i
+      (λ v change. on_both _ _ _ c.name_content.result
+      (λ t at. changed-is-changeable v i s new (named-changes v s c.turn.new.mini new i (named g c told v change) t.0) t.1.used t.1.chain
+      (turned-whole s new i c.args.size t.1 (ap (λ e. e.stream_len) at)))
+      (turned-then g c told v change) c.name_content.ensures.named)
+      (λ v change. on_ok_weaker c.name_content.result
+      (λ t. changed-loses-none v i s new (named-changes v s c.turn.new.mini new i (named g c told v change) t.0) t.1.used) (turned-then g c told v change))
+      (λ v change. on_ok_weaker c.name_content.result (λ t. t.1.sized) (turned-then g c told v change))
+      (λ v change snug. kept-is-snug-mini c.turn.new.mini new c.name_content.ensures.limits.version c.name_content.ensures.mini
+      (ap (λ (e : Entry). e.start_sector) c.name_content.ensures.root) (ap (λ (e : Entry). e.stream_len) c.name_content.ensures.root)
+      ((c.in_ok-start.ensures.turned told).snug_mini v change snug))
+      (λ v change frees. kept-is-snug-mini c.turn.new.mini new c.name_content.ensures.limits.version c.name_content.ensures.mini
+      (ap (λ (e : Entry). e.start_sector) c.name_content.ensures.root) (ap (λ (e : Entry). e.stream_len) c.name_content.ensures.root)
+      (turned-frees s c.turn.new.mini i c.args.size c.in_ok-start.start (frees-before s c.turn.new.mini new c.name_content.ensures.mini.minifat frees)
+      ((c.in_ok-start.ensures.turned told).turned v change)))
+      (λ v change. on_ok_weaker c.name_content.result
+      (λ held. named-tidy v s c.turn.new.mini new ((c.in_ok-start.ensures.turned told).holds v change) held c.name_content.ensures.system (c.name_content.ensures.header told)
+      (c.name_content.ensures.spares told) ((c.in_ok-start.ensures.turned told).tidy v change))
+      (held-then g c told v change))
+  );
+  tight = always-on-ok c.name_content.result (tight-then c.args.mini.now c.turn.new.mini c.name_content.new.mini c.in_ok-start.ensures.tight c.name_content.ensures.system.tables);
+  still = first_of (search rules, grind (arith, common_steps));
+  counts = first_of (search rules, grind (arith, common_steps));
 }
 
 pub returns-clause-first : goal.returns-clause-first
@@ -211,45 +262,6 @@ returns-clause-content g c told =
     (λ v change longer stays none. kept-minis-full c.turn.new.mini new c.name_content.ensures.mini
     (turned-minis-full s c.turn.new.mini c.args.entry c.args.size c.in_ok-start.start longer stays ((c.in_ok-start.ensures.turned told).turned v change) none))
     (λ v change more. room-left g c told v change (omega (arith, more, c.content_in-len.ensures.len, c.if-size-len.false)))
-
-pub returns-clause-spares : goal.returns-clause-spares
-returns-clause-spares g c told = record {
-  others = λ v change.
-      named-keeps-others v c.args.mini.now c.turn.new.mini c.name_content.new.mini c.args.entry (named g c told v change);
-  header =
-      header-then c.args.mini.now c.turn.new.mini c.name_content.new.mini c.turn.ensures.around.limits.version (c.turn.ensures.spares told).header
-      (spared-keeps-header _ c.turn.new.mini c.name_content.new.mini (c.name_content.ensures.spares told));
-  unwritten = λ calm. absurd (not-both (table_of c.name_content.new.mini).file.begun c.name_content.ensures.begun calm);
-}
-
-pub returns-clause-changed : goal.returns-clause-changed
-returns-clause-changed g c told =
-    let s = c.args.mini.now in
-    let new = c.name_content.new.mini in
-    let i = c.args.entry in
-    all-changed c.name_content.result s new i
-    (λ v change. on_both _ _ _ c.name_content.result
-    (λ t at. changed-is-changeable v i s new (named-changes v s c.turn.new.mini new i (named g c told v change) t.0) t.1.used t.1.chain
-    (turned-whole s new i c.args.size t.1 (ap (λ e. e.stream_len) at)))
-    (turned-then g c told v change) c.name_content.ensures.named)
-    (λ v change. on_ok_weaker c.name_content.result
-    (λ t. changed-loses-none v i s new (named-changes v s c.turn.new.mini new i (named g c told v change) t.0) t.1.used) (turned-then g c told v change))
-    (λ v change. on_ok_weaker c.name_content.result (λ t. t.1.sized) (turned-then g c told v change))
-    (λ v change snug. kept-is-snug-mini c.turn.new.mini new c.name_content.ensures.limits.version c.name_content.ensures.mini
-    (ap (λ (e : Entry). e.start_sector) c.name_content.ensures.root) (ap (λ (e : Entry). e.stream_len) c.name_content.ensures.root)
-    ((c.in_ok-start.ensures.turned told).snug_mini v change snug))
-    (λ v change frees. kept-is-snug-mini c.turn.new.mini new c.name_content.ensures.limits.version c.name_content.ensures.mini
-    (ap (λ (e : Entry). e.start_sector) c.name_content.ensures.root) (ap (λ (e : Entry). e.stream_len) c.name_content.ensures.root)
-    (turned-frees s c.turn.new.mini i c.args.size c.in_ok-start.start (frees-before s c.turn.new.mini new c.name_content.ensures.mini.minifat frees)
-    ((c.in_ok-start.ensures.turned told).turned v change)))
-    (λ v change. on_ok_weaker c.name_content.result
-    (λ held. named-tidy v s c.turn.new.mini new ((c.in_ok-start.ensures.turned told).holds v change) held c.name_content.ensures.system (c.name_content.ensures.header told)
-    (c.name_content.ensures.spares told) ((c.in_ok-start.ensures.turned told).tidy v change))
-    (held-then g c told v change))
-
-pub returns-clause-tight : goal.returns-clause-tight
-returns-clause-tight g c =
-    always-on-ok c.name_content.result (tight-then c.args.mini.now c.turn.new.mini c.name_content.new.mini c.in_ok-start.ensures.tight c.name_content.ensures.system.tables)
 
 pub returns-clause-enough : goal.returns-clause-enough
 returns-clause-enough g c differs validation held =

@@ -4,7 +4,7 @@ use Rattle.cfb_resizing.proofs.CutShort.{cut-trims, grown-trims, mini-cut-trims,
 use Rattle.cfb_resizing.proofs.resizing.turn.Goals as goal
 
 pub content_in-len-requires : goal.content_in-len-requires
-content_in-len-requires g c = record { inside = stream-inside c.args.mini.now c.args.entry c.requires.stream }
+content_in-len-requires g c = record { inside = stream-inside c.args.mini.now c.args.entry c.requires.size_fits.stream }
 
 -- ---- a stream in sectors
 

@@ -20,11 +20,11 @@ use Rattle.cfb_volume.proofs.Refusals.{file-after, resize-break}
 use Rattle.cfb_volume.proofs.volume.Volume.resize.Goals as goal
 use Rattle.cfb_volume.proofs.InsertedObjects.{ended}
 
-pub resize_content-requires-clause-stream : goal.resize_content-requires-clause-stream
-resize_content-requires-clause-stream g c = subst (λ (f : FileState). IsStreamOf f.base c.args.entry) (sym c.self.view_is) c.requires.can_resize.stream
-
-pub resize_content-requires-clause-limit : goal.resize_content-requires-clause-limit
-resize_content-requires-clause-limit g c = subst (λ (f : FileState). c.args.len ≤ max_stream_len (version_of f.base)) (sym c.self.view_is) c.requires.can_resize.limit
+pub resize_content-requires : goal.resize_content-requires
+resize_content-requires g c = record { size_fits = record {
+  stream = subst (λ (f : FileState). IsStreamOf f.base c.args.entry) (sym c.self.view_is) c.requires.can_resize.stream;
+  limit = subst (λ (f : FileState). c.args.len ≤ max_stream_len (version_of f.base)) (sym c.self.view_is) c.requires.can_resize.limit;
+} }
 
 -- ---- it was refused
 
@@ -32,7 +32,7 @@ refused : (g : _) (c : goal.After-from_residual g) → IsTrue g.F.ReadMedium.tel
 refused g c told =
     let e = c.resize_content.ensures in
     subst (λ (f : FileState). WasRefused f.base c.resize_content.new.mini c.args.entry) c.self.view_is
-    (record { moves = e.moves; spares = e.spares told; still = c.in_err-resize_content.ensures.still })
+    (record { moves = e.changes.moves; spares = e.changes.spares told; still = c.in_err-resize_content.ensures.changes.still })
 
 pub returns-in_err-resize_content-clause-only : goal.returns-in_err-resize_content-clause-only
 returns-in_err-resize_content-clause-only g c = record {
@@ -40,10 +40,10 @@ returns-in_err-resize_content-clause-only g c = record {
       let mid = c.resize_content.new.mini in
       refused-stream c.args.self.now mid c.args.entry c.self.inside.is_sound c.self.inside.buffer_limit
       (ap (λ (f : FileState). f.is_sound) c.self.view_is) (ap (λ (f : FileState). f.buffer_limit) c.self.view_is)
-      (subst (λ (f : FileState). KeepsLimits f.base mid) c.self.view_is c.resize_content.ensures.moves.limits)
-      (subst (λ (f : FileState). MovesContent f.base mid c.args.entry) c.self.view_is c.resize_content.ensures.moves.entries) c.requires.can_resize.stream
+      (subst (λ (f : FileState). KeepsLimits f.base mid) c.self.view_is c.resize_content.ensures.changes.moves.limits)
+      (subst (λ (f : FileState). MovesContent f.base mid c.args.entry) c.self.view_is c.resize_content.ensures.changes.moves.entries) c.requires.can_resize.stream
       );
-  entries = subst (λ (f : FileState). MovesContent f.base c.resize_content.new.mini c.args.entry) c.self.view_is c.resize_content.ensures.moves.entries;
+  entries = subst (λ (f : FileState). MovesContent f.base c.resize_content.new.mini c.args.entry) c.self.view_is c.resize_content.ensures.changes.moves.entries;
   changes = λ told held. (
       refused-changes c.args.self.now c.resize_content.new.mini c.args.entry c.self.inside.is_sound c.self.inside.buffer_limit
       (ap (λ (f : FileState). f.is_sound) c.self.view_is) (ap (λ (f : FileState). f.buffer_limit) c.self.view_is)
@@ -59,10 +59,10 @@ returns-in_err-resize_content-clause-ends g c =
           let mid = c.resize_content.new.mini in
           refused-setting c.args.self.now mid c.args.entry c.self.inside.is_sound c.self.inside.buffer_limit
           (ap (λ (f : FileState). f.is_sound) c.self.view_is) (ap (λ (f : FileState). f.buffer_limit) c.self.view_is)
-          (subst (λ (f : FileState). KeepsLimits f.base mid) c.self.view_is c.resize_content.ensures.moves.limits)
+          (subst (λ (f : FileState). KeepsLimits f.base mid) c.self.view_is c.resize_content.ensures.changes.moves.limits)
           );
       ended = first_of (search rules, grind (arith, common_steps));
-      in_memory = rw p.1 (still-in-memory c.self.inside.mini c.resize_content.new.mini c.self.inside.is_sound c.self.inside.buffer_limit c.args.self.now c.self.view_is c.in_err-resize_content.ensures.still);
+      in_memory = rw p.1 (still-in-memory c.self.inside.mini c.resize_content.new.mini c.self.inside.is_sound c.self.inside.buffer_limit c.args.self.now c.self.view_is c.in_err-resize_content.ensures.changes.still);
       agrees = λ told held. (
           refused-agrees c.args.self.now c.resize_content.new.mini c.args.entry c.self.inside.is_sound c.self.inside.buffer_limit
           (ap (λ (f : FileState). f.is_sound) c.self.view_is) (ap (λ (f : FileState). f.buffer_limit) c.self.view_is)
@@ -125,7 +125,7 @@ changed g c told =
     let i = c.args.entry in
     let at-end = λ (was : StartsAtEndIfEmpty s i). sized-at-end s c.resize_content.new.mini i c.args.len ok.len (λ same. ap entries_of (ok.none same).1) ok.trimmed was in
     subst (λ (f : FileState). IsStreamOf f.base c.args.entry → WentWell f.base c.resize_content.new.mini c.args.entry) c.self.view_is
-    (λ at. record { stream = at; moves = e.moves; spares = e.spares told; changed = ok.changed told; tight = ok.tight; at_end = at-end }) c.requires.can_resize.stream
+    (λ at. record { stream = at; moves = e.changes.moves; spares = e.changes.spares told; changed = ok.changes.changed told; tight = ok.changes.tight; at_end = at-end }) c.requires.can_resize.stream
 
 pub returns-clause-resized : goal.returns-clause-resized
 returns-clause-resized g c =
@@ -163,14 +163,14 @@ returns-clause-only g c =
           subst (λ (s : MiniState). IsStreamOf s c.args.entry) (sym c.end_change.ensures)
           (ended-stream c.args.self.now mid c.args.entry c.self.inside.is_sound c.self.inside.buffer_limit
           (ap (λ (f : FileState). f.is_sound) c.self.view_is) (ap (λ (f : FileState). f.buffer_limit) c.self.view_is)
-          (subst (λ (f : FileState). KeepsLimits f.base mid) c.self.view_is c.resize_content.ensures.moves.limits)
-          (subst (λ (f : FileState). MovesContent f.base mid c.args.entry) c.self.view_is c.resize_content.ensures.moves.entries) c.requires.can_resize.stream)
+          (subst (λ (f : FileState). KeepsLimits f.base mid) c.self.view_is c.resize_content.ensures.changes.moves.limits)
+          (subst (λ (f : FileState). MovesContent f.base mid c.args.entry) c.self.view_is c.resize_content.ensures.changes.moves.entries) c.requires.can_resize.stream)
           );
       entries = (
           subst (λ (s : MiniState). MovesContent c.args.self.now.base s c.args.entry) (sym c.end_change.ensures)
           (ended-entries c.args.self.now mid c.args.entry c.self.inside.is_sound c.self.inside.buffer_limit
           (ap (λ (f : FileState). f.is_sound) c.self.view_is) (ap (λ (f : FileState). f.buffer_limit) c.self.view_is)
-          (subst (λ (f : FileState). MovesContent f.base mid c.args.entry) c.self.view_is c.resize_content.ensures.moves.entries))
+          (subst (λ (f : FileState). MovesContent f.base mid c.args.entry) c.self.view_is c.resize_content.ensures.changes.moves.entries))
           );
       changes = λ told held. (
           subst (λ (s : MiniState). ChangesOneContent c.args.entry c.args.self.now (file_on c.self.inside.is_sound c.self.inside.buffer_limit s)) (sym c.end_change.ensures)
@@ -187,7 +187,7 @@ returns-clause-ends g c = record {
       subst (λ (s : MiniState). SameSetting c.args.self.now (file_on c.self.inside.is_sound c.self.inside.buffer_limit s)) (sym c.end_change.ensures)
       (ended-setting c.args.self.now mid c.args.entry c.self.inside.is_sound c.self.inside.buffer_limit
       (ap (λ (f : FileState). f.is_sound) c.self.view_is) (ap (λ (f : FileState). f.buffer_limit) c.self.view_is)
-      (subst (λ (f : FileState). KeepsLimits f.base mid) c.self.view_is c.resize_content.ensures.moves.limits))
+      (subst (λ (f : FileState). KeepsLimits f.base mid) c.self.view_is c.resize_content.ensures.changes.moves.limits))
       );
   ended = ap (λ (s : MiniState). (table_of s).file.begun) c.end_change.ensures;
   in_memory = first_of (search rules, grind (arith, common_steps));

@@ -22,14 +22,14 @@ use Rattle.cfb_volume.proofs.Refusals.{why-full, write-break}
 use Rattle.cfb_volume.proofs.volume.Volume.write.Goals as goal
 use Rattle.cfb_volume.proofs.InsertedObjects.{ended}
 
-pub put_content-requires-clause-stream : goal.put_content-requires-clause-stream
-put_content-requires-clause-stream g c = subst (λ (f : FileState). IsStreamOf f.base c.args.entry) (sym c.self.view_is) c.requires.can_write.stream
+pub put_content-requires-clause-size_fits : goal.put_content-requires-clause-size_fits
+put_content-requires-clause-size_fits g c = record {
+  stream = subst (λ (f : FileState). IsStreamOf f.base c.args.entry) (sym c.self.view_is) c.requires.can_write.stream;
+  limit = subst (λ (f : FileState). c.args.at + length c.args.bytes.now ≤ max_stream_len (version_of f.base)) (sym c.self.view_is) c.requires.can_write.fits;
+}
 
 pub put_content-requires-clause-inside : goal.put_content-requires-clause-inside
 put_content-requires-clause-inside g c = subst (λ (f : FileState). c.args.at ≤ len_of f.base c.args.entry) (sym c.self.view_is) c.requires.can_write.inside
-
-pub put_content-requires-clause-limit : goal.put_content-requires-clause-limit
-put_content-requires-clause-limit g c = subst (λ (f : FileState). c.args.at + length c.args.bytes.now ≤ max_stream_len (version_of f.base)) (sym c.self.view_is) c.requires.can_write.fits
 
 -- ---- it was refused
 
@@ -37,7 +37,7 @@ refused : (g : _) (c : goal.After-from_residual g) → IsTrue g.F.ReadMedium.tel
 refused g c told =
     let e = c.put_content.ensures in
     subst (λ (f : FileState). WasRefused f.base c.put_content.new.mini c.args.entry) c.self.view_is
-    (record { moves = e.moves; spares = e.spares told; still = c.in_err-count.ensures.still })
+    (record { moves = e.changes.moves; spares = e.changes.spares told; still = c.in_err-count.ensures.changes.still })
 
 pub returns-in_err-count-clause-only : goal.returns-in_err-count-clause-only
 returns-in_err-count-clause-only g c = record {
@@ -45,10 +45,10 @@ returns-in_err-count-clause-only g c = record {
       let mid = c.put_content.new.mini in
       refused-stream c.args.self.now mid c.args.entry c.self.inside.is_sound c.self.inside.buffer_limit
       (ap (λ (f : FileState). f.is_sound) c.self.view_is) (ap (λ (f : FileState). f.buffer_limit) c.self.view_is)
-      (subst (λ (f : FileState). KeepsLimits f.base mid) c.self.view_is c.put_content.ensures.moves.limits)
-      (subst (λ (f : FileState). MovesContent f.base mid c.args.entry) c.self.view_is c.put_content.ensures.moves.entries) c.requires.can_write.stream
+      (subst (λ (f : FileState). KeepsLimits f.base mid) c.self.view_is c.put_content.ensures.changes.moves.limits)
+      (subst (λ (f : FileState). MovesContent f.base mid c.args.entry) c.self.view_is c.put_content.ensures.changes.moves.entries) c.requires.can_write.stream
       );
-  entries = subst (λ (f : FileState). MovesContent f.base c.put_content.new.mini c.args.entry) c.self.view_is c.put_content.ensures.moves.entries;
+  entries = subst (λ (f : FileState). MovesContent f.base c.put_content.new.mini c.args.entry) c.self.view_is c.put_content.ensures.changes.moves.entries;
   changes = λ told held. (
       refused-changes c.args.self.now c.put_content.new.mini c.args.entry c.self.inside.is_sound c.self.inside.buffer_limit
       (ap (λ (f : FileState). f.is_sound) c.self.view_is) (ap (λ (f : FileState). f.buffer_limit) c.self.view_is)
@@ -64,10 +64,10 @@ returns-in_err-count-clause-ends g c =
           let mid = c.put_content.new.mini in
           refused-setting c.args.self.now mid c.args.entry c.self.inside.is_sound c.self.inside.buffer_limit
           (ap (λ (f : FileState). f.is_sound) c.self.view_is) (ap (λ (f : FileState). f.buffer_limit) c.self.view_is)
-          (subst (λ (f : FileState). KeepsLimits f.base mid) c.self.view_is c.put_content.ensures.moves.limits)
+          (subst (λ (f : FileState). KeepsLimits f.base mid) c.self.view_is c.put_content.ensures.changes.moves.limits)
           );
       ended = first_of (search rules, grind (arith, common_steps));
-      in_memory = rw p.1 (still-in-memory c.self.inside.mini c.put_content.new.mini c.self.inside.is_sound c.self.inside.buffer_limit c.args.self.now c.self.view_is c.in_err-count.ensures.still);
+      in_memory = rw p.1 (still-in-memory c.self.inside.mini c.put_content.new.mini c.self.inside.is_sound c.self.inside.buffer_limit c.args.self.now c.self.view_is c.in_err-count.ensures.changes.still);
       agrees = λ told held. (
           refused-agrees c.args.self.now c.put_content.new.mini c.args.entry c.self.inside.is_sound c.self.inside.buffer_limit
           (ap (λ (f : FileState). f.is_sound) c.self.view_is) (ap (λ (f : FileState). f.buffer_limit) c.self.view_is)
@@ -123,7 +123,7 @@ changed g c told =
     let longer : 0 < length c.args.bytes.now → 0 < len_of c.put_content.new.mini i = λ more. let len = ok.len in let some = ok.some more in omega (arith, len, some) in
     let at-end = λ (was : StartsAtEndIfEmpty s i). put-in-at-end s c.put_content.new.mini i (length c.args.bytes.now) longer (λ none. ap entries_of (e.within (inr none))) was in
     subst (λ (f : FileState). IsStreamOf f.base c.args.entry → WentWell f.base c.put_content.new.mini c.args.entry) c.self.view_is
-    (λ at. record { stream = at; moves = e.moves; spares = e.spares told; changed = ok.changed told; tight = ok.tight; at_end = at-end }) c.requires.can_write.stream
+    (λ at. record { stream = at; moves = e.changes.moves; spares = e.changes.spares told; changed = ok.changes.changed told; tight = ok.changes.tight; at_end = at-end }) c.requires.can_write.stream
 
 pub returns-clause-only : goal.returns-clause-only
 returns-clause-only g c =
@@ -133,14 +133,14 @@ returns-clause-only g c =
           subst (λ (s : MiniState). IsStreamOf s c.args.entry) (sym c.end_change.ensures)
           (ended-stream c.args.self.now mid c.args.entry c.self.inside.is_sound c.self.inside.buffer_limit
           (ap (λ (f : FileState). f.is_sound) c.self.view_is) (ap (λ (f : FileState). f.buffer_limit) c.self.view_is)
-          (subst (λ (f : FileState). KeepsLimits f.base mid) c.self.view_is c.put_content.ensures.moves.limits)
-          (subst (λ (f : FileState). MovesContent f.base mid c.args.entry) c.self.view_is c.put_content.ensures.moves.entries) c.requires.can_write.stream)
+          (subst (λ (f : FileState). KeepsLimits f.base mid) c.self.view_is c.put_content.ensures.changes.moves.limits)
+          (subst (λ (f : FileState). MovesContent f.base mid c.args.entry) c.self.view_is c.put_content.ensures.changes.moves.entries) c.requires.can_write.stream)
           );
       entries = (
           subst (λ (s : MiniState). MovesContent c.args.self.now.base s c.args.entry) (sym c.end_change.ensures)
           (ended-entries c.args.self.now mid c.args.entry c.self.inside.is_sound c.self.inside.buffer_limit
           (ap (λ (f : FileState). f.is_sound) c.self.view_is) (ap (λ (f : FileState). f.buffer_limit) c.self.view_is)
-          (subst (λ (f : FileState). MovesContent f.base mid c.args.entry) c.self.view_is c.put_content.ensures.moves.entries))
+          (subst (λ (f : FileState). MovesContent f.base mid c.args.entry) c.self.view_is c.put_content.ensures.changes.moves.entries))
           );
       changes = λ told held. (
           subst (λ (s : MiniState). ChangesOneContent c.args.entry c.args.self.now (file_on c.self.inside.is_sound c.self.inside.buffer_limit s)) (sym c.end_change.ensures)
@@ -157,7 +157,7 @@ returns-clause-ends g c = record {
       subst (λ (s : MiniState). SameSetting c.args.self.now (file_on c.self.inside.is_sound c.self.inside.buffer_limit s)) (sym c.end_change.ensures)
       (ended-setting c.args.self.now mid c.args.entry c.self.inside.is_sound c.self.inside.buffer_limit
       (ap (λ (f : FileState). f.is_sound) c.self.view_is) (ap (λ (f : FileState). f.buffer_limit) c.self.view_is)
-      (subst (λ (f : FileState). KeepsLimits f.base mid) c.self.view_is c.put_content.ensures.moves.limits))
+      (subst (λ (f : FileState). KeepsLimits f.base mid) c.self.view_is c.put_content.ensures.changes.moves.limits))
       );
   ended = ap (λ (s : MiniState). (table_of s).file.begun) c.end_change.ensures;
   in_memory = first_of (search rules, grind (arith, common_steps));
@@ -202,7 +202,7 @@ pub returns-clause-takes : goal.returns-clause-takes
 returns-clause-takes g c = record {
   no_shorter = (
       subst (λ (s : MiniState). length (tables_in c.args.self.now.base).fat ≤ length (tables_in s).fat) (sym c.end_change.ensures)
-      (subst (λ (f : FileState). length (tables_in f.base).fat ≤ length (tables_in c.put_content.new.mini).fat) c.self.view_is c.in_ok-count.ensures.tight.no_shorter)
+      (subst (λ (f : FileState). length (tables_in f.base).fat ≤ length (tables_in c.put_content.new.mini).fat) c.self.view_is c.in_ok-count.ensures.changes.tight.no_shorter)
       );
   stays_full = λ told held leaves none. (
       let sound = subst (λ (f : FileState). IsChangeable Permissive f.base) (sym c.self.view_is) (held.sound c.requires.can_change.sound) in
