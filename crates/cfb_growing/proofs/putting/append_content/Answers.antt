@@ -88,10 +88,10 @@ write_listed-requires-clause-stream g c =
 
 pub returns-in_err-write_listed-clause-changes : goal.returns-in_err-write_listed-clause-changes
 returns-in_err-write_listed-clause-changes g c = record {
-  moves = filed-alone c.grow_content.new.mini c.write_listed.new.mini c.write_listed.ensures.rest c.args.mini.now c.args.entry c.grow_content.ensures.changes.moves;
+  moves = filed-alone c.grow_content.new.mini c.write_listed.new.mini c.write_listed.ensures.writes.rest c.args.mini.now c.args.entry c.grow_content.ensures.changes.moves;
   spares = λ told. (
-      spares-behind c.args.mini.now c.grow_content.new.mini c.write_listed.new.mini c.args.entry c.grow_content.ensures.changes.moves (c.grow_content.ensures.changes.spares told) (c.in_ok-grown.ensures.changes.changed told) (c.write_listed.ensures.others told)
-      (c.write_listed.ensures.header told) (still-begun c.args.mini.now c.grow_content.new.mini c.write_listed.new.mini c.in_err-write_listed.field-0.0 c.in_ok-grown.ensures.begun c.in_err-write_listed.ensures.refused)
+      spares-behind c.args.mini.now c.grow_content.new.mini c.write_listed.new.mini c.args.entry c.grow_content.ensures.changes.moves (c.grow_content.ensures.changes.spares told) (c.in_ok-grown.ensures.changes.changed told) (c.write_listed.ensures.holds.others told)
+      (c.write_listed.ensures.writes.header told) (still-begun c.args.mini.now c.grow_content.new.mini c.write_listed.new.mini c.in_err-write_listed.field-0.0 c.in_ok-grown.ensures.begun c.in_err-write_listed.ensures.writes.refused)
   );
   changed = first_of (search rules, grind (arith, common_steps));
   tight = first_of (search rules, grind (arith, common_steps));
@@ -103,39 +103,39 @@ pub returns-in_err-write_listed-clause-err : goal.returns-in_err-write_listed-cl
 returns-in_err-write_listed-clause-err g c =
     let p = err_from_is_err_and c.from_residual-in_err-write_listed.result c.from_residual-in_err-write_listed.ensures.1 in
     rw (p.1, p.2) (refused-as _ _ _ _ _ _ _ _ (λ bad told v change. bad v ((c.in_ok-grown.ensures.changes.changed told).holds v change)) (λ u. u) (λ no. absurd no) (λ u. u)
-    c.in_err-write_listed.field-0.0 c.in_err-write_listed.ensures.err)
+    c.in_err-write_listed.field-0.0 c.in_err-write_listed.ensures.writes.err)
 
 pub returns-in_err-write_listed-clause-refused : goal.returns-in_err-write_listed-clause-refused
 returns-in_err-write_listed-clause-refused g c told v held =
     let p = err_from_is_err_and c.from_residual-in_err-write_listed.result c.from_residual-in_err-write_listed.ensures.1 in
     rw (p.1, p.2) (stops-behind c.args.mini.now c.grow_content.new.mini c.write_listed.new.mini c.in_err-write_listed.field-0.0 c.in_ok-grown.ensures.begun
-    c.in_err-write_listed.ensures.refused c.in_err-write_listed.ensures.err)
+    c.in_err-write_listed.ensures.writes.refused c.in_err-write_listed.ensures.writes.err)
 
 pub returns-clause-changes : goal.returns-clause-changes
 returns-clause-changes g c = record {
-  moves = filed-alone c.grow_content.new.mini c.write_listed.new.mini c.write_listed.ensures.rest c.args.mini.now c.args.entry c.grow_content.ensures.changes.moves;
+  moves = filed-alone c.grow_content.new.mini c.write_listed.new.mini c.write_listed.ensures.writes.rest c.args.mini.now c.args.entry c.grow_content.ensures.changes.moves;
   spares = λ told. (
-      spares-behind c.args.mini.now c.grow_content.new.mini c.write_listed.new.mini c.args.entry c.grow_content.ensures.changes.moves (c.grow_content.ensures.changes.spares told) (c.in_ok-grown.ensures.changes.changed told) (c.write_listed.ensures.others told)
-      (c.write_listed.ensures.header told) c.in_ok-write_listed.ensures.begun
+      spares-behind c.args.mini.now c.grow_content.new.mini c.write_listed.new.mini c.args.entry c.grow_content.ensures.changes.moves (c.grow_content.ensures.changes.spares told) (c.in_ok-grown.ensures.changes.changed told) (c.write_listed.ensures.holds.others told)
+      (c.write_listed.ensures.writes.header told) c.in_ok-write_listed.ensures.begun
   );
   changed = λ told. (
       let made = c.in_ok-grown.ensures.changes.changed told in
       record {
-        holds = λ v change. c.in_ok-write_listed.ensures.holds told v (made.holds v change);
+        holds = λ v change. c.in_ok-write_listed.ensures.holds.holds told v (made.holds v change);
         owned = λ v change. none-lost-then c.args.mini.now c.grow_content.new.mini c.write_listed.new.mini (made.owned v change)
-            (filed-loses-none c.grow_content.new.mini c.write_listed.new.mini c.in_ok-write_listed.ensures.rest);
-        sized = λ v change. filed-sized c.grow_content.new.mini c.write_listed.new.mini c.in_ok-write_listed.ensures.rest c.args.mini.now c.args.entry (made.sized v change);
-        snug_mini = λ v change snug. filed-snug c.grow_content.new.mini c.write_listed.new.mini c.in_ok-write_listed.ensures.rest (made.snug_mini v change snug);
-        gives_back = λ v change frees. filed-snug c.grow_content.new.mini c.write_listed.new.mini c.in_ok-write_listed.ensures.rest
-            (made.gives_back v change (filed-frees c.args.mini.now c.grow_content.new.mini c.write_listed.new.mini c.in_ok-write_listed.ensures.rest frees));
+            (filed-loses-none c.grow_content.new.mini c.write_listed.new.mini c.in_ok-write_listed.ensures.writes.rest);
+        sized = λ v change. filed-sized c.grow_content.new.mini c.write_listed.new.mini c.in_ok-write_listed.ensures.writes.rest c.args.mini.now c.args.entry (made.sized v change);
+        snug_mini = λ v change snug. filed-snug c.grow_content.new.mini c.write_listed.new.mini c.in_ok-write_listed.ensures.writes.rest (made.snug_mini v change snug);
+        gives_back = λ v change frees. filed-snug c.grow_content.new.mini c.write_listed.new.mini c.in_ok-write_listed.ensures.writes.rest
+            (made.gives_back v change (filed-frees c.args.mini.now c.grow_content.new.mini c.write_listed.new.mini c.in_ok-write_listed.ensures.writes.rest frees));
         tidy = λ v change.
-            filed-tidy c.grow_content.new.mini c.write_listed.new.mini c.in_ok-write_listed.ensures.rest v c.args.mini.now (c.in_ok-write_listed.ensures.holds told v (made.holds v change)).held
-            (c.in_ok-write_listed.ensures.counted told v (made.holds v change)) (c.write_listed.ensures.header told).no_shorter (made.tidy v change);
+            filed-tidy c.grow_content.new.mini c.write_listed.new.mini c.in_ok-write_listed.ensures.writes.rest v c.args.mini.now (c.in_ok-write_listed.ensures.holds.holds told v (made.holds v change)).held
+            (c.in_ok-write_listed.ensures.holds.counted told v (made.holds v change)) (c.write_listed.ensures.writes.header told).no_shorter (made.tidy v change);
       }
   );
   tight = (
       tight-then c.args.mini.now c.grow_content.new.mini c.write_listed.new.mini c.in_ok-grown.ensures.changes.tight
-      (filed-tables c.grow_content.new.mini c.write_listed.new.mini c.in_ok-write_listed.ensures.rest)
+      (filed-tables c.grow_content.new.mini c.write_listed.new.mini c.in_ok-write_listed.ensures.writes.rest)
   );
   still = first_of (search rules, grind (arith, common_steps));
   counts = first_of (search rules, grind (arith, common_steps));
@@ -154,8 +154,8 @@ returns-clause-content g c told v change =
     let grown = c.in_ok-grown.ensures.len in
     let whole : length was ≡ len = whole-of v s i change c.requires.size_fits.stream ∙ sym len-is in
     let sum : len + length from ≡ len_of mid i = omega (arith, length-take (c.in_ok-grown.grown - len) c.args.bytes.now, len-is, grown.0, grown.1, grown.2) in
-    ap (λ (es : List Entry). content_of new (entry_at es i)) (filed-entries mid new c.in_ok-write_listed.ensures.rest)
-    ∙ c.in_ok-write_listed.ensures.content told v ((c.in_ok-grown.ensures.changes.changed told).holds v change)
+    ap (λ (es : List Entry). content_of new (entry_at es i)) (filed-entries mid new c.in_ok-write_listed.ensures.writes.rest)
+    ∙ c.in_ok-write_listed.ensures.holds.content told v ((c.in_ok-grown.ensures.changes.changed told).holds v change)
     ∙ ap (λ l. written l len from) ((c.in_ok-grown.ensures.content told).content v change)
     ∙ appended was from len (len_of mid i) whole sum
     ∙ ap (λ n. written was n from) len-is
@@ -164,7 +164,7 @@ pub returns-clause-stays_full : goal.returns-clause-stays_full
 returns-clause-stays_full g c told v change stays none =
     let s = c.args.mini.now in
     let wanted = c.content_in-len.result.1 + length c.args.bytes.now in
-    subst (λ (t : TableState). NoneFree t.fat) (sym (filed-tables c.grow_content.new.mini c.write_listed.new.mini c.in_ok-write_listed.ensures.rest))
+    subst (λ (t : TableState). NoneFree t.fat) (sym (filed-tables c.grow_content.new.mini c.write_listed.new.mini c.in_ok-write_listed.ensures.writes.rest))
     ((c.in_ok-grown.ensures.content told).stays_full v change (omega (arith, c.in_ok-grown.ensures.len.0, c.in_ok-grown.ensures.len.1))
     (leaves-less s c.args.entry (len_of c.grow_content.new.mini c.args.entry) (len_of s c.args.entry + length c.args.bytes.now)
     (omega (arith, c.content_in-len.ensures.len, c.in_ok-grown.ensures.len.0, c.in_ok-grown.ensures.len.2)) stays) none)

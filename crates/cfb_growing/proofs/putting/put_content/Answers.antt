@@ -82,33 +82,33 @@ returns-then-at-len-clause-err g c =
 
 pub returns-clause-content : goal.returns-clause-content
 returns-clause-content g c told v change =
-    ap (λ (es : List Entry). content_of c.write_content.new.mini (entry_at es c.args.entry)) (filed-entries c.args.mini.now c.write_content.new.mini c.in_ok-write_content.ensures.rest)
-    ∙ c.in_ok-write_content.ensures.content told v change
+    ap (λ (es : List Entry). content_of c.write_content.new.mini (entry_at es c.args.entry)) (filed-entries c.args.mini.now c.write_content.new.mini c.in_ok-write_content.ensures.writes.rest)
+    ∙ c.in_ok-write_content.ensures.holds.content told v change
 
 pub returns-clause-within : goal.returns-clause-within
-returns-clause-within g c inside = c.write_content.ensures.rest
+returns-clause-within g c inside = c.write_content.ensures.writes.rest
 
 pub returns-clause-changes : goal.returns-clause-changes
 returns-clause-changes g c = record {
-  moves = filed-alone c.args.mini.now c.write_content.new.mini c.write_content.ensures.rest c.args.mini.now c.args.entry (moves-same c.args.mini.now c.args.entry);
+  moves = filed-alone c.args.mini.now c.write_content.new.mini c.write_content.ensures.writes.rest c.args.mini.now c.args.entry (moves-same c.args.mini.now c.args.entry);
   spares = λ told. (
       record {
-    others = λ v change. c.write_content.ensures.others told v change;
-    header = c.write_content.ensures.header told;
-    unwritten = λ calm. c.write_content.ensures.unwritten told calm;
+    others = λ v change. c.write_content.ensures.holds.others told v change;
+    header = c.write_content.ensures.writes.header told;
+    unwritten = λ calm. c.write_content.ensures.writes.unwritten told calm;
   }
   );
   changed = λ told. (
       let s = c.args.mini.now in
       record {
-        holds = λ v change. c.in_ok-write_content.ensures.holds told v change;
-        owned = λ v change. filed-loses-none c.args.mini.now c.write_content.new.mini c.in_ok-write_content.ensures.rest;
-        sized = λ v change. filed-sized c.args.mini.now c.write_content.new.mini c.in_ok-write_content.ensures.rest s c.args.entry (same-is-sized v s s c.args.entry change c.requires.size_fits.stream refl refl refl refl);
-        snug_mini = λ v change snug. filed-snug c.args.mini.now c.write_content.new.mini c.in_ok-write_content.ensures.rest snug;
-        gives_back = λ v change frees. (let same = filed-frees s s c.write_content.new.mini c.in_ok-write_content.ensures.rest frees in absurd (same.was same.now));
+        holds = λ v change. c.in_ok-write_content.ensures.holds.holds told v change;
+        owned = λ v change. filed-loses-none c.args.mini.now c.write_content.new.mini c.in_ok-write_content.ensures.writes.rest;
+        sized = λ v change. filed-sized c.args.mini.now c.write_content.new.mini c.in_ok-write_content.ensures.writes.rest s c.args.entry (same-is-sized v s s c.args.entry change c.requires.size_fits.stream refl refl refl refl);
+        snug_mini = λ v change snug. filed-snug c.args.mini.now c.write_content.new.mini c.in_ok-write_content.ensures.writes.rest snug;
+        gives_back = λ v change frees. (let same = filed-frees s s c.write_content.new.mini c.in_ok-write_content.ensures.writes.rest frees in absurd (same.was same.now));
         tidy = λ v change.
-            filed-tidy s c.write_content.new.mini c.in_ok-write_content.ensures.rest v s (c.in_ok-write_content.ensures.holds told v change).held
-            (c.in_ok-write_content.ensures.counted told v change) (c.write_content.ensures.header told).no_shorter (tidy-same s);
+            filed-tidy s c.write_content.new.mini c.in_ok-write_content.ensures.writes.rest v s (c.in_ok-write_content.ensures.holds.holds told v change).held
+            (c.in_ok-write_content.ensures.holds.counted told v change) (c.write_content.ensures.writes.header told).no_shorter (tidy-same s);
       }
   );
   tight = first_of (search rules, grind (arith, common_steps));
@@ -118,12 +118,12 @@ returns-clause-changes g c = record {
 
 pub returns-in_err-write_content-clause-changes : goal.returns-in_err-write_content-clause-changes
 returns-in_err-write_content-clause-changes g c = record {
-  moves = filed-alone c.args.mini.now c.write_content.new.mini c.write_content.ensures.rest c.args.mini.now c.args.entry (moves-same c.args.mini.now c.args.entry);
+  moves = filed-alone c.args.mini.now c.write_content.new.mini c.write_content.ensures.writes.rest c.args.mini.now c.args.entry (moves-same c.args.mini.now c.args.entry);
   spares = λ told. (
       record {
-    others = λ v change. c.write_content.ensures.others told v change;
-    header = c.write_content.ensures.header told;
-    unwritten = λ calm. c.write_content.ensures.unwritten told calm;
+    others = λ v change. c.write_content.ensures.holds.others told v change;
+    header = c.write_content.ensures.writes.header told;
+    unwritten = λ calm. c.write_content.ensures.writes.unwritten told calm;
   }
   );
   changed = first_of (search rules, grind (arith, common_steps));
@@ -133,13 +133,13 @@ returns-in_err-write_content-clause-changes g c = record {
 }
 
 pub returns-in_err-write_content-clause-within : goal.returns-in_err-write_content-clause-within
-returns-in_err-write_content-clause-within g c inside = c.write_content.ensures.rest
+returns-in_err-write_content-clause-within g c inside = c.write_content.ensures.writes.rest
 
 pub returns-in_err-write_content-clause-err : goal.returns-in_err-write_content-clause-err
 returns-in_err-write_content-clause-err g c =
     let p = err_from_is_err_and c.from_residual.result c.from_residual.ensures.1 in
-    rw (p.1, p.2) (refused-as _ _ _ _ _ _ _ _ (λ bad told. bad) (λ u. u) (λ no. absurd no) (λ u. u) c.in_err-write_content.field-0.0 c.in_err-write_content.ensures.err)
+    rw (p.1, p.2) (refused-as _ _ _ _ _ _ _ _ (λ bad told. bad) (λ u. u) (λ no. absurd no) (λ u. u) c.in_err-write_content.field-0.0 c.in_err-write_content.ensures.writes.err)
 
 pub returns-clause-stays_full : goal.returns-clause-stays_full
 returns-clause-stays_full g c told v change stays none =
-    subst (λ (t : TableState). NoneFree t.fat) (sym (filed-tables c.args.mini.now c.write_content.new.mini c.in_ok-write_content.ensures.rest)) none
+    subst (λ (t : TableState). NoneFree t.fat) (sym (filed-tables c.args.mini.now c.write_content.new.mini c.in_ok-write_content.ensures.writes.rest)) none

@@ -53,13 +53,13 @@ returns-clause-stays g c =
 
 pub returns-clause-read : goal.returns-clause-read
 returns-clause-read g c = record {
-  count = subst (λ (f : FileState). IfOk c.read_content.result (λ n. n ≤ min (length c.args.into.now) (len_of f.base c.args.entry - c.args.at))) c.self.view_is c.read_content.ensures.count;
-  some = subst (λ (f : FileState). IfOk c.read_content.result (λ n. 0 < min (length c.args.into.now) (len_of f.base c.args.entry - c.args.at) → 0 < n)) c.self.view_is c.read_content.ensures.some;
+  count = subst (λ (f : FileState). IfOk c.read_content.result (λ n. n ≤ min (length c.args.into.now) (len_of f.base c.args.entry - c.args.at))) c.self.view_is c.read_content.ensures.part.most;
+  some = subst (λ (f : FileState). IfOk c.read_content.result (λ n. 0 < min (length c.args.into.now) (len_of f.base c.args.entry - c.args.at) → 0 < n)) c.self.view_is c.read_content.ensures.part.some;
   ok = λ told held. (
       subst (λ (f : FileState). IfOk c.read_content.result (λ n. take n c.read_content.new.into ≡ part (content_at f c.args.entry) c.args.at n)) c.self.view_is
-      (c.read_content.ensures.ok told (subst (λ (f : FileState). TellsPlaces f.base) (sym c.self.view_is) held.places))
+      (c.read_content.ensures.content.read told (subst (λ (f : FileState). TellsPlaces f.base) (sym c.self.view_is) held.places))
       );
-  within = λ told held. subst (λ (f : FileState). IfOk c.read_content.result (λ n. 0 < n → c.args.at + n ≤ length (content_at f c.args.entry))) c.self.view_is (c.read_content.ensures.within told (subst (λ (f : FileState). TellsPlaces f.base) (sym c.self.view_is) held.places));
+  within = λ told held. subst (λ (f : FileState). IfOk c.read_content.result (λ n. 0 < n → c.args.at + n ≤ length (content_at f c.args.entry))) c.self.view_is (c.read_content.ensures.content.within told (subst (λ (f : FileState). TellsPlaces f.base) (sym c.self.view_is) held.places));
   rest = first_of (search rules, grind (arith, common_steps));
 }
 
@@ -68,12 +68,12 @@ returns-clause-error g c = record {
   err = λ told held. (
       subst (λ (f : FileState). IfErr c.read_content.result (ChangeRefused
       ((length (content_at f c.args.entry) ≤ c.args.at) × (0 < min (length c.args.into.now) (len_of f.base c.args.entry - c.args.at))) (Unit {0}) ⊥ (Unit {0}))) c.self.view_is
-      (c.read_content.ensures.err told (subst (λ (f : FileState). TellsPlaces f.base) (sym c.self.view_is) held.places))
+      (c.read_content.ensures.content.err told (subst (λ (f : FileState). TellsPlaces f.base) (sym c.self.view_is) held.places))
       );
   past = λ told held. (
       subst (λ (f : FileState). length (content_at f c.args.entry) ≤ c.args.at → 0 < min (length c.args.into.now) (len_of f.base c.args.entry - c.args.at)
       → IsErrAnd c.read_content.result (λ e. IsInvalidData e ⊎ IsMemory e)) c.self.view_is
-      (c.read_content.ensures.past told (subst (λ (f : FileState). TellsPlaces f.base) (sym c.self.view_is) held.places))
+      (c.read_content.ensures.content.past told (subst (λ (f : FileState). TellsPlaces f.base) (sym c.self.view_is) held.places))
       );
   counts = λ told. (
       subst (λ (f : FileState). CountsFailure g.F.ReadMedium.read_faults c.read_content.result (failures_of f) (table_of c.read_content.new.mini).file.failures) c.self.view_is
