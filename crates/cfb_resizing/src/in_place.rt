@@ -1,5 +1,6 @@
 //! Contents that get longer or shorter where they lie (MS-CFB 2.3 and 2.4): the chain, and the zeros behind its old end.
 ghost use Rattle.std.specs.Prelude.{◌≡◌, ◌<◌, ◌≤◌, ◌-◌, ◌++◌, ◌||◌, ◌↔◌, ℕ, List, length, slice_index, false, true, Contains, IsTrue, IfOk, IfErr, OnOk};
+ghost use Rattle.cfb_resizing.specs.Carrying.{LengthensMinis, HoldsLengthened, KeepsAllAround};
 ghost use Rattle.cfb_content.specs.Turning.{IsStreamWithin};
 ghost use Rattle.cfb_content.specs.Growing.{ListGrows, HoldsWhole, SparesAlong, GrowingRefused};
 ghost use Rattle.cfb_format.specs.declared.validate.Validation.{Validation};
@@ -23,7 +24,7 @@ ghost use Rattle.cfb_content.specs.Changed.{SparesOthers};
 ghost use Rattle.cfb_content.specs.Contents.{IsNotChangeable, IsStreamOf, len_of, mini_place_along};
 ghost use Rattle.cfb_content.specs.Laws.{LacksNumbersFor};
 ghost use Rattle.cfb_content.specs.Parts.{IsThereInMinis, IsThereInSectors};
-ghost use Rattle.cfb_resizing.specs.Turning.{IsPaddedAlong, KeepsAround, KeepsTablesTight, StopsOrBegun, TurnsSoundly};
+ghost use Rattle.cfb_resizing.specs.Turning.{IsPaddedAlong, KeepsAround, KeepsTablesTight, StopsOrBegun, TurnsSoundly, TurnsContent, TurningRefused, CuttingRefused, CutsInMinis};
 
 use cfb_content::in_minis::{whole_mini_chain, zero_in_minis};
 use cfb_content::in_sectors::zero_in_sectors;
@@ -86,18 +87,9 @@ pub(crate) fn grow_in_sectors<F: Medium, A: Heap + Clone>(
         requires size_fits { IsStreamWithin entry size mini.old }
     requires large { mini_stream_cutoff ≤ len_of mini.old entry }
     requires longer { len_of mini.old entry < size }
-    ensures turned { IsTrue F.tells
-        → IfOk result (λ start. TurnsSoundly mini.old mini.new entry size start) }
-    ensures spares { IsTrue F.tells → SparesOthers mini.old mini.new entry }
-    ensures around { KeepsAround mini.old mini.new }
-    ensures tight { OnOk result (KeepsTablesTight mini.old mini.new) }
-    ensures enough { OnOk result (LacksNumbersFor mini.old entry size → ⊥) }
-    ensures refused { IfErr result (StopsOrBegun mini.old mini.new) }
-    ensures err { IfErr result (ChangeRefused (IsNotChangeable mini.old) Unit
-        (LacksNumbersFor mini.old entry size) Unit) }
-    ensures counts { IsTrue F.tells
-        → CountsFailure (λ f. F.read_faults f || F.write_faults f) result
-        (table_of mini.old).file.failures (table_of mini.new).file.failures }
+        ensures turns { TurnsContent F.tells (λ f. F.read_faults f || F.write_faults f) entry size
+            mini.old mini.new result }
+        ensures refused { TurningRefused entry size mini.old mini.new result }
 {
     let (start, len) = content_in(mini, entry);
     let allocator = mini.allocator_mut();
@@ -117,21 +109,12 @@ pub(crate) fn cut_in_sectors<F: Medium, A: Heap + Clone>(
         requires size_fits { IsStreamWithin entry size mini.old }
     requires large { mini_stream_cutoff ≤ size }
     requires shorter { size < len_of mini.old entry }
-    ensures turned { IsTrue F.tells
-        → IfOk result (λ start. TurnsSoundly mini.old mini.new entry size start) }
-    ensures spares { IsTrue F.tells → SparesOthers mini.old mini.new entry }
-    ensures around { KeepsAround mini.old mini.new }
+        ensures turns { TurnsContent F.tells (λ f. F.read_faults f || F.write_faults f) entry size
+            mini.old mini.new result }
     ensures few { IfOk result (λ start. (list : List ℕ)
         → IsChain (tables_in mini.new).fat start list
         → length list ≡ rounded_up size (sector_len (version_of mini.old))) }
-    ensures tight { OnOk result (KeepsTablesTight mini.old mini.new) }
-    ensures enough { OnOk result (LacksNumbersFor mini.old entry size → ⊥) }
-    ensures refused { IfErr result (StopsOrBegun mini.old mini.new) }
-    ensures err { IfErr result (ChangeRefused (IsNotChangeable mini.old) Unit
-        (LacksNumbersFor mini.old entry size) Unit) }
-    ensures counts { IsTrue F.tells
-        → CountsFailure (λ f. F.read_faults f || F.write_faults f) result
-        (table_of mini.old).file.failures (table_of mini.new).file.failures }
+        ensures refused { TurningRefused entry size mini.old mini.new result }
 {
     let (start, len) = content_in(mini, entry);
     let wanted = size.div_ceil(mini.sector_len() as u64) as usize;
@@ -173,39 +156,16 @@ fn lengthen_in_minis<F: Medium, A: Heap + Clone>(
     requires there { (m : ℕ) → Contains ids.old.items m → HasMiniSector mini.old m }
     requires lacking { lacking ≡ rounded_up size mini_sector_len - length ids.old.items }
     requires enough { IsTooFewFor mini.old lacking → ⊥ }
-    ensures chain { IsChain mini.new.minifat (first_or_end ids.new.items) ids.new.items }
-    ensures listed { ids.new.items ≡ ids.old.items ++ gained ids.old.items ids.new.items }
-    ensures count { OnOk result (length (gained ids.old.items ids.new.items) ≡ lacking) }
-    ensures taken { 0 < lacking
-        → OnOk result (TakesMini mini.old.max_mini_sectors mini.old.minifat mini.new.minifat
-        (ends_of ids.old.items) (gained ids.old.items ids.new.items)) }
-    ensures grown { 0 < lacking → OnOk result (GrowsFor lacking mini.old mini.new) }
-    ensures none { lacking ≡ 0 → (ids.new.items ≡ ids.old.items) × KeepsSystem mini.old mini.new
-        × KeepsMini mini.old mini.new }
-    ensures padded { IsTrue F.tells → (validation : Validation) → HoldsMini validation mini.old
-        → ((k : ℕ) → k < len → IsThereInMinis mini.old ids.old.items k)
-        → OnOk result (IsPaddedAlong len size (mini_place_along mini.old ids.old.items)
-        (mini_place_along mini.new ids.new.items) (bytes_of mini.old) (bytes_of mini.new)) }
-    ensures holds { IsTrue F.tells → (validation : Validation) → HoldsMini validation mini.old
-        → OnOk result (HoldsMini validation mini.new) }
-    ensures whole { IsTrue F.tells → (validation : Validation) → HoldsMini validation mini.old
-        → IsOfWholeSectors (table_of mini.old)
-        → OnOk result (IsOfWholeSectors (table_of mini.new)) }
+        ensures longer { LengthensMinis lacking mini.old mini.new ids.old.items ids.new.items result
+            }
+        ensures holds { HoldsLengthened F.tells len size mini.old mini.new ids.old.items
+            ids.new.items result }
     ensures spares { IsTrue F.tells
         → Spares (system_sectors mini.old) (table_of mini.old) (table_of mini.new) }
-    ensures mini_spares { IsTrue F.tells → (validation : Validation) → HoldsMini validation mini.old
-        → SparesMini ids.old.items mini.old mini.new }
-    ensures header { IsTrue F.tells → OnOk result (KeepsHeader mini.old mini.new) }
-    ensures around { KeepsAround mini.old mini.new }
-    ensures tight { OnOk result (KeepsTablesTight mini.old mini.new) }
-    ensures snug_mini { IsTrue F.tells → (validation : Validation) → HoldsMini validation mini.old
-        → IsSnugMini mini.old → OnOk result (IsSnugMini mini.new) }
-    ensures refused { IfErr result (StopsOrBegun mini.old mini.new) }
+        ensures around { KeepsAllAround F.tells F.write_faults mini.old mini.new result }
     ensures unwritten { IsTrue F.tells → (table_of mini.new).file.begun ≡ false
         → bytes_of mini.new ≡ bytes_of mini.old }
     ensures err { IfErr result (ChangeRefused (IsNotHeld mini.old) Unit ⊥ Unit) }
-    ensures counts { IsTrue F.tells → CountsFailure F.write_faults result
-        (table_of mini.old).file.failures (table_of mini.new).file.failures }
 {
     let room = (ids.len() as u64).saturating_mul(MINI_SECTOR_LEN as u64);
     mini.extend_mini_listed(ids, lacking)?;
@@ -222,18 +182,9 @@ pub(crate) fn grow_in_minis<F: Medium, A: Heap + Clone>(
         requires size_fits { IsStreamWithin entry size mini.old }
     requires small { size < mini_stream_cutoff }
     requires longer { len_of mini.old entry < size }
-    ensures turned { IsTrue F.tells
-        → IfOk result (λ start. TurnsSoundly mini.old mini.new entry size start) }
-    ensures spares { IsTrue F.tells → SparesOthers mini.old mini.new entry }
-    ensures around { KeepsAround mini.old mini.new }
-    ensures tight { OnOk result (KeepsTablesTight mini.old mini.new) }
-    ensures enough { OnOk result (LacksNumbersFor mini.old entry size → ⊥) }
-    ensures refused { IfErr result (StopsOrBegun mini.old mini.new) }
-    ensures err { IfErr result (ChangeRefused (IsNotChangeable mini.old) Unit
-        (LacksNumbersFor mini.old entry size) Unit) }
-    ensures counts { IsTrue F.tells
-        → CountsFailure (λ f. F.read_faults f || F.write_faults f) result
-        (table_of mini.old).file.failures (table_of mini.new).file.failures }
+        ensures turns { TurnsContent F.tells (λ f. F.read_faults f || F.write_faults f) entry size
+            mini.old mini.new result }
+        ensures refused { TurningRefused entry size mini.old mini.new result }
 {
     let (start, len) = content_in(mini, entry);
     let mut ids = whole_mini_chain(mini, start, len)?;
@@ -256,24 +207,10 @@ pub(crate) fn cut_in_minis<F: Medium, A: Heap + Clone>(
         requires size_fits { IsStreamWithin entry size mini.old }
     requires small { len_of mini.old entry < mini_stream_cutoff }
     requires shorter { size < len_of mini.old entry }
-    ensures turned { IsTrue F.tells
-        → IfOk result (λ start. TurnsSoundly mini.old mini.new entry size start) }
-    ensures spares { IsTrue F.tells → SparesOthers mini.old mini.new entry }
-    ensures around { KeepsAround mini.old mini.new }
-    ensures empty { size ≡ 0 → IfOk result (λ start. start ≡ end_of_chain) }
-    ensures first { IfErr result (AfterMedium Unit (mini.new ≡ mini.old)) }
-    ensures takes_none { length (tables_in mini.new).fat ≡ length (tables_in mini.old).fat }
-    ensures few { IfOk result (λ start. (list : List ℕ) → IsChain mini.new.minifat start list
-        → length list ≡ rounded_up size mini_sector_len) }
-    ensures tight { OnOk result (KeepsTablesTight mini.old mini.new) }
-    ensures enough { (validation : Validation) → HoldsMini validation mini.old
-        → OnOk result (LacksNumbersFor mini.old entry size → ⊥) }
-    ensures refused { IfErr result (StopsOrBegun mini.old mini.new) }
-    ensures err { IfErr result (ChangeRefused (IsNotChangeable mini.old) Unit
-        (LacksNumbersFor mini.old entry size) Unit) }
-    ensures counts { IsTrue F.tells
-        → CountsFailure (λ f. F.read_faults f || F.write_faults f) result
-        (table_of mini.old).file.failures (table_of mini.new).file.failures }
+        ensures turns { TurnsContent F.tells (λ f. F.read_faults f || F.write_faults f) entry size
+            mini.old mini.new result }
+        ensures cuts { CutsInMinis size mini.old mini.new result }
+        ensures refused { CuttingRefused entry size mini.old mini.new result }
 {
     let (start, len) = content_in(mini, entry);
     let mut ids = whole_mini_chain(mini, start, len)?;

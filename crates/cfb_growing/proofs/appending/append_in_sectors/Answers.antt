@@ -96,12 +96,12 @@ named g c told validation change = record {
   around = c.put_at_end.ensures.extends.around;
   others = (c.put_at_end.ensures.extends.spares told).others validation change;
   held = c.in_ok-start.ensures.holds told validation change;
-  spares = c.name_content.ensures.spares told;
-  slots = c.name_content.ensures.others told;
-  system = c.name_content.ensures.system;
-  mini = c.name_content.ensures.mini;
-  limits = c.name_content.ensures.limits;
-  entries = c.name_content.ensures.entries;
+  spares = c.name_content.ensures.holds.spares told;
+  slots = c.name_content.ensures.holds.others told;
+  system = c.name_content.ensures.names.system;
+  mini = c.name_content.ensures.names.mini;
+  limits = c.name_content.ensures.names.limits;
+  entries = c.name_content.ensures.names.entries;
 }
 
 held-then : (g : _) (c : goal.After-name_content g) → IsTrue g.F.ReadMedium.tells → (validation : Validation) → IsChangeable validation c.args.mini.now
@@ -109,7 +109,7 @@ held-then : (g : _) (c : goal.After-name_content g) → IsTrue g.F.ReadMedium.te
 held-then g c told validation change =
     let n = length c.args.bytes.now in
     let limit = subst (λ m. m + n ≤ max_stream_len c.args.mini.now.directory.table.tables.version) (sym c.content_in-len.ensures.len) c.requires.size_fits.limit in
-    c.name_content.ensures.holds told validation (c.in_ok-start.ensures.holds told validation change)
+    c.name_content.ensures.holds.holds told validation (c.in_ok-start.ensures.holds told validation change)
     (subst (λ (v : Version). c.content_in-len.result.1 + n ≤ max_stream_len v) (sym c.put_at_end.ensures.extends.around.limits.version) limit)
 
 appended-then : (g : _) (c : goal.After-name_content g) → IsTrue g.F.ReadMedium.tells → (validation : Validation) → IsChangeable validation c.args.mini.now
@@ -121,21 +121,21 @@ appended-then g c told validation change = on_both _ _ _ c.name_content.result
           c.args.bytes.now (named g c told validation change) held at (ap (λ m. m + length c.args.bytes.now) c.content_in-len.ensures.len)
           (c.in_ok-start.ensures.put told validation change),
     ))
-    (held-then g c told validation change) c.name_content.ensures.named
+    (held-then g c told validation change) c.name_content.ensures.names.named
 
 pub returns-clause-len : goal.returns-clause-len
 returns-clause-len g c =
     on_ok_weaker c.name_content.result
-    (λ at. ap (λ (e : Entry). e.stream_len) at ∙ ap (λ m. m + length c.args.bytes.now) c.content_in-len.ensures.len) c.name_content.ensures.named
+    (λ at. ap (λ (e : Entry). e.stream_len) at ∙ ap (λ m. m + length c.args.bytes.now) c.content_in-len.ensures.len) c.name_content.ensures.names.named
 
 pub returns-clause-changes : goal.returns-clause-changes
 returns-clause-changes g c = record {
   moves = (
       record {
     entries =
-        moves-then c.args.mini.now c.put_at_end.new.mini c.name_content.new.mini c.args.entry c.requires.size_fits.stream c.put_at_end.ensures.extends.around c.name_content.ensures.entries;
-    limits = limits-then c.args.mini.now c.put_at_end.new.mini c.name_content.new.mini c.put_at_end.ensures.extends.around.limits c.name_content.ensures.limits;
-    directory = c.name_content.ensures.system.directory ∙ c.put_at_end.ensures.extends.around.directory;
+        moves-then c.args.mini.now c.put_at_end.new.mini c.name_content.new.mini c.args.entry c.requires.size_fits.stream c.put_at_end.ensures.extends.around c.name_content.ensures.names.entries;
+    limits = limits-then c.args.mini.now c.put_at_end.new.mini c.name_content.new.mini c.put_at_end.ensures.extends.around.limits c.name_content.ensures.names.limits;
+    directory = c.name_content.ensures.names.system.directory ∙ c.put_at_end.ensures.extends.around.directory;
   }
   );
   spares = λ told. (
@@ -144,8 +144,8 @@ returns-clause-changes g c = record {
         named-keeps-others v c.args.mini.now c.put_at_end.new.mini c.name_content.new.mini c.args.entry (named g c told v change);
     header =
         header-then c.args.mini.now c.put_at_end.new.mini c.name_content.new.mini c.put_at_end.ensures.extends.around.limits.version (c.put_at_end.ensures.extends.spares told).header
-        (spared-keeps-header _ c.put_at_end.new.mini c.name_content.new.mini (c.name_content.ensures.spares told));
-    unwritten = λ calm. absurd (not-both (table_of c.name_content.new.mini).file.begun c.name_content.ensures.begun calm);
+        (spared-keeps-header _ c.put_at_end.new.mini c.name_content.new.mini (c.name_content.ensures.holds.spares told));
+    unwritten = λ calm. absurd (not-both (table_of c.name_content.new.mini).file.begun c.name_content.ensures.holds.begun calm);
   }
   );
   changed = λ told. (
@@ -159,21 +159,21 @@ returns-clause-changes g c = record {
       (λ v change. on_ok_weaker c.name_content.result
       (λ t. changed-loses-none v i s new (named-changes v s c.put_at_end.new.mini new i (named g c told v change) t.0) t.1.used) (appended-then g c told v change))
       (λ v change. on_ok_weaker c.name_content.result (λ t. t.1.sized) (appended-then g c told v change))
-      (λ v change snug. kept-is-snug-mini c.put_at_end.new.mini new c.name_content.ensures.limits.version c.name_content.ensures.mini
-      (ap (λ (e : Entry). e.start_sector) c.name_content.ensures.root) (ap (λ (e : Entry). e.stream_len) c.name_content.ensures.root)
+      (λ v change snug. kept-is-snug-mini c.put_at_end.new.mini new c.name_content.ensures.names.limits.version c.name_content.ensures.names.mini
+      (ap (λ (e : Entry). e.start_sector) c.name_content.ensures.names.root) (ap (λ (e : Entry). e.stream_len) c.name_content.ensures.names.root)
       (c.in_ok-start.ensures.snug_mini told v change snug))
-      (λ v change frees. kept-is-snug-mini c.put_at_end.new.mini new c.name_content.ensures.limits.version c.name_content.ensures.mini
-      (ap (λ (e : Entry). e.start_sector) c.name_content.ensures.root) (ap (λ (e : Entry). e.stream_len) c.name_content.ensures.root)
+      (λ v change frees. kept-is-snug-mini c.put_at_end.new.mini new c.name_content.ensures.names.limits.version c.name_content.ensures.names.mini
+      (ap (λ (e : Entry). e.start_sector) c.name_content.ensures.names.root) (ap (λ (e : Entry). e.stream_len) c.name_content.ensures.names.root)
       (puts-frees s c.put_at_end.new.mini i c.in_ok-start.start c.args.bytes.now (c.in_ok-start.ensures.put told v change)
-      (frees-before s c.put_at_end.new.mini new c.name_content.ensures.mini.minifat frees)))
+      (frees-before s c.put_at_end.new.mini new c.name_content.ensures.names.mini.minifat frees)))
       (λ v change. on_ok_weaker c.name_content.result
-      (λ held. named-tidy v s c.put_at_end.new.mini new (c.in_ok-start.ensures.holds told v change) held c.name_content.ensures.system (c.name_content.ensures.header told)
-      (c.name_content.ensures.spares told) (c.in_ok-start.ensures.tidy told v change))
+      (λ held. named-tidy v s c.put_at_end.new.mini new (c.in_ok-start.ensures.holds told v change) held c.name_content.ensures.names.system (c.name_content.ensures.holds.header told)
+      (c.name_content.ensures.holds.spares told) (c.in_ok-start.ensures.tidy told v change))
       (held-then g c told v change))
   );
   tight = (
       always-on-ok c.name_content.result
-      (tight-then c.args.mini.now c.put_at_end.new.mini c.name_content.new.mini c.in_ok-start.ensures.extends.tight c.name_content.ensures.system.tables)
+      (tight-then c.args.mini.now c.put_at_end.new.mini c.name_content.new.mini c.in_ok-start.ensures.extends.tight c.name_content.ensures.names.system.tables)
   );
   still = first_of (search rules, grind (arith, common_steps));
   counts = first_of (search rules, grind (arith, common_steps));
@@ -185,10 +185,10 @@ returns-clause-content g c told validation change = on_ok_weaker c.name_content.
 pub returns-clause-stays_full : goal.returns-clause-stays_full
 returns-clause-stays_full g c told validation change stays none =
     let full = appended-stays-full c.args.mini.now c.put_at_end.new.mini c.args.entry c.in_ok-start.start c.args.bytes.now stays (c.in_ok-start.ensures.put told validation change) none in
-    always-on-ok c.name_content.result (subst (λ (t : TableState). NoneFree t.fat) (sym c.name_content.ensures.system.tables) full)
+    always-on-ok c.name_content.result (subst (λ (t : TableState). NoneFree t.fat) (sym c.name_content.ensures.names.system.tables) full)
 
 pub returns-clause-minis_full : goal.returns-clause-minis_full
 returns-clause-minis_full g c told validation change stays none =
     always-on-ok c.name_content.result
-    (kept-minis-full c.put_at_end.new.mini c.name_content.new.mini c.name_content.ensures.mini
+    (kept-minis-full c.put_at_end.new.mini c.name_content.new.mini c.name_content.ensures.names.mini
     (appended-minis-full c.args.mini.now c.put_at_end.new.mini c.args.entry c.in_ok-start.start c.args.bytes.now stays (c.in_ok-start.ensures.put told validation change) none))

@@ -57,4 +57,4 @@ returns-clause-err g c =
     on_err _ _ c.move_with.result
     (λ e why. refused-as _ _ _ _ _ _ _ _ (λ bad. bad) (λ u. u)
     (λ few. subst (λ n. LacksNumbersFor c.args.mini.now c.args.entry (n + length c.args.bytes.now)) c.content_in-len.ensures.len few) (λ u. u) e why)
-    c.move_with.ensures.err
+    c.move_with.ensures.refused.err

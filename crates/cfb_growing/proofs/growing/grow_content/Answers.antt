@@ -65,7 +65,7 @@ returns-in_err-resize_content-clause-refused g c told v held =
     let limited = subst (λ (a : AllocatorState). a.tables.max_sectors ≤ max_regular_sector) c.allocator.ensures c.max_sectors.ensures.limited in
     rw (p.1, p.2) (begun-or-full s c.resize_content.new.mini (IsTrue g.F.ReadMedium.tells → IsNotChangeable s) Long c.in_err-resize_content.field-0.0
     (λ long. enough-is-not-too-long v s i size held limited c.minifat_len.ensures.short (c.in_ok-size.ensures.enough v held) (long v held))
-    (c.in_err-resize_content.ensures.refused told) c.in_err-resize_content.ensures.err)
+    (c.in_err-resize_content.ensures.refused.refused told) c.in_err-resize_content.ensures.refused.err)
 
 -- it was not too long, so `Full` does not come
 
@@ -78,11 +78,11 @@ returns-in_err-resize_content-clause-err g c =
     let limited = subst (λ (a : AllocatorState). a.tables.max_sectors ≤ max_regular_sector) c.allocator.ensures c.max_sectors.ensures.limited in
     rw (p.1, p.2) (refused-as _ _ _ _ _ _ _ _ (λ bad. bad) (λ u. u)
     (λ long v held. absurd (enough-is-not-too-long v s i size held limited c.minifat_len.ensures.short (c.in_ok-size.ensures.enough v held) (long v held)))
-    (λ u. u) c.in_err-resize_content.field-0.0 c.in_err-resize_content.ensures.err)
+    (λ u. u) c.in_err-resize_content.field-0.0 c.in_err-resize_content.ensures.refused.err)
 
 pub returns-then-size-len-clause-content : goal.returns-then-size-len-clause-content
 returns-then-size-len-clause-content g c told =
-    subst (λ n. ResizesContent c.args.mini.now c.resize_content.new.mini c.args.entry n) (sym c.in_ok-resize_content.ensures.len) (c.in_ok-resize_content.ensures.content told)
+    subst (λ n. ResizesContent c.args.mini.now c.resize_content.new.mini c.args.entry n) (sym c.in_ok-resize_content.ensures.sized.len) (c.in_ok-resize_content.ensures.sized.content told)
 
 -- ---- one that can't
 

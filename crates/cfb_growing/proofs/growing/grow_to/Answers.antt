@@ -59,12 +59,12 @@ returns-in_err-resize_content-clause-refused g c told v held =
     let differs : wanted ≢ len_of s i = λ same. omega (arith, longer, same) in
     let p = err_from_is_err_and c.from_residual-in_err-resize_content.result c.from_residual-in_err-resize_content.ensures.1 in
     rw (p.1, p.2) (begun-or-full s c.resize_content.new.mini (IsTrue g.F.ReadMedium.tells → IsNotChangeable s) Long c.in_err-resize_content.field-0.0
-    (λ long. (c.in_ok-fits.ensures.can differs v held).0 c.if-fits.true (long v held)) (c.in_err-resize_content.ensures.refused told) c.in_err-resize_content.ensures.err)
+    (λ long. (c.in_ok-fits.ensures.can differs v held).0 c.if-fits.true (long v held)) (c.in_err-resize_content.ensures.refused.refused told) c.in_err-resize_content.ensures.refused.err)
 
 pub returns-in_err-resize_content-clause-err : goal.returns-in_err-resize_content-clause-err
 returns-in_err-resize_content-clause-err g c =
     let p = err_from_is_err_and c.from_residual-in_err-resize_content.result c.from_residual-in_err-resize_content.ensures.1 in
-    rw (p.1, p.2) c.in_err-resize_content.ensures.err
+    rw (p.1, p.2) c.in_err-resize_content.ensures.refused.err
 
 -- ---- one that can't
 

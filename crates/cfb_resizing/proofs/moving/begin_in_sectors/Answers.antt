@@ -12,11 +12,22 @@ use Rattle.cfb_resizing.proofs.moving.begin_in_sectors.Goals as goal
 pub extend_listed_from-requires : goal.extend_listed_from-requires
 extend_listed_from-requires g c = record { fits = begun-fits c.args.allocator.now.tables.version (length c.args.bytes.now) c.args.count c.requires.room }
 
-pub returns-clause-padded : goal.returns-clause-padded
-returns-clause-padded g c told validation held =
-    begun-padded c.args.allocator.now c.extend_listed_from.new.self c.args.count c.args.ids.now.items c.extend_listed_from.new.ids.items c.requires.fresh
-    c.in_ok-extend_listed_from.ensures.extends.lengthened c.args.bytes.now c.extend_listed_from.new.self.file.bytes
-    (c.in_ok-extend_listed_from.ensures.fills.put told validation held)
+pub returns-clause-begins : goal.returns-clause-begins
+returns-clause-begins g c = record {
+  chain = first_of (search rules, grind (arith, common_steps));
+  lengthened = first_of (search rules, grind (arith, common_steps));
+  padded = λ told validation held. (
+      begun-padded c.args.allocator.now c.extend_listed_from.new.self c.args.count c.args.ids.now.items c.extend_listed_from.new.ids.items c.requires.fresh
+      c.in_ok-extend_listed_from.ensures.extends.lengthened c.args.bytes.now c.extend_listed_from.new.self.file.bytes
+      (c.in_ok-extend_listed_from.ensures.fills.put told validation held)
+  );
+  changes = λ told. (
+      let new = c.extend_listed_from.new.self in
+      let ids' = c.extend_listed_from.new.ids.items in
+      subst (λ (l : List ℕ). ChangesSectors (new.tables.fat_sectors ++ new.tables.difat_sectors ++ gained l ids') new.tables.version c.args.allocator.now.file.bytes new.file.bytes) c.requires.fresh
+      (c.extend_listed_from.ensures.fills.changes told)
+  );
+}
 
 pub returns-clause-holds : goal.returns-clause-holds
 returns-clause-holds g c = record {
@@ -33,15 +44,8 @@ returns-clause-holds g c = record {
 }
 
 pub returns-clause-spares : goal.returns-clause-spares
-returns-clause-spares g c told =
-    subst (λ (l : List ℕ). Spares (ends_of l) c.args.allocator.now c.extend_listed_from.new.self) c.requires.fresh (c.extend_listed_from.ensures.takes.spares told)
-
-pub returns-clause-changes : goal.returns-clause-changes
-returns-clause-changes g c told =
-    let new = c.extend_listed_from.new.self in
-    let ids' = c.extend_listed_from.new.ids.items in
-    subst (λ (l : List ℕ). ChangesSectors (new.tables.fat_sectors ++ new.tables.difat_sectors ++ gained l ids') new.tables.version c.args.allocator.now.file.bytes new.file.bytes) c.requires.fresh
-    (c.extend_listed_from.ensures.fills.changes told)
-
-pub returns-clause-header : goal.returns-clause-header
-returns-clause-header g c told i lt is = let others = c.extend_listed_from.ensures.takes.others told in others.header i lt is
+returns-clause-spares g c = record {
+  spares = λ told. subst (λ (l : List ℕ). Spares (ends_of l) c.args.allocator.now c.extend_listed_from.new.self) c.requires.fresh (c.extend_listed_from.ensures.takes.spares told);
+  header = λ told i lt is. (let others = c.extend_listed_from.ensures.takes.others told in others.header i lt is);
+  counts = first_of (search rules, grind (arith, common_steps));
+}

@@ -43,14 +43,14 @@ pub returns-in_err-resize_content-in-Stream-clause-error : goal.returns-in_err-r
 returns-in_err-resize_content-in-Stream-clause-error g c =
     let p = err_from_is_err_and c.from_residual.result c.from_residual.ensures.1 in
     record {
-      first = λ told. rw (p.1, p.2) (c.in_err-resize_content-in-Stream.ensures.first told refl);
+      first = λ told. rw (p.1, p.2) (c.in_err-resize_content-in-Stream.ensures.emptied.first told refl);
       still = first_of (search rules, grind (arith, common_steps));
       err = λ told v change. (
           let s = c.args.mini.now in
           let i = c.args.entry in
           rw (p.1, p.2) (empty-break (IsTrue g.F.ReadMedium.tells → IsNotChangeable s) ((validation : Validation) → HoldsMini validation s → IsTooLongFor s i 0)
           (λ none. none told v change) (λ long. emptying-fits s i change.held c.minifat_len.ensures.short (long v change.held))
-          c.in_err-resize_content-in-Stream.field-0.0 c.in_err-resize_content-in-Stream.ensures.err)
+          c.in_err-resize_content-in-Stream.field-0.0 c.in_err-resize_content-in-Stream.ensures.refused.err)
           );
     }
 
@@ -83,24 +83,24 @@ returns-in_ok-resize_content-in-Stream-clause-gives g c =
                 let made = ok.changes.changed told in
                 content-keeps-parts i s new e.changes.moves at (made.holds Strict) (made.tidy v change) (made.owned v change) ok.changes.tight.exact
                 (sized-is-snug s new i e.changes.moves.limits e.changes.moves.entries ((e.changes.spares told).others v change) at (made.sized v change)) (made.snug_mini v change) (made.gives_back v change)
-                (sized-at-end s new i 0 ok.len (λ same. ap entries_of (ok.none same).1) ok.trimmed);
-            empty = λ stream. ok.len;
-            erased = λ v change stream. emptied-zeros c.args.mini.now c.resize_content.new.mini c.args.entry ok.len ((ok.content told).erased v change);
+                (sized-at-end s new i 0 ok.sized.len (λ same. ap entries_of (ok.sized.none same).1) ok.sized.trimmed);
+            empty = λ stream. ok.sized.len;
+            erased = λ v change stream. emptied-zeros c.args.mini.now c.resize_content.new.mini c.args.entry ok.sized.len ((ok.sized.content told).erased v change);
           }
           );
       none = first_of (search rules, grind (arith, common_steps));
       quiet = λ down. (
           let s = c.args.mini.now in
           elim (cases_lt 0 (len_of s c.args.entry)) [
-            | inl some ↦ absurd (let clash : true ≡ false = sym (ok.begun.1 (λ same. omega (arith, some, same))) ∙ down in cc)
-            | inr none ↦ (ok.none (omega (arith, none))).1
+            | inl some ↦ absurd (let clash : true ≡ false = sym (ok.sized.begun.1 (λ same. omega (arith, some, same))) ∙ down in cc)
+            | inr none ↦ (ok.sized.none (omega (arith, none))).1
           ]
           );
       gave_back = (
           let s = c.args.mini.now in
           elim (cases_lt 0 (len_of s c.args.entry)) [
-            | inl some ↦ inr (some, ok.len)
-            | inr none ↦ inl (ok.none (omega (arith, none))).1
+            | inl some ↦ inr (some, ok.sized.len)
+            | inr none ↦ inl (ok.sized.none (omega (arith, none))).1
           ]
           );
     }
