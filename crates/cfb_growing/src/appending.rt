@@ -1,6 +1,7 @@
 //! Bytes behind the end of a stream that lies in sectors then (MS-CFB 2.3): its chain goes on, or begins as it leaves its mini sectors, and what
 //! comes holds them from the first write on.
 ghost use Rattle.std.specs.Prelude.{◌≡◌, ◌+◌, ◌<◌, ◌≤◌, ◌⊎◌, ◌||◌, length, take, true, IsTrue, IfOk, IfErr, OnOk, OnErr};
+ghost use Rattle.cfb_growing.specs.Appending.{AppendsAll, AppendsPart, AppendsLong, TooLongRefused, AppendRefused, AppendPartRefused, PutsBehindOwn, PutsAtEnd, PuttingBehindRefused, PuttingAtEndRefused, CanAppendUpTo};
 ghost use Rattle.cfb_growing.specs.cfb_content.Turning.{ChangesContent, ExtendsContent, IsStreamWithin};
 ghost use Rattle.cfb_format.specs.declared.validate.Validation.{Validation};
 ghost use Rattle.cfb_format.specs.Bytes.{max_stream_len};
@@ -39,20 +40,10 @@ fn put_behind<F: Medium, A: Heap + Clone>(
             mini.old }
     requires large { mini_stream_cutoff ≤ len_of mini.old entry }
     requires some { 0 < length bytes.now }
-    ensures appended { IsTrue F.tells → (validation : Validation) → IsChangeable validation mini.old
-        → IfOk result (λ start. Appends mini.old mini.new entry bytes.now start) }
-    ensures holds { IsTrue F.tells → (validation : Validation) → IsChangeable validation mini.old
-        → OnOk result (HoldsMini validation mini.new) }
+        ensures put { PutsBehindOwn F.tells entry mini.old mini.new bytes.now result }
         ensures extends { ExtendsContent F.tells (λ f. F.read_faults f || F.write_faults f) entry
             mini.old mini.new result }
-    ensures snug_mini { IsTrue F.tells
-        → (validation : Validation) → IsChangeable validation mini.old → IsSnugMini mini.old
-        → OnOk result (IsSnugMini mini.new) }
-    ensures tidy { IsTrue F.tells → (validation : Validation) → IsChangeable validation mini.old
-        → OnOk result (StaysTidy mini.old mini.new) }
-    ensures refused { IfErr result (StopsOrBegun mini.old mini.new) }
-    ensures err { IfErr result (ChangeRefused (IsNotChangeable mini.old) Unit
-        (LacksNumbersFor mini.old entry (len_of mini.old entry + length bytes.now)) Unit) }
+        ensures refused { PuttingBehindRefused entry mini.old mini.new bytes.now result }
 {
     let (start, len) = content_in(mini, entry);
     let size = len + bytes.len() as u64;
@@ -76,22 +67,10 @@ fn put_at_end<F: Medium, A: Heap + Clone>(
             mini.old }
     requires large { mini_stream_cutoff ≤ len_of mini.old entry + length bytes.now }
     requires some { 0 < length bytes.now }
-    ensures put { IsTrue F.tells → (validation : Validation) → IsChangeable validation mini.old
-        → IfOk result (λ start. PutsBehind mini.old mini.new entry bytes.now start) }
-    ensures holds { IsTrue F.tells → (validation : Validation) → IsChangeable validation mini.old
-        → OnOk result (HoldsMini validation mini.new) }
+        ensures put { PutsAtEnd F.tells entry mini.old mini.new bytes.now result }
         ensures extends { ExtendsContent F.tells (λ f. F.read_faults f || F.write_faults f) entry
             mini.old mini.new result }
-    ensures snug_mini { IsTrue F.tells
-        → (validation : Validation) → IsChangeable validation mini.old → IsSnugMini mini.old
-        → OnOk result (IsSnugMini mini.new) }
-    ensures tidy { IsTrue F.tells → (validation : Validation) → IsChangeable validation mini.old
-        → OnOk result (StaysTidy mini.old mini.new) }
-    ensures refused { IsTrue F.tells → IfErr result (StopsOrBegun mini.old mini.new) }
-    ensures still { OnErr result (IsStill mini.old mini.new
-        ⊎ ((table_of mini.new).file.begun ≡ true)) }
-    ensures err { IfErr result (ChangeRefused (IsTrue F.tells → IsNotChangeable mini.old) Unit
-        (LacksNumbersFor mini.old entry (len_of mini.old entry + length bytes.now)) Unit) }
+        ensures refused { PuttingAtEndRefused F.tells entry mini.old mini.new bytes.now result }
 {
     let (_, len) = content_in(mini, entry);
     if len >= MINI_STREAM_CUTOFF as u64 {
@@ -112,24 +91,10 @@ fn append_in_sectors<F: Medium, A: Heap + Clone>(
     requires some { 0 < length bytes.now }
     requires enough { LacksNumbersFor mini.old entry
         (len_of mini.old entry + length bytes.now) → ⊥ }
-    ensures len { OnOk result (len_of mini.new entry ≡ len_of mini.old entry + length bytes.now) }
-    ensures content { IsTrue F.tells → (validation : Validation) → IsChangeable validation mini.old
-        → OnOk result (content_of mini.new (entry_at (entries_of mini.new) entry)
-        ≡ written (content_of mini.old (entry_at (entries_of mini.old) entry))
-        (len_of mini.old entry) bytes.now) }
+        ensures appends { AppendsAll F.tells entry mini.old mini.new bytes.now result }
         ensures changes { ChangesContent F.tells (λ f. F.read_faults f || F.write_faults f) entry
             mini.old mini.new result }
-    ensures stays_full { IsTrue F.tells
-        → (validation : Validation) → IsChangeable validation mini.old
-        → LeavesNoMinis mini.old entry (len_of mini.old entry + length bytes.now)
-        → NoneFree (tables_in mini.old).fat → OnOk result (NoneFree (tables_in mini.new).fat) }
-    ensures minis_full { IsTrue F.tells
-        → (validation : Validation) → IsChangeable validation mini.old
-        → LeavesNoMinis mini.old entry (len_of mini.old entry + length bytes.now)
-        → free_count mini.old.minifat ≡ 0 → OnOk result (free_count mini.new.minifat ≡ 0) }
-    ensures refused { IsTrue F.tells → IfErr result (StopsOrBegun mini.old mini.new) }
-    ensures err { IfErr result
-        (ChangeRefused (IsTrue F.tells → IsNotChangeable mini.old) Unit ⊥ Unit) }
+        ensures refused { AppendRefused F.tells mini.old mini.new result }
 {
     let (_, len) = content_in(mini, entry);
     if !mini.directory().is_placed() {
@@ -149,25 +114,11 @@ pub(crate) fn append_up_to<F: Medium, A: Heap + Clone>(
 ) -> Result<usize, Error>
         requires size_fits { IsStreamWithin entry (len_of mini.old entry + length bytes.now)
             mini.old }
-    requires longer { len_of mini.old entry < size }
-    requires within { size ≤ len_of mini.old entry + length bytes.now }
-    requires large { mini_stream_cutoff ≤ size }
-    requires enough { LacksNumbersFor mini.old entry size → ⊥ }
-    ensures count { IfOk result (λ n. (0 < n) × (n ≤ length bytes.now)) }
-    ensures len { IfOk result (λ n. len_of mini.new entry ≡ len_of mini.old entry + n) }
-    ensures content { IsTrue F.tells → (validation : Validation) → IsChangeable validation mini.old
-        → IfOk result (λ n. content_of mini.new (entry_at (entries_of mini.new) entry)
-        ≡ written (content_of mini.old (entry_at (entries_of mini.old) entry))
-        (len_of mini.old entry) (take n bytes.now)) }
+        requires can_append { CanAppendUpTo entry size mini.old bytes.now }
+        ensures appends { AppendsPart F.tells entry mini.old mini.new bytes.now result }
         ensures changes { ChangesContent F.tells (λ f. F.read_faults f || F.write_faults f) entry
             mini.old mini.new result }
-    ensures stays_full { IsTrue F.tells
-        → (validation : Validation) → IsChangeable validation mini.old
-        → LeavesNoMinis mini.old entry (len_of mini.old entry + length bytes.now)
-        → NoneFree (tables_in mini.old).fat → OnOk result (NoneFree (tables_in mini.new).fat) }
-    ensures refused { IsTrue F.tells → IfErr result (StopsOrIsFull mini.old mini.new) }
-    ensures err { IfErr result
-        (ChangeRefused (IsTrue F.tells → IsNotChangeable mini.old) Unit ⊥ Unit) }
+        ensures refused { AppendPartRefused F.tells mini.old mini.new result }
 {
     let (_, len) = content_in(mini, entry);
     let count = (size - len) as usize;
@@ -186,22 +137,11 @@ pub(crate) fn append_long<F: Medium, A: Heap + Clone>(
             mini.old }
     requires some { 0 < length bytes.now }
     requires large { mini_stream_cutoff ≤ len_of mini.old entry }
-    ensures count { IfOk result (λ n. (0 < n) × (n ≤ length bytes.now)) }
-    ensures len { IfOk result (λ n. len_of mini.new entry ≡ len_of mini.old entry + n) }
-    ensures content { IsTrue F.tells → (validation : Validation) → IsChangeable validation mini.old
-        → IfOk result (λ n. content_of mini.new (entry_at (entries_of mini.new) entry)
-        ≡ written (content_of mini.old (entry_at (entries_of mini.old) entry))
-        (len_of mini.old entry) (take n bytes.now)) }
+        ensures appends { AppendsLong F.tells entry mini.old mini.new bytes.now result }
         ensures changes { ChangesContent F.tells (λ f. F.read_faults f || F.write_faults f) entry
             mini.old mini.new result }
-    ensures stays_full { IsTrue F.tells
-        → (validation : Validation) → IsChangeable validation mini.old
-        → NoneFree (tables_in mini.old).fat → OnOk result (NoneFree (tables_in mini.new).fat) }
-    ensures refused { IsTrue F.tells → (validation : Validation) → HoldsMini validation mini.old
-        → IfErr result (StopsOrIsFull mini.old mini.new) }
-    ensures err { IfErr result (ChangeRefused (IsTrue F.tells → IsNotChangeable mini.old) Unit
-        ((validation : Validation) → HoldsMini validation mini.old
-        → IsTooLongFor mini.old entry (len_of mini.old entry + 1)) Unit) }
+        ensures refused { TooLongRefused F.tells entry mini.old mini.new (len_of mini.old entry + 1)
+            result }
 {
     let (_, len) = content_in(mini, entry);
     let wanted = len + bytes.len() as u64;
@@ -224,26 +164,11 @@ pub(crate) fn append_long_all<F: Medium, A: Heap + Clone>(
             mini.old }
     requires some { 0 < length bytes.now }
     requires large { mini_stream_cutoff ≤ len_of mini.old entry + length bytes.now }
-    ensures len { OnOk result (len_of mini.new entry ≡ len_of mini.old entry + length bytes.now) }
-    ensures content { IsTrue F.tells → (validation : Validation) → IsChangeable validation mini.old
-        → OnOk result (content_of mini.new (entry_at (entries_of mini.new) entry)
-        ≡ written (content_of mini.old (entry_at (entries_of mini.old) entry))
-        (len_of mini.old entry) bytes.now) }
+        ensures appends { AppendsAll F.tells entry mini.old mini.new bytes.now result }
         ensures changes { ChangesContent F.tells (λ f. F.read_faults f || F.write_faults f) entry
             mini.old mini.new result }
-    ensures stays_full { IsTrue F.tells
-        → (validation : Validation) → IsChangeable validation mini.old
-        → LeavesNoMinis mini.old entry (len_of mini.old entry + length bytes.now)
-        → NoneFree (tables_in mini.old).fat → OnOk result (NoneFree (tables_in mini.new).fat) }
-    ensures minis_full { IsTrue F.tells
-        → (validation : Validation) → IsChangeable validation mini.old
-        → LeavesNoMinis mini.old entry (len_of mini.old entry + length bytes.now)
-        → free_count mini.old.minifat ≡ 0 → OnOk result (free_count mini.new.minifat ≡ 0) }
-    ensures refused { IsTrue F.tells → (validation : Validation) → HoldsMini validation mini.old
-        → IfErr result (StopsOrIsFull mini.old mini.new) }
-    ensures err { IfErr result (ChangeRefused (IsTrue F.tells → IsNotChangeable mini.old) Unit
-        ((validation : Validation) → HoldsMini validation mini.old
-        → IsTooLongFor mini.old entry (len_of mini.old entry + length bytes.now)) Unit) }
+        ensures refused { TooLongRefused F.tells entry mini.old mini.new
+            (len_of mini.old entry + length bytes.now) result }
 {
     let (_, len) = content_in(mini, entry);
     let wanted = len + bytes.len() as u64;

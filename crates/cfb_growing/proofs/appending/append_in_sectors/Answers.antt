@@ -34,10 +34,14 @@ use Rattle.cfb_growing.proofs.cfb_mini_changes.MiniExtended.{invalid-refused, li
 pub content_in-len-requires : goal.content_in-len-requires
 content_in-len-requires g c = record { inside = stream-inside c.args.mini.now c.args.entry c.requires.size_fits.stream }
 
-pub returns-in_err-start-clause-err : goal.returns-in_err-start-clause-err
-returns-in_err-start-clause-err g c =
-    let p = err_from_is_err_and c.from_residual.result c.from_residual.ensures.1 in
-    rw (p.1, p.2) (refused-as _ _ _ _ _ _ _ _ (λ bad. bad) (λ u. u) c.requires.enough (λ u. u) c.in_err-start.field-0.0 c.in_err-start.ensures.err)
+pub returns-in_err-start-clause-refused : goal.returns-in_err-start-clause-refused
+returns-in_err-start-clause-refused g c = record {
+  refused = first_of (search rules, grind (arith, common_steps));
+  err = (
+      let p = err_from_is_err_and c.from_residual.result c.from_residual.ensures.1 in
+      rw (p.1, p.2) (refused-as _ _ _ _ _ _ _ _ (λ bad. bad) (λ u. u) c.requires.enough (λ u. u) c.in_err-start.field-0.0 c.in_err-start.ensures.refused.err)
+  );
+}
 
 pub returns-in_err-start-clause-changes : goal.returns-in_err-start-clause-changes
 returns-in_err-start-clause-changes g c = record {
@@ -66,13 +70,17 @@ returns-then-not-is_placed-clause-changes g c = record {
   counts = first_of (search rules, grind (arith, common_steps));
 }
 
-pub returns-then-not-is_placed-clause-err : goal.returns-then-not-is_placed-clause-err
-returns-then-not-is_placed-clause-err g c =
-    let s = c.args.mini.now in
-    let none : IsTrue g.F.ReadMedium.tells → IsNotChangeable s = λ told v change.
-    (let placed : IsTrue c.is_placed.result = c.is_placed.ensures.1 (subst ArePlaced (sym c.directory.ensures) (held_places v s.directory change.held.directory)) in
-    let clash : true ≡ false = sym placed ∙ c.if-not-is_placed.true in cc) in
-    invalid-refused (IsTrue g.F.ReadMedium.tells → IsNotChangeable s) (Unit {0}) ⊥ (Unit {0}) c.unplaced.result c.unplaced.ensures none
+pub returns-then-not-is_placed-clause-refused : goal.returns-then-not-is_placed-clause-refused
+returns-then-not-is_placed-clause-refused g c = record {
+  refused = first_of (search rules, grind (arith, common_steps));
+  err = (
+      let s = c.args.mini.now in
+      let none : IsTrue g.F.ReadMedium.tells → IsNotChangeable s = λ told v change.
+      (let placed : IsTrue c.is_placed.result = c.is_placed.ensures.1 (subst ArePlaced (sym c.directory.ensures) (held_places v s.directory change.held.directory)) in
+      let clash : true ≡ false = sym placed ∙ c.if-not-is_placed.true in cc) in
+      invalid-refused (IsTrue g.F.ReadMedium.tells → IsNotChangeable s) (Unit {0}) ⊥ (Unit {0}) c.unplaced.result c.unplaced.ensures none
+  );
+}
 
 -- ---- the bytes stand there, and the entry is to say so
 
@@ -95,7 +103,7 @@ named g c told validation change = record {
   stream = c.requires.size_fits.stream;
   around = c.put_at_end.ensures.extends.around;
   others = (c.put_at_end.ensures.extends.spares told).others validation change;
-  held = c.in_ok-start.ensures.holds told validation change;
+  held = c.in_ok-start.ensures.put.holds told validation change;
   spares = c.name_content.ensures.holds.spares told;
   slots = c.name_content.ensures.holds.others told;
   system = c.name_content.ensures.names.system;
@@ -109,7 +117,7 @@ held-then : (g : _) (c : goal.After-name_content g) → IsTrue g.F.ReadMedium.te
 held-then g c told validation change =
     let n = length c.args.bytes.now in
     let limit = subst (λ m. m + n ≤ max_stream_len c.args.mini.now.directory.table.tables.version) (sym c.content_in-len.ensures.len) c.requires.size_fits.limit in
-    c.name_content.ensures.holds.holds told validation (c.in_ok-start.ensures.holds told validation change)
+    c.name_content.ensures.holds.holds told validation (c.in_ok-start.ensures.put.holds told validation change)
     (subst (λ (v : Version). c.content_in-len.result.1 + n ≤ max_stream_len v) (sym c.put_at_end.ensures.extends.around.limits.version) limit)
 
 appended-then : (g : _) (c : goal.After-name_content g) → IsTrue g.F.ReadMedium.tells → (validation : Validation) → IsChangeable validation c.args.mini.now
@@ -119,14 +127,27 @@ appended-then g c told validation change = on_both _ _ _ c.name_content.result
       held,
       appended-is validation c.args.mini.now c.put_at_end.new.mini c.name_content.new.mini c.args.entry (c.content_in-len.result.1 + length c.args.bytes.now) c.in_ok-start.start
           c.args.bytes.now (named g c told validation change) held at (ap (λ m. m + length c.args.bytes.now) c.content_in-len.ensures.len)
-          (c.in_ok-start.ensures.put told validation change),
+          (c.in_ok-start.ensures.put.behind told validation change),
     ))
     (held-then g c told validation change) c.name_content.ensures.names.named
 
-pub returns-clause-len : goal.returns-clause-len
-returns-clause-len g c =
-    on_ok_weaker c.name_content.result
-    (λ at. ap (λ (e : Entry). e.stream_len) at ∙ ap (λ m. m + length c.args.bytes.now) c.content_in-len.ensures.len) c.name_content.ensures.names.named
+pub returns-clause-appends : goal.returns-clause-appends
+returns-clause-appends g c = record {
+  len = (
+      on_ok_weaker c.name_content.result
+      (λ at. ap (λ (e : Entry). e.stream_len) at ∙ ap (λ m. m + length c.args.bytes.now) c.content_in-len.ensures.len) c.name_content.ensures.names.named
+  );
+  content = λ told validation change. on_ok_weaker c.name_content.result (λ t. t.1.content) (appended-then g c told validation change);
+  stays_full = λ told validation change stays none. (
+      let full = appended-stays-full c.args.mini.now c.put_at_end.new.mini c.args.entry c.in_ok-start.start c.args.bytes.now stays (c.in_ok-start.ensures.put.behind told validation change) none in
+      always-on-ok c.name_content.result (subst (λ (t : TableState). NoneFree t.fat) (sym c.name_content.ensures.names.system.tables) full)
+  );
+  minis_full = λ told validation change stays none. (
+      always-on-ok c.name_content.result
+      (kept-minis-full c.put_at_end.new.mini c.name_content.new.mini c.name_content.ensures.names.mini
+      (appended-minis-full c.args.mini.now c.put_at_end.new.mini c.args.entry c.in_ok-start.start c.args.bytes.now stays (c.in_ok-start.ensures.put.behind told validation change) none))
+  );
+}
 
 pub returns-clause-changes : goal.returns-clause-changes
 returns-clause-changes g c = record {
@@ -161,14 +182,14 @@ returns-clause-changes g c = record {
       (λ v change. on_ok_weaker c.name_content.result (λ t. t.1.sized) (appended-then g c told v change))
       (λ v change snug. kept-is-snug-mini c.put_at_end.new.mini new c.name_content.ensures.names.limits.version c.name_content.ensures.names.mini
       (ap (λ (e : Entry). e.start_sector) c.name_content.ensures.names.root) (ap (λ (e : Entry). e.stream_len) c.name_content.ensures.names.root)
-      (c.in_ok-start.ensures.snug_mini told v change snug))
+      (c.in_ok-start.ensures.put.snug_mini told v change snug))
       (λ v change frees. kept-is-snug-mini c.put_at_end.new.mini new c.name_content.ensures.names.limits.version c.name_content.ensures.names.mini
       (ap (λ (e : Entry). e.start_sector) c.name_content.ensures.names.root) (ap (λ (e : Entry). e.stream_len) c.name_content.ensures.names.root)
-      (puts-frees s c.put_at_end.new.mini i c.in_ok-start.start c.args.bytes.now (c.in_ok-start.ensures.put told v change)
+      (puts-frees s c.put_at_end.new.mini i c.in_ok-start.start c.args.bytes.now (c.in_ok-start.ensures.put.behind told v change)
       (frees-before s c.put_at_end.new.mini new c.name_content.ensures.names.mini.minifat frees)))
       (λ v change. on_ok_weaker c.name_content.result
-      (λ held. named-tidy v s c.put_at_end.new.mini new (c.in_ok-start.ensures.holds told v change) held c.name_content.ensures.names.system (c.name_content.ensures.holds.header told)
-      (c.name_content.ensures.holds.spares told) (c.in_ok-start.ensures.tidy told v change))
+      (λ held. named-tidy v s c.put_at_end.new.mini new (c.in_ok-start.ensures.put.holds told v change) held c.name_content.ensures.names.system (c.name_content.ensures.holds.header told)
+      (c.name_content.ensures.holds.spares told) (c.in_ok-start.ensures.put.tidy told v change))
       (held-then g c told v change))
   );
   tight = (
@@ -178,17 +199,3 @@ returns-clause-changes g c = record {
   still = first_of (search rules, grind (arith, common_steps));
   counts = first_of (search rules, grind (arith, common_steps));
 }
-
-pub returns-clause-content : goal.returns-clause-content
-returns-clause-content g c told validation change = on_ok_weaker c.name_content.result (λ t. t.1.content) (appended-then g c told validation change)
-
-pub returns-clause-stays_full : goal.returns-clause-stays_full
-returns-clause-stays_full g c told validation change stays none =
-    let full = appended-stays-full c.args.mini.now c.put_at_end.new.mini c.args.entry c.in_ok-start.start c.args.bytes.now stays (c.in_ok-start.ensures.put told validation change) none in
-    always-on-ok c.name_content.result (subst (λ (t : TableState). NoneFree t.fat) (sym c.name_content.ensures.names.system.tables) full)
-
-pub returns-clause-minis_full : goal.returns-clause-minis_full
-returns-clause-minis_full g c told validation change stays none =
-    always-on-ok c.name_content.result
-    (kept-minis-full c.put_at_end.new.mini c.name_content.new.mini c.name_content.ensures.names.mini
-    (appended-minis-full c.args.mini.now c.put_at_end.new.mini c.args.entry c.in_ok-start.start c.args.bytes.now stays (c.in_ok-start.ensures.put told validation change) none))

@@ -34,14 +34,18 @@ returns-then-not-is_placed-clause-changes g c = record {
   counts = first_of (search rules, grind (arith, common_steps));
 }
 
-pub returns-then-not-is_placed-clause-err : goal.returns-then-not-is_placed-clause-err
-returns-then-not-is_placed-clause-err g c =
-    let s = c.args.mini.now in
-    let none : IsTrue g.F.ReadMedium.tells → IsNotChangeable s = λ told v change.
-    (let placed : IsTrue c.is_placed.result = c.is_placed.ensures.1 (subst ArePlaced (sym c.directory.ensures) (held_places v s.directory change.held.directory)) in
-    let clash : true ≡ false = sym placed ∙ c.if-not-is_placed.true in cc) in
-    let Long = (validation : Validation) → HoldsMini validation s → IsTooLongFor s c.args.entry (len_of s c.args.entry + 1) in
-    invalid-refused (IsTrue g.F.ReadMedium.tells → IsNotChangeable s) (Unit {0}) Long (Unit {0}) c.unplaced.result c.unplaced.ensures none
+pub returns-then-not-is_placed-clause-refused : goal.returns-then-not-is_placed-clause-refused
+returns-then-not-is_placed-clause-refused g c = record {
+  refused = first_of (search rules, grind (arith, common_steps));
+  err = (
+      let s = c.args.mini.now in
+      let none : IsTrue g.F.ReadMedium.tells → IsNotChangeable s = λ told v change.
+      (let placed : IsTrue c.is_placed.result = c.is_placed.ensures.1 (subst ArePlaced (sym c.directory.ensures) (held_places v s.directory change.held.directory)) in
+      let clash : true ≡ false = sym placed ∙ c.if-not-is_placed.true in cc) in
+      let Long = (validation : Validation) → HoldsMini validation s → IsTooLongFor s c.args.entry (len_of s c.args.entry + 1) in
+      invalid-refused (IsTrue g.F.ReadMedium.tells → IsNotChangeable s) (Unit {0}) Long (Unit {0}) c.unplaced.result c.unplaced.ensures none
+  );
+}
 
 -- ---- a stream that can grow
 
@@ -56,33 +60,38 @@ returns-in_err-size-clause-changes g c = record {
 }
 
 pub returns-in_err-resize_content-clause-refused : goal.returns-in_err-resize_content-clause-refused
-returns-in_err-resize_content-clause-refused g c told v held =
-    let s = c.args.mini.now in
-    let i = c.args.entry in
-    let size = c.in_ok-size.size in
-    let Long = (validation : Validation) → HoldsMini validation s → IsTooLongFor s i size in
-    let p = err_from_is_err_and c.from_residual-in_err-resize_content.result c.from_residual-in_err-resize_content.ensures.1 in
-    let limited = subst (λ (a : AllocatorState). a.tables.max_sectors ≤ max_regular_sector) c.allocator.ensures c.max_sectors.ensures.limited in
-    rw (p.1, p.2) (begun-or-full s c.resize_content.new.mini (IsTrue g.F.ReadMedium.tells → IsNotChangeable s) Long c.in_err-resize_content.field-0.0
-    (λ long. enough-is-not-too-long v s i size held limited c.minifat_len.ensures.short (c.in_ok-size.ensures.enough v held) (long v held))
-    (c.in_err-resize_content.ensures.refused.refused told) c.in_err-resize_content.ensures.refused.err)
+returns-in_err-resize_content-clause-refused g c = record {
+  refused = λ told v held. (
+      let s = c.args.mini.now in
+      let i = c.args.entry in
+      let size = c.in_ok-size.size in
+      let Long = (validation : Validation) → HoldsMini validation s → IsTooLongFor s i size in
+      let p = err_from_is_err_and c.from_residual-in_err-resize_content.result c.from_residual-in_err-resize_content.ensures.1 in
+      let limited = subst (λ (a : AllocatorState). a.tables.max_sectors ≤ max_regular_sector) c.allocator.ensures c.max_sectors.ensures.limited in
+      rw (p.1, p.2) (begun-or-full s c.resize_content.new.mini (IsTrue g.F.ReadMedium.tells → IsNotChangeable s) Long c.in_err-resize_content.field-0.0
+      (λ long. enough-is-not-too-long v s i size held limited c.minifat_len.ensures.short (c.in_ok-size.ensures.enough v held) (long v held))
+      (c.in_err-resize_content.ensures.refused.refused told) c.in_err-resize_content.ensures.refused.err)
+  );
+  err = (
+      let s = c.args.mini.now in
+      let i = c.args.entry in
+      let size = c.in_ok-size.size in
+      let p = err_from_is_err_and c.from_residual-in_err-resize_content.result c.from_residual-in_err-resize_content.ensures.1 in
+      let limited = subst (λ (a : AllocatorState). a.tables.max_sectors ≤ max_regular_sector) c.allocator.ensures c.max_sectors.ensures.limited in
+      rw (p.1, p.2) (refused-as _ _ _ _ _ _ _ _ (λ bad. bad) (λ u. u)
+      (λ long v held. absurd (enough-is-not-too-long v s i size held limited c.minifat_len.ensures.short (c.in_ok-size.ensures.enough v held) (long v held)))
+      (λ u. u) c.in_err-resize_content.field-0.0 c.in_err-resize_content.ensures.refused.err)
+  );
+}
 
 -- it was not too long, so `Full` does not come
 
-pub returns-in_err-resize_content-clause-err : goal.returns-in_err-resize_content-clause-err
-returns-in_err-resize_content-clause-err g c =
-    let s = c.args.mini.now in
-    let i = c.args.entry in
-    let size = c.in_ok-size.size in
-    let p = err_from_is_err_and c.from_residual-in_err-resize_content.result c.from_residual-in_err-resize_content.ensures.1 in
-    let limited = subst (λ (a : AllocatorState). a.tables.max_sectors ≤ max_regular_sector) c.allocator.ensures c.max_sectors.ensures.limited in
-    rw (p.1, p.2) (refused-as _ _ _ _ _ _ _ _ (λ bad. bad) (λ u. u)
-    (λ long v held. absurd (enough-is-not-too-long v s i size held limited c.minifat_len.ensures.short (c.in_ok-size.ensures.enough v held) (long v held)))
-    (λ u. u) c.in_err-resize_content.field-0.0 c.in_err-resize_content.ensures.refused.err)
-
-pub returns-then-size-len-clause-content : goal.returns-then-size-len-clause-content
-returns-then-size-len-clause-content g c told =
-    subst (λ n. ResizesContent c.args.mini.now c.resize_content.new.mini c.args.entry n) (sym c.in_ok-resize_content.ensures.sized.len) (c.in_ok-resize_content.ensures.sized.content told)
+pub returns-then-size-len-clause-grown : goal.returns-then-size-len-clause-grown
+returns-then-size-len-clause-grown g c = record {
+  has_len = first_of (search rules, grind (arith, common_steps));
+  content = λ told. subst (λ n. ResizesContent c.args.mini.now c.resize_content.new.mini c.args.entry n) (sym c.in_ok-resize_content.ensures.sized.len) (c.in_ok-resize_content.ensures.sized.content told);
+  begun = first_of (search rules, grind (arith, common_steps));
+}
 
 -- ---- one that can't
 
@@ -94,32 +103,40 @@ take_the_rest-requires-clause-stuck g c =
     let same : c.in_ok-size.size ≡ len_of c.args.mini.now c.args.entry = omega (arith, low, c.content_in-len.ensures.len, c.if-size-len.false) in
     c.in_ok-size.ensures.none same c.args.wanted c.requires.longer (omega arith)
 
-pub returns-in_err-take_the_rest-clause-err : goal.returns-in_err-take_the_rest-clause-err
-returns-in_err-take_the_rest-clause-err g c =
-    let s = c.args.mini.now in
-    let i = c.args.entry in
-    let low = c.in_ok-size.ensures.within.0 in
-    let longer = c.requires.longer in
-    let same : c.in_ok-size.size ≡ len_of s i = omega (arith, low, c.content_in-len.ensures.len, c.if-size-len.false) in
-    let p = err_from_is_err_and c.from_residual-in_err-take_the_rest.result c.from_residual-in_err-take_the_rest.ensures.1 in
-    rw (p.1, p.2) (refused-as _ _ _ _ _ _ _ _ (λ bad told. bad) (λ u. u)
-    (λ u v held. lack-is-too-long s i (len_of s i + 1) (λ small. held.mini_stream.kept ∙ sym held.mini_stream.chain)
-    (c.in_ok-size.ensures.none same (len_of s i + 1) (omega arith) (omega (arith, longer))))
-    (λ u. u) c.in_err-take_the_rest.field-0.0 c.in_err-take_the_rest.ensures.err)
+pub returns-in_err-take_the_rest-clause-refused : goal.returns-in_err-take_the_rest-clause-refused
+returns-in_err-take_the_rest-clause-refused g c = record {
+  refused = first_of (search rules, grind (arith, common_steps));
+  err = (
+      let s = c.args.mini.now in
+      let i = c.args.entry in
+      let low = c.in_ok-size.ensures.within.0 in
+      let longer = c.requires.longer in
+      let same : c.in_ok-size.size ≡ len_of s i = omega (arith, low, c.content_in-len.ensures.len, c.if-size-len.false) in
+      let p = err_from_is_err_and c.from_residual-in_err-take_the_rest.result c.from_residual-in_err-take_the_rest.ensures.1 in
+      rw (p.1, p.2) (refused-as _ _ _ _ _ _ _ _ (λ bad told. bad) (λ u. u)
+      (λ u v held. lack-is-too-long s i (len_of s i + 1) (λ small. held.mini_stream.kept ∙ sym held.mini_stream.chain)
+      (c.in_ok-size.ensures.none same (len_of s i + 1) (omega arith) (omega (arith, longer))))
+      (λ u. u) c.in_err-take_the_rest.field-0.0 c.in_err-take_the_rest.ensures.takes.err)
+  );
+}
 
-pub returns-clause-err : goal.returns-clause-err
-returns-clause-err g c v held =
-    let s = c.args.mini.now in
-    let i = c.args.entry in
-    let low = c.in_ok-size.ensures.within.0 in
-    let longer = c.requires.longer in
-    let same : c.in_ok-size.size ≡ len_of s i = omega (arith, low, c.content_in-len.ensures.len, c.if-size-len.false) in
-    lack-is-too-long s i (len_of s i + 1) (λ small. held.mini_stream.kept ∙ sym held.mini_stream.chain)
-    (c.in_ok-size.ensures.none same (len_of s i + 1) (omega arith) (omega (arith, longer)))
+pub returns-clause-refused : goal.returns-clause-refused
+returns-clause-refused g c = record {
+  refused = λ told v held. (c.in_ok-take_the_rest.ensures.takes.begun, c.in_ok-take_the_rest.ensures.full);
+  err = λ v held. (
+      let s = c.args.mini.now in
+      let i = c.args.entry in
+      let low = c.in_ok-size.ensures.within.0 in
+      let longer = c.requires.longer in
+      let same : c.in_ok-size.size ≡ len_of s i = omega (arith, low, c.content_in-len.ensures.len, c.if-size-len.false) in
+      lack-is-too-long s i (len_of s i + 1) (λ small. held.mini_stream.kept ∙ sym held.mini_stream.chain)
+      (c.in_ok-size.ensures.none same (len_of s i + 1) (omega arith) (omega (arith, longer)))
+  );
+}
 
 pub returns-in_err-take_the_rest-clause-changes : goal.returns-in_err-take_the_rest-clause-changes
 returns-in_err-take_the_rest-clause-changes g c = record {
-  moves = around-moves c.args.mini.now c.take_the_rest.new.mini c.args.entry c.requires.size_fits.stream c.take_the_rest.ensures.around;
+  moves = around-moves c.args.mini.now c.take_the_rest.new.mini c.args.entry c.requires.size_fits.stream c.take_the_rest.ensures.takes.around;
   spares = first_of (search rules, grind (arith, common_steps));
   changed = first_of (search rules, grind (arith, common_steps));
   tight = first_of (search rules, grind (arith, common_steps));
@@ -129,13 +146,10 @@ returns-in_err-take_the_rest-clause-changes g c = record {
 
 pub returns-clause-changes : goal.returns-clause-changes
 returns-clause-changes g c = record {
-  moves = around-moves c.args.mini.now c.take_the_rest.new.mini c.args.entry c.requires.size_fits.stream c.take_the_rest.ensures.around;
+  moves = around-moves c.args.mini.now c.take_the_rest.new.mini c.args.entry c.requires.size_fits.stream c.take_the_rest.ensures.takes.around;
   spares = first_of (search rules, grind (arith, common_steps));
   changed = first_of (search rules, grind (arith, common_steps));
   tight = first_of (search rules, grind (arith, common_steps));
   still = first_of (search rules, grind (arith, common_steps));
   counts = first_of (search rules, grind (arith, common_steps));
 }
-
-pub returns-clause-refused : goal.returns-clause-refused
-returns-clause-refused g c told v held = (c.in_ok-take_the_rest.ensures.begun, c.in_ok-take_the_rest.ensures.full)

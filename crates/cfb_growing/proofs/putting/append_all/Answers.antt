@@ -36,11 +36,17 @@ returns-in_err-list-clause-changes g c = record {
 
 -- ---- nothing is to be put
 
-pub returns-then-is_empty-clause-content : goal.returns-then-is_empty-clause-content
-returns-then-is_empty-clause-content g c told v change =
-    let s = c.args.mini.now in
-    let whole = whole-of v s c.args.entry change c.requires.size_fits.stream in
-    written-none (content_of s (entry_at (entries_of s) c.args.entry)) c.args.bytes.now (len_of s c.args.entry) (eqb-true (length c.args.bytes.now) 0 (sym c.is_empty.ensures ∙ c.if-is_empty.true)) (omega (arith, whole))
+pub returns-then-is_empty-clause-appends : goal.returns-then-is_empty-clause-appends
+returns-then-is_empty-clause-appends g c = record {
+  len = first_of (search rules, grind (arith, common_steps));
+  content = λ told v change. (
+      let s = c.args.mini.now in
+      let whole = whole-of v s c.args.entry change c.requires.size_fits.stream in
+      written-none (content_of s (entry_at (entries_of s) c.args.entry)) c.args.bytes.now (len_of s c.args.entry) (eqb-true (length c.args.bytes.now) 0 (sym c.is_empty.ensures ∙ c.if-is_empty.true)) (omega (arith, whole))
+  );
+  stays_full = first_of (search rules, grind (arith, common_steps));
+  minis_full = first_of (search rules, grind (arith, common_steps));
+}
 
 pub returns-then-is_empty-clause-changes : goal.returns-then-is_empty-clause-changes
 returns-then-is_empty-clause-changes g c = record {
@@ -57,22 +63,28 @@ returns-then-is_empty-clause-changes g c = record {
 pub append_long_all-requires-clause-large : goal.append_long_all-requires-clause-large
 append_long_all-requires-clause-large g c = omega (arith, c.if-wanted.true, c.content_in-len.ensures.len)
 
-pub returns-then-wanted-clause-stays_full : goal.returns-then-wanted-clause-stays_full
-returns-then-wanted-clause-stays_full g c told v change stays none = c.append_long_all.ensures.stays_full told v change stays none
-
-pub returns-then-wanted-clause-minis_full : goal.returns-then-wanted-clause-minis_full
-returns-then-wanted-clause-minis_full g c told v change stays none = c.append_long_all.ensures.minis_full told v change stays none
+pub returns-then-wanted-clause-appends : goal.returns-then-wanted-clause-appends
+returns-then-wanted-clause-appends g c = record {
+  len = first_of (search rules, grind (arith, common_steps));
+  content = first_of (search rules, grind (arith, common_steps));
+  stays_full = λ told v change stays none. c.append_long_all.ensures.appends.stays_full told v change stays none;
+  minis_full = λ told v change stays none. c.append_long_all.ensures.appends.minis_full told v change stays none;
+}
 
 -- ---- it cannot grow
 
-pub returns-in_err-grow_to-clause-err : goal.returns-in_err-grow_to-clause-err
-returns-in_err-grow_to-clause-err g c =
-    let p = err_from_is_err_and c.from_residual-in_err-grow_to.result c.from_residual-in_err-grow_to.ensures.1 in
-    let s = c.args.mini.now in
-    let i = c.args.entry in
-    rw (p.1, p.2) (refused-as _ _ _ _ _ _ _ _ (λ bad. bad) (λ u. u)
-    (λ long v held. subst (λ n. IsTooLongFor s i (n + length c.args.bytes.now)) c.content_in-len.ensures.len (long v held))
-    (λ u. u) c.in_err-grow_to.field-0.0 c.in_err-grow_to.ensures.err)
+pub returns-in_err-grow_to-clause-refused : goal.returns-in_err-grow_to-clause-refused
+returns-in_err-grow_to-clause-refused g c = record {
+  refused = first_of (search rules, grind (arith, common_steps));
+  err = (
+      let p = err_from_is_err_and c.from_residual-in_err-grow_to.result c.from_residual-in_err-grow_to.ensures.1 in
+      let s = c.args.mini.now in
+      let i = c.args.entry in
+      rw (p.1, p.2) (refused-as _ _ _ _ _ _ _ _ (λ bad. bad) (λ u. u)
+      (λ long v held. subst (λ n. IsTooLongFor s i (n + length c.args.bytes.now)) c.content_in-len.ensures.len (long v held))
+      (λ u. u) c.in_err-grow_to.field-0.0 c.in_err-grow_to.ensures.refused.err)
+  );
+}
 
 -- ---- it has grown
 
@@ -86,7 +98,7 @@ returns-in_err-write_listed-clause-changes g c = record {
   moves = filed-alone c.grow_to.new.mini c.write_listed.new.mini c.write_listed.ensures.writes.rest c.args.mini.now c.args.entry c.grow_to.ensures.changes.moves;
   spares = λ told. (
       spares-behind c.args.mini.now c.grow_to.new.mini c.write_listed.new.mini c.args.entry c.grow_to.ensures.changes.moves (c.grow_to.ensures.changes.spares told) (c.in_ok-grow_to.ensures.changes.changed told) (c.write_listed.ensures.holds.others told)
-      (c.write_listed.ensures.writes.header told) (still-begun c.args.mini.now c.grow_to.new.mini c.write_listed.new.mini c.in_err-write_listed.field-0.0 c.in_ok-grow_to.ensures.begun c.in_err-write_listed.ensures.writes.refused)
+      (c.write_listed.ensures.writes.header told) (still-begun c.args.mini.now c.grow_to.new.mini c.write_listed.new.mini c.in_err-write_listed.field-0.0 c.in_ok-grow_to.ensures.grown.begun c.in_err-write_listed.ensures.writes.refused)
   );
   changed = first_of (search rules, grind (arith, common_steps));
   tight = first_of (search rules, grind (arith, common_steps));
@@ -94,35 +106,55 @@ returns-in_err-write_listed-clause-changes g c = record {
   counts = first_of (search rules, grind (arith, common_steps));
 }
 
-pub returns-in_err-write_listed-clause-err : goal.returns-in_err-write_listed-clause-err
-returns-in_err-write_listed-clause-err g c =
-    let p = err_from_is_err_and c.from_residual-in_err-write_listed.result c.from_residual-in_err-write_listed.ensures.1 in
-    rw (p.1, p.2) (refused-as _ _ _ _ _ _ _ _ (λ bad told v change. bad v ((c.in_ok-grow_to.ensures.changes.changed told).holds v change)) (λ u. u) (λ no. absurd no) (λ u. u)
-    c.in_err-write_listed.field-0.0 c.in_err-write_listed.ensures.writes.err)
-
 pub returns-in_err-write_listed-clause-refused : goal.returns-in_err-write_listed-clause-refused
-returns-in_err-write_listed-clause-refused g c told v held =
-    let p = err_from_is_err_and c.from_residual-in_err-write_listed.result c.from_residual-in_err-write_listed.ensures.1 in
-    rw (p.1, p.2) (stops-behind c.args.mini.now c.grow_to.new.mini c.write_listed.new.mini c.in_err-write_listed.field-0.0 c.in_ok-grow_to.ensures.begun
-    c.in_err-write_listed.ensures.writes.refused c.in_err-write_listed.ensures.writes.err)
+returns-in_err-write_listed-clause-refused g c = record {
+  refused = λ told v held. (
+      let p = err_from_is_err_and c.from_residual-in_err-write_listed.result c.from_residual-in_err-write_listed.ensures.1 in
+      rw (p.1, p.2) (stops-behind c.args.mini.now c.grow_to.new.mini c.write_listed.new.mini c.in_err-write_listed.field-0.0 c.in_ok-grow_to.ensures.grown.begun
+      c.in_err-write_listed.ensures.writes.refused c.in_err-write_listed.ensures.writes.err)
+  );
+  err = (
+      let p = err_from_is_err_and c.from_residual-in_err-write_listed.result c.from_residual-in_err-write_listed.ensures.1 in
+      rw (p.1, p.2) (refused-as _ _ _ _ _ _ _ _ (λ bad told v change. bad v ((c.in_ok-grow_to.ensures.changes.changed told).holds v change)) (λ u. u) (λ no. absurd no) (λ u. u)
+      c.in_err-write_listed.field-0.0 c.in_err-write_listed.ensures.writes.err)
+  );
+}
 
-pub returns-clause-content : goal.returns-clause-content
-returns-clause-content g c told v change =
-    let s = c.args.mini.now in
-    let mid = c.grow_to.new.mini in
-    let new = c.write_listed.new.mini in
-    let i = c.args.entry in
-    let len = c.content_in-len.result.1 in
-    let was = content_of s (entry_at (entries_of s) i) in
-    let from = c.args.bytes.now in
-    let len-is = c.content_in-len.ensures.len in
-    let wanted = len + length from in
-    let whole : length was ≡ len = whole-of v s i change c.requires.size_fits.stream ∙ sym len-is in
-    ap (λ (es : List Entry). content_of new (entry_at es i)) (filed-entries mid new c.in_ok-write_listed.ensures.writes.rest)
-    ∙ c.in_ok-write_listed.ensures.holds.content told v ((c.in_ok-grow_to.ensures.changes.changed told).holds v change)
-    ∙ ap (λ l. written l len from) ((c.in_ok-grow_to.ensures.content told).content v change)
-    ∙ appended was from len wanted whole refl
-    ∙ ap (λ n. written was n from) len-is
+pub returns-clause-appends : goal.returns-clause-appends
+returns-clause-appends g c = record {
+  len = first_of (search rules, grind (arith, common_steps));
+  content = λ told v change. (
+      let s = c.args.mini.now in
+      let mid = c.grow_to.new.mini in
+      let new = c.write_listed.new.mini in
+      let i = c.args.entry in
+      let len = c.content_in-len.result.1 in
+      let was = content_of s (entry_at (entries_of s) i) in
+      let from = c.args.bytes.now in
+      let len-is = c.content_in-len.ensures.len in
+      let wanted = len + length from in
+      let whole : length was ≡ len = whole-of v s i change c.requires.size_fits.stream ∙ sym len-is in
+      ap (λ (es : List Entry). content_of new (entry_at es i)) (filed-entries mid new c.in_ok-write_listed.ensures.writes.rest)
+      ∙ c.in_ok-write_listed.ensures.holds.content told v ((c.in_ok-grow_to.ensures.changes.changed told).holds v change)
+      ∙ ap (λ l. written l len from) ((c.in_ok-grow_to.ensures.grown.content told).content v change)
+      ∙ appended was from len wanted whole refl
+      ∙ ap (λ n. written was n from) len-is
+  );
+  stays_full = λ told v change stays none. (
+      let s = c.args.mini.now in
+      let wanted = c.content_in-len.result.1 + length c.args.bytes.now in
+      subst (λ (t : TableState). NoneFree t.fat) (sym (filed-tables c.grow_to.new.mini c.write_listed.new.mini c.in_ok-write_listed.ensures.writes.rest))
+      ((c.in_ok-grow_to.ensures.grown.content told).stays_full v change (omega (arith, c.content_in-len.ensures.len))
+      (leaves-less s c.args.entry wanted (len_of s c.args.entry + length c.args.bytes.now) (omega (arith, c.content_in-len.ensures.len)) stays) none)
+  );
+  minis_full = λ told v change stays none. (
+      let s = c.args.mini.now in
+      let wanted = c.content_in-len.result.1 + length c.args.bytes.now in
+      filed-minis-full c.grow_to.new.mini c.write_listed.new.mini c.in_ok-write_listed.ensures.writes.rest
+      ((c.in_ok-grow_to.ensures.grown.content told).minis_full v change (omega (arith, c.content_in-len.ensures.len))
+      (leaves-less s c.args.entry wanted (len_of s c.args.entry + length c.args.bytes.now) (omega (arith, c.content_in-len.ensures.len)) stays) none)
+  );
+}
 
 pub returns-clause-changes : goal.returns-clause-changes
 returns-clause-changes g c = record {
@@ -150,19 +182,3 @@ returns-clause-changes g c = record {
   still = first_of (search rules, grind (arith, common_steps));
   counts = first_of (search rules, grind (arith, common_steps));
 }
-
-pub returns-clause-stays_full : goal.returns-clause-stays_full
-returns-clause-stays_full g c told v change stays none =
-    let s = c.args.mini.now in
-    let wanted = c.content_in-len.result.1 + length c.args.bytes.now in
-    subst (λ (t : TableState). NoneFree t.fat) (sym (filed-tables c.grow_to.new.mini c.write_listed.new.mini c.in_ok-write_listed.ensures.writes.rest))
-    ((c.in_ok-grow_to.ensures.content told).stays_full v change (omega (arith, c.content_in-len.ensures.len))
-    (leaves-less s c.args.entry wanted (len_of s c.args.entry + length c.args.bytes.now) (omega (arith, c.content_in-len.ensures.len)) stays) none)
-
-pub returns-clause-minis_full : goal.returns-clause-minis_full
-returns-clause-minis_full g c told v change stays none =
-    let s = c.args.mini.now in
-    let wanted = c.content_in-len.result.1 + length c.args.bytes.now in
-    filed-minis-full c.grow_to.new.mini c.write_listed.new.mini c.in_ok-write_listed.ensures.writes.rest
-    ((c.in_ok-grow_to.ensures.content told).minis_full v change (omega (arith, c.content_in-len.ensures.len))
-    (leaves-less s c.args.entry wanted (len_of s c.args.entry + length c.args.bytes.now) (omega (arith, c.content_in-len.ensures.len)) stays) none)

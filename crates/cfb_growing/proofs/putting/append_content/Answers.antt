@@ -36,8 +36,13 @@ returns-in_err-list-clause-changes g c = record {
 
 -- ---- it lies in sectors
 
-pub returns-then-len-clause-stays_full : goal.returns-then-len-clause-stays_full
-returns-then-len-clause-stays_full g c told v change stays none = c.append_long.ensures.stays_full told v change none
+pub returns-then-len-clause-appends : goal.returns-then-len-clause-appends
+returns-then-len-clause-appends g c = record {
+  some = first_of (search rules, grind (arith, common_steps));
+  len = first_of (search rules, grind (arith, common_steps));
+  content = first_of (search rules, grind (arith, common_steps));
+  stays_full = λ told v change stays none. c.append_long.ensures.appends.stays_full told v change none;
+}
 
 -- ---- it moves
 
@@ -51,33 +56,42 @@ returns-in_err-moved-clause-changes g c = record {
   counts = first_of (search rules, grind (arith, common_steps));
 }
 
-pub returns-in_err-moved-clause-err : goal.returns-in_err-moved-clause-err
-returns-in_err-moved-clause-err g c =
-    let p = err_from_is_err_and c.from_residual.result c.from_residual.ensures.1 in
-    rw (p.1, p.2) (refused-as _ _ _ _ _ _ _ _ (λ bad told. bad) (λ u. u) (λ no. absurd no) (λ no. absurd no) c.in_err-moved.field-0.0 c.in_err-moved.ensures.err)
+pub returns-in_err-moved-clause-refused : goal.returns-in_err-moved-clause-refused
+returns-in_err-moved-clause-refused g c = record {
+  refused = first_of (search rules, grind (arith, common_steps));
+  err = (
+      let p = err_from_is_err_and c.from_residual.result c.from_residual.ensures.1 in
+      rw (p.1, p.2) (refused-as _ _ _ _ _ _ _ _ (λ bad told. bad) (λ u. u) (λ no. absurd no) (λ no. absurd no) c.in_err-moved.field-0.0 c.in_err-moved.ensures.err)
+  );
+}
 
-pub append_up_to-requires-clause-longer : goal.append_up_to-requires-clause-longer
-append_up_to-requires-clause-longer g c =
-    let within = c.in_ok-moved.ensures.within c.if-moved-gt0.true in
-    omega (arith, within.0, c.if-len.false, c.content_in-len.ensures.len)
+pub append_up_to-requires-clause-can_append : goal.append_up_to-requires-clause-can_append
+append_up_to-requires-clause-can_append g c = record {
+  longer = (
+      let within = c.in_ok-moved.ensures.within c.if-moved-gt0.true in
+      omega (arith, within.0, c.if-len.false, c.content_in-len.ensures.len)
+  );
+  given_are = (
+      let within = c.in_ok-moved.ensures.within c.if-moved-gt0.true in
+      omega (arith, within.1, c.content_in-len.ensures.len)
+  );
+  large = (c.in_ok-moved.ensures.within c.if-moved-gt0.true).0;
+  enough = c.in_ok-moved.ensures.enough c.if-moved-gt0.true;
+}
 
-pub append_up_to-requires-clause-within : goal.append_up_to-requires-clause-within
-append_up_to-requires-clause-within g c =
-    let within = c.in_ok-moved.ensures.within c.if-moved-gt0.true in
-    omega (arith, within.1, c.content_in-len.ensures.len)
+pub returns-then-moved-gt0-clause-refused : goal.returns-then-moved-gt0-clause-refused
+returns-then-moved-gt0-clause-refused g c = record {
+  refused = first_of (search rules, grind (arith, common_steps));
+  err = on_err _ _ c.append_up_to.result (λ e why. refused-as _ _ _ _ _ _ _ _ (λ bad. bad) (λ u. u) (λ no. absurd no) (λ u. u) e why) c.append_up_to.ensures.refused.err;
+}
 
-pub append_up_to-requires-clause-large : goal.append_up_to-requires-clause-large
-append_up_to-requires-clause-large g c = (c.in_ok-moved.ensures.within c.if-moved-gt0.true).0
-
-pub append_up_to-requires-clause-enough : goal.append_up_to-requires-clause-enough
-append_up_to-requires-clause-enough g c = c.in_ok-moved.ensures.enough c.if-moved-gt0.true
-
-pub returns-then-moved-gt0-clause-err : goal.returns-then-moved-gt0-clause-err
-returns-then-moved-gt0-clause-err g c =
-    on_err _ _ c.append_up_to.result (λ e why. refused-as _ _ _ _ _ _ _ _ (λ bad. bad) (λ u. u) (λ no. absurd no) (λ u. u) e why) c.append_up_to.ensures.err
-
-pub returns-then-moved-gt0-clause-stays_full : goal.returns-then-moved-gt0-clause-stays_full
-returns-then-moved-gt0-clause-stays_full g c told v change stays none = c.append_up_to.ensures.stays_full told v change stays none
+pub returns-then-moved-gt0-clause-appends : goal.returns-then-moved-gt0-clause-appends
+returns-then-moved-gt0-clause-appends g c = record {
+  some = first_of (search rules, grind (arith, common_steps));
+  len = first_of (search rules, grind (arith, common_steps));
+  content = first_of (search rules, grind (arith, common_steps));
+  stays_full = λ told v change stays none. c.append_up_to.ensures.appends.stays_full told v change stays none;
+}
 
 -- ---- it has grown
 
@@ -91,7 +105,7 @@ returns-in_err-write_listed-clause-changes g c = record {
   moves = filed-alone c.grow_content.new.mini c.write_listed.new.mini c.write_listed.ensures.writes.rest c.args.mini.now c.args.entry c.grow_content.ensures.changes.moves;
   spares = λ told. (
       spares-behind c.args.mini.now c.grow_content.new.mini c.write_listed.new.mini c.args.entry c.grow_content.ensures.changes.moves (c.grow_content.ensures.changes.spares told) (c.in_ok-grown.ensures.changes.changed told) (c.write_listed.ensures.holds.others told)
-      (c.write_listed.ensures.writes.header told) (still-begun c.args.mini.now c.grow_content.new.mini c.write_listed.new.mini c.in_err-write_listed.field-0.0 c.in_ok-grown.ensures.begun c.in_err-write_listed.ensures.writes.refused)
+      (c.write_listed.ensures.writes.header told) (still-begun c.args.mini.now c.grow_content.new.mini c.write_listed.new.mini c.in_err-write_listed.field-0.0 c.in_ok-grown.ensures.grown.begun c.in_err-write_listed.ensures.writes.refused)
   );
   changed = first_of (search rules, grind (arith, common_steps));
   tight = first_of (search rules, grind (arith, common_steps));
@@ -99,17 +113,19 @@ returns-in_err-write_listed-clause-changes g c = record {
   counts = first_of (search rules, grind (arith, common_steps));
 }
 
-pub returns-in_err-write_listed-clause-err : goal.returns-in_err-write_listed-clause-err
-returns-in_err-write_listed-clause-err g c =
-    let p = err_from_is_err_and c.from_residual-in_err-write_listed.result c.from_residual-in_err-write_listed.ensures.1 in
-    rw (p.1, p.2) (refused-as _ _ _ _ _ _ _ _ (λ bad told v change. bad v ((c.in_ok-grown.ensures.changes.changed told).holds v change)) (λ u. u) (λ no. absurd no) (λ u. u)
-    c.in_err-write_listed.field-0.0 c.in_err-write_listed.ensures.writes.err)
-
 pub returns-in_err-write_listed-clause-refused : goal.returns-in_err-write_listed-clause-refused
-returns-in_err-write_listed-clause-refused g c told v held =
-    let p = err_from_is_err_and c.from_residual-in_err-write_listed.result c.from_residual-in_err-write_listed.ensures.1 in
-    rw (p.1, p.2) (stops-behind c.args.mini.now c.grow_content.new.mini c.write_listed.new.mini c.in_err-write_listed.field-0.0 c.in_ok-grown.ensures.begun
-    c.in_err-write_listed.ensures.writes.refused c.in_err-write_listed.ensures.writes.err)
+returns-in_err-write_listed-clause-refused g c = record {
+  refused = λ told v held. (
+      let p = err_from_is_err_and c.from_residual-in_err-write_listed.result c.from_residual-in_err-write_listed.ensures.1 in
+      rw (p.1, p.2) (stops-behind c.args.mini.now c.grow_content.new.mini c.write_listed.new.mini c.in_err-write_listed.field-0.0 c.in_ok-grown.ensures.grown.begun
+      c.in_err-write_listed.ensures.writes.refused c.in_err-write_listed.ensures.writes.err)
+  );
+  err = (
+      let p = err_from_is_err_and c.from_residual-in_err-write_listed.result c.from_residual-in_err-write_listed.ensures.1 in
+      rw (p.1, p.2) (refused-as _ _ _ _ _ _ _ _ (λ bad told v change. bad v ((c.in_ok-grown.ensures.changes.changed told).holds v change)) (λ u. u) (λ no. absurd no) (λ u. u)
+      c.in_err-write_listed.field-0.0 c.in_err-write_listed.ensures.writes.err)
+  );
+}
 
 pub returns-clause-changes : goal.returns-clause-changes
 returns-clause-changes g c = record {
@@ -141,30 +157,34 @@ returns-clause-changes g c = record {
   counts = first_of (search rules, grind (arith, common_steps));
 }
 
-pub returns-clause-content : goal.returns-clause-content
-returns-clause-content g c told v change =
-    let s = c.args.mini.now in
-    let mid = c.grow_content.new.mini in
-    let new = c.write_listed.new.mini in
-    let i = c.args.entry in
-    let len = c.content_in-len.result.1 in
-    let was = content_of s (entry_at (entries_of s) i) in
-    let from = take (c.in_ok-grown.grown - len) c.args.bytes.now in
-    let len-is = c.content_in-len.ensures.len in
-    let grown = c.in_ok-grown.ensures.len in
-    let whole : length was ≡ len = whole-of v s i change c.requires.size_fits.stream ∙ sym len-is in
-    let sum : len + length from ≡ len_of mid i = omega (arith, length-take (c.in_ok-grown.grown - len) c.args.bytes.now, len-is, grown.0, grown.1, grown.2) in
-    ap (λ (es : List Entry). content_of new (entry_at es i)) (filed-entries mid new c.in_ok-write_listed.ensures.writes.rest)
-    ∙ c.in_ok-write_listed.ensures.holds.content told v ((c.in_ok-grown.ensures.changes.changed told).holds v change)
-    ∙ ap (λ l. written l len from) ((c.in_ok-grown.ensures.content told).content v change)
-    ∙ appended was from len (len_of mid i) whole sum
-    ∙ ap (λ n. written was n from) len-is
-
-pub returns-clause-stays_full : goal.returns-clause-stays_full
-returns-clause-stays_full g c told v change stays none =
-    let s = c.args.mini.now in
-    let wanted = c.content_in-len.result.1 + length c.args.bytes.now in
-    subst (λ (t : TableState). NoneFree t.fat) (sym (filed-tables c.grow_content.new.mini c.write_listed.new.mini c.in_ok-write_listed.ensures.writes.rest))
-    ((c.in_ok-grown.ensures.content told).stays_full v change (omega (arith, c.in_ok-grown.ensures.len.0, c.in_ok-grown.ensures.len.1))
-    (leaves-less s c.args.entry (len_of c.grow_content.new.mini c.args.entry) (len_of s c.args.entry + length c.args.bytes.now)
-    (omega (arith, c.content_in-len.ensures.len, c.in_ok-grown.ensures.len.0, c.in_ok-grown.ensures.len.2)) stays) none)
+pub returns-clause-appends : goal.returns-clause-appends
+returns-clause-appends g c = record {
+  some = first_of (search rules, grind (arith, common_steps));
+  len = first_of (search rules, grind (arith, common_steps));
+  content = λ told v change. (
+      let s = c.args.mini.now in
+      let mid = c.grow_content.new.mini in
+      let new = c.write_listed.new.mini in
+      let i = c.args.entry in
+      let len = c.content_in-len.result.1 in
+      let was = content_of s (entry_at (entries_of s) i) in
+      let from = take (c.in_ok-grown.grown - len) c.args.bytes.now in
+      let len-is = c.content_in-len.ensures.len in
+      let grown = c.in_ok-grown.ensures.grown.has_len in
+      let whole : length was ≡ len = whole-of v s i change c.requires.size_fits.stream ∙ sym len-is in
+      let sum : len + length from ≡ len_of mid i = omega (arith, length-take (c.in_ok-grown.grown - len) c.args.bytes.now, len-is, grown.0, grown.1, grown.2) in
+      ap (λ (es : List Entry). content_of new (entry_at es i)) (filed-entries mid new c.in_ok-write_listed.ensures.writes.rest)
+      ∙ c.in_ok-write_listed.ensures.holds.content told v ((c.in_ok-grown.ensures.changes.changed told).holds v change)
+      ∙ ap (λ l. written l len from) ((c.in_ok-grown.ensures.grown.content told).content v change)
+      ∙ appended was from len (len_of mid i) whole sum
+      ∙ ap (λ n. written was n from) len-is
+  );
+  stays_full = λ told v change stays none. (
+      let s = c.args.mini.now in
+      let wanted = c.content_in-len.result.1 + length c.args.bytes.now in
+      subst (λ (t : TableState). NoneFree t.fat) (sym (filed-tables c.grow_content.new.mini c.write_listed.new.mini c.in_ok-write_listed.ensures.writes.rest))
+      ((c.in_ok-grown.ensures.grown.content told).stays_full v change (omega (arith, c.in_ok-grown.ensures.grown.has_len.0, c.in_ok-grown.ensures.grown.has_len.1))
+      (leaves-less s c.args.entry (len_of c.grow_content.new.mini c.args.entry) (len_of s c.args.entry + length c.args.bytes.now)
+      (omega (arith, c.content_in-len.ensures.len, c.in_ok-grown.ensures.grown.has_len.0, c.in_ok-grown.ensures.grown.has_len.2)) stays) none)
+  );
+}

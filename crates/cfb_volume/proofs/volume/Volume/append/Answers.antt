@@ -88,13 +88,13 @@ returns-in_err-append_all-clause-error g c =
           let mid = c.append_all.new.mini in
           let sound : IsChangeable Permissive s = subst (λ (f : FileState). IsChangeable Permissive f.base) (sym c.self.view_is) (held.sound c.requires.can_change.sound) in
           rw (p.1, p.2) (append-break s mid (IsTrue g.F.ReadMedium.tells → IsNotChangeable s) ((validation : Validation) → HoldsMini validation s → IsTooLongFor s i (len_of s i + length c.args.bytes.now)) (Unit {0}) (λ none. none told Permissive sound)
-          c.in_err-append_all.field-0.0 (c.in_err-append_all.ensures.refused told Permissive sound.held) c.in_err-append_all.ensures.err)
+          c.in_err-append_all.field-0.0 (c.in_err-append_all.ensures.refused.refused told Permissive sound.held) c.in_err-append_all.ensures.refused.err)
           );
       full_only = λ told held. (
           let sound : IsChangeable Permissive s = subst (λ (f : FileState). IsChangeable Permissive f.base) (sym c.self.view_is) (held.sound c.requires.can_change.sound) in
           rw (p.1, p.2) (λ is. subst (λ (f : FileState). IsTooLongFor f.base i (len_of f.base i + length c.args.bytes.now)) c.self.view_is
           (why-full (IsTrue g.F.ReadMedium.tells → IsNotChangeable s) ((validation : Validation) → HoldsMini validation s → IsTooLongFor s i (len_of s i + length c.args.bytes.now))
-          c.in_err-append_all.field-0.0 c.in_err-append_all.ensures.err is Permissive sound.held))
+          c.in_err-append_all.field-0.0 c.in_err-append_all.ensures.refused.err is Permissive sound.held))
           );
     }
 
@@ -113,7 +113,7 @@ changed g c told =
     let ok = c.in_ok-append_all.ensures in
     let s = c.self.inside.mini in
     let i = c.args.entry in
-    let longer : 0 < length c.args.bytes.now → 0 < len_of c.append_all.new.mini i = λ more. let len = ok.len in omega (arith, len, more) in
+    let longer : 0 < length c.args.bytes.now → 0 < len_of c.append_all.new.mini i = λ more. let len = ok.appends.len in omega (arith, len, more) in
     let at-end = λ (was : StartsAtEndIfEmpty s i). put-in-at-end s c.append_all.new.mini i (length c.args.bytes.now) longer (λ none. ap entries_of (ok.none none).1) was in
     subst (λ (f : FileState). IsStreamOf f.base c.args.entry → WentWell f.base c.append_all.new.mini c.args.entry) c.self.view_is
     (λ at. record { stream = at; moves = e.changes.moves; spares = e.changes.spares told; changed = ok.changes.changed told; tight = ok.changes.tight; at_end = at-end }) c.requires.can_append.stream
@@ -167,7 +167,7 @@ returns-clause-ends g c = record {
 pub returns-clause-appended : goal.returns-clause-appended
 returns-clause-appended g c = record {
   len = (
-      ap (λ (s : MiniState). len_of s c.args.entry) c.end_change.ensures ∙ c.in_ok-append_all.ensures.len
+      ap (λ (s : MiniState). len_of s c.args.entry) c.end_change.ensures ∙ c.in_ok-append_all.ensures.appends.len
       ∙ ap (λ (f : FileState). len_of f.base c.args.entry + length c.args.bytes.now) c.self.view_is
       );
   none = λ none. (
@@ -186,7 +186,7 @@ returns-clause-appended g c = record {
       subst (λ (s : MiniState). content_of s (entry_at (entries_of s) i)
       ≡ written (content_of c.args.self.now.base (entry_at (entries_of c.args.self.now.base) i)) (len_of c.args.self.now.base i) from) (sym c.end_change.ensures)
       (subst (λ (f : FileState). content_of mid (entry_at (entries_of mid) i) ≡ written (content_of f.base (entry_at (entries_of f.base) i)) (len_of f.base i) from) c.self.view_is
-      (c.in_ok-append_all.ensures.content told Permissive sound))
+      (c.in_ok-append_all.ensures.appends.content told Permissive sound))
       );
 }
 
@@ -199,7 +199,7 @@ returns-clause-takes g c = record {
   stays_full = λ told held leaves none. (
       let sound = subst (λ (f : FileState). IsChangeable Permissive f.base) (sym c.self.view_is) (held.sound c.requires.can_change.sound) in
       subst (λ (s : MiniState). NoneFree (tables_in s).fat) (sym c.end_change.ensures)
-      (c.in_ok-append_all.ensures.stays_full told Permissive sound
+      (c.in_ok-append_all.ensures.appends.stays_full told Permissive sound
       (subst (λ (f : FileState). LeavesNoMinis f.base c.args.entry (len_of f.base c.args.entry + length c.args.bytes.now)) (sym c.self.view_is) leaves)
       (subst (λ (f : FileState). NoneFree (tables_in f.base).fat) (sym c.self.view_is) none))
       );
@@ -209,6 +209,6 @@ pub returns-clause-minis_full : goal.returns-clause-minis_full
 returns-clause-minis_full g c told held leaves none =
     let sound = subst (λ (f : FileState). IsChangeable Permissive f.base) (sym c.self.view_is) (held.sound c.requires.can_change.sound) in
     subst (λ (s : MiniState). free_count s.minifat ≡ 0) (sym c.end_change.ensures)
-    (c.in_ok-append_all.ensures.minis_full told Permissive sound
+    (c.in_ok-append_all.ensures.appends.minis_full told Permissive sound
     (subst (λ (f : FileState). LeavesNoMinis f.base c.args.entry (len_of f.base c.args.entry + length c.args.bytes.now)) (sym c.self.view_is) leaves)
     (subst (λ (f : FileState). free_count f.base.minifat ≡ 0) (sym c.self.view_is) none))
