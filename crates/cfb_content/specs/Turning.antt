@@ -11,7 +11,7 @@ use Rattle.cfb_content.specs.Contents.{IsStreamOf}
 use Rattle.cfb_format.specs.Bytes.{max_stream_len}
 
 -- what is in use once a content is longer or shorter, or has moved
-pub record UsesTurn  : Type 0 where
+pub record UsesTurn : Type 0 where
   pub large_longer : LargeGoesOn
   pub large_shorter : LargeIsCut
   pub small_longer : SmallGoesOn
