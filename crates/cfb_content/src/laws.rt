@@ -68,7 +68,7 @@ pub fn chains_are_owned()
 pub fn uses_follow_the_content()
     ensures owners { UsedByOwners }
     ensures same { SameUse }
-        ensures turned { UsesTurn  }
+        ensures turned { UsesTurn }
     ensures growth { GrowthStays }
 {}
 
