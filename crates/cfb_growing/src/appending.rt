@@ -2,7 +2,7 @@
 //! comes holds them from the first write on.
 ghost use Rattle.std.specs.Prelude.{◌≡◌, ◌+◌, ◌<◌, ◌≤◌, ◌⊎◌, ◌||◌, length, take, true, IsTrue, IfOk, IfErr, OnOk, OnErr};
 ghost use Rattle.cfb_growing.specs.Appending.{AppendsAll, AppendsPart, AppendsLong, TooLongRefused, AppendRefused, AppendPartRefused, PutsBehindOwn, PutsAtEnd, PuttingBehindRefused, PuttingAtEndRefused, CanAppendUpTo};
-ghost use Rattle.cfb_growing.specs.cfb_content.Turning.{ChangesContent, ExtendsContent, IsStreamWithin};
+ghost use Rattle.cfb_growing.specs.cfb_content.Turning.{IsStreamWithin};
 ghost use Rattle.cfb_format.specs.declared.validate.Validation.{Validation};
 ghost use Rattle.cfb_format.specs.Bytes.{max_stream_len};
 ghost use Rattle.cfb_format.specs.Content.{mini_stream_cutoff};
@@ -18,7 +18,7 @@ ghost use Rattle.cfb_growing.specs.cfb_mini.MiniSectors.{IsStill};
 ghost use Rattle.cfb_growing.specs.cfb_content.Changed.{MovesAlone, SparesOthers, StaysTidy, WasChanged};
 ghost use Rattle.cfb_growing.specs.cfb_content.Contents.{IsNotChangeable, IsStreamOf, IsTooLongFor, len_of};
 ghost use Rattle.cfb_growing.specs.cfb_content.Laws.{LacksNumbersFor};
-ghost use Rattle.cfb_resizing.specs.Turning.{Appends, KeepsAround, KeepsTablesTight, LeavesNoMinis, PutsBehind, StopsOrBegun, StopsOrIsFull};
+ghost use Rattle.cfb_resizing.specs.Turning.{Appends, KeepsAround, KeepsTablesTight, LeavesNoMinis, PutsBehind, StopsOrBegun, StopsOrIsFull, ChangesContent, ExtendsContent};
 
 use crate::growing::{len_in_sectors, take_the_rest};
 use cfb_access::{MiniAllocator, content_in, grow_listed_with, open_whole_chain};

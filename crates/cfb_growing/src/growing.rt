@@ -2,7 +2,7 @@
 ghost use Rattle.std.specs.Prelude.{◌≡◌, ◌+◌, ◌-◌, ◌<◌, ◌≤◌, ◌⊎◌, ◌||◌, ℕ, length, true, IsTrue, IfOk, IfErr, OnOk, OnErr};
 ghost use Rattle.cfb_growing.specs.Growing.{TakesTheRest, GrowsTo, GrowsToAll};
 ghost use Rattle.cfb_growing.specs.Appending.{TooLongRefused};
-ghost use Rattle.cfb_growing.specs.cfb_content.Turning.{ChangesContent, IsStreamWithin};
+ghost use Rattle.cfb_growing.specs.cfb_content.Turning.{IsStreamWithin};
 ghost use Rattle.cfb_format.specs.declared.validate.Validation.{Validation};
 ghost use Rattle.cfb_format.specs.Bytes.{max_stream_len, sector_len};
 ghost use Rattle.cfb_format.specs.Content.{mini_stream_cutoff};
@@ -16,7 +16,7 @@ ghost use Rattle.cfb_growing.specs.cfb_mini.MiniSectors.{IsStill};
 ghost use Rattle.cfb_growing.specs.cfb_content.Changed.{MovesAlone, SparesOthers, WasChanged};
 ghost use Rattle.cfb_growing.specs.cfb_content.Contents.{IsNotChangeable, IsStreamOf, IsTooLongFor, len_of};
 ghost use Rattle.cfb_growing.specs.cfb_content.Laws.{LacksNumbersFor};
-ghost use Rattle.cfb_resizing.specs.Turning.{KeepsAround, KeepsTablesTight, ResizesContent, StopsOrIsFull};
+ghost use Rattle.cfb_resizing.specs.Turning.{KeepsAround, KeepsTablesTight, ResizesContent, StopsOrIsFull, ChangesContent};
 
 use cfb_access::{MiniAllocator, content_in, whole_chain_len, whole_mini_chain};
 use cfb_format::consts::{END_OF_CHAIN, FREE_SECTOR, MINI_SECTOR_LEN, MINI_STREAM_CUTOFF};

@@ -1,7 +1,7 @@
 //! Bytes that are put into a stream inside its length, or behind its end, where it grows as far as there are numbers.
 ghost use Rattle.std.specs.Prelude.{◌≡◌, ◌+◌, ◌<◌, ◌≤◌, ◌⊎◌, ◌||◌, length, max, take, true, IsTrue, IfOk, IfErr, OnOk, OnErr};
 ghost use Rattle.cfb_growing.specs.Appending.{AppendsAll, AppendsPart, TooLongRefused, PutsSome, PutsContent, PuttingRefused};
-ghost use Rattle.cfb_growing.specs.cfb_content.Turning.{ChangesContent, IsStreamWithin};
+ghost use Rattle.cfb_growing.specs.cfb_content.Turning.{IsStreamWithin};
 ghost use Rattle.cfb_format.specs.declared.validate.Validation.{Validation};
 ghost use Rattle.cfb_format.specs.Bytes.{max_stream_len};
 ghost use Rattle.cfb_format.specs.Full.{free_count};
@@ -14,7 +14,7 @@ ghost use Rattle.cfb_growing.specs.cfb_mini_sectors.State.{HoldsMini, IsChangeab
 ghost use Rattle.cfb_growing.specs.cfb_mini.MiniSectors.{IsStill};
 ghost use Rattle.cfb_growing.specs.cfb_content.Changed.{MovesAlone, SparesOthers, WasChanged};
 ghost use Rattle.cfb_growing.specs.cfb_content.Contents.{IsNotChangeable, IsStreamOf, IsTooLongFor, len_of};
-ghost use Rattle.cfb_resizing.specs.Turning.{KeepsTablesTight, LeavesNoMinis, StopsOrIsFull};
+ghost use Rattle.cfb_resizing.specs.Turning.{KeepsTablesTight, LeavesNoMinis, StopsOrIsFull, ChangesContent};
 ghost use Rattle.cfb_growing.specs.Putting.{ChangesFileAlone};
 
 use crate::appending::{append_long, append_long_all, append_up_to};

@@ -1,4 +1,5 @@
 -- What becomes of the MiniFAT and the mini stream as they give sectors back.
+use Rattle.cfb_mini_sectors.specs.declared.giving.Needs.{Needs}
 use Rattle.cfb_mini_sectors.specs.cfb_alloc.Alloc.{AllocatorState, ChangesSectors, HoldsTables}
 use Rattle.cfb_format.specs.declared.error.Error.{Error}
 use Rattle.cfb_mini_sectors.specs.Steps.{KeepsSizes}

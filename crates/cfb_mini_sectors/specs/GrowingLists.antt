@@ -19,7 +19,7 @@ use Rattle.cfb_sectors.specs.declared.sector.SectorInit.TheVariants.{Fat, Zero}
 use Rattle.cfb_mini_sectors.specs.Held.{HoldsMiniBut, with_minifat_sectors, with_table, with_mini_stream}
 use Rattle.cfb_mini_sectors.specs.State.{MiniState, table_of}
 use Rattle.cfb_mini_sectors.specs.cfb_tables.Refused.{ChangeRefused}
-use Rattle.cfb_mini_sectors.specs.cfb_siblings.Short.{Lacks}
+use Rattle.cfb_mini_sectors.specs.declared.growing.Lacks.{Lacks}
 
 -- the header names the first sector if that is new; else nothing changes
 pub record NamesFirst {T : Type 0} (tells : Bool) (first : ℕ) (is_new : Bool) (old new : AllocatorState) (result : Result T Error) : Type 0 where

@@ -22,7 +22,7 @@ use Rattle.cfb_resizing.specs.cfb_mini_sectors.Pieces.{AreZeros}
 use Rattle.cfb_resizing.specs.cfb_mini_sectors.State.{HoldsMini, IsChangeable, MiniState, bytes_of, content_of, entries_of, mini_place, parts_of, table_of, tables_in, version_of}
 use Rattle.cfb_resizing.specs.cfb_mini_sectors.Steps.{AreStartsUnnamed, GrowsFor, IsInMiniStream, IsSnugMini, IsZeroMini, KeepsLimits, KeepsMini, KeepsSystem, MovesRoot, SettlesRoom, system_sectors}
 use Rattle.cfb_resizing.specs.cfb_mini.MiniSectors.{IsStill}
-use Rattle.cfb_content.specs.Changed.{StaysTidy, SparesOthers}
+use Rattle.cfb_content.specs.Changed.{StaysTidy, SparesOthers, MovesAlone, WasChanged}
 use Rattle.cfb_content.specs.Contents.{ErasesMinis, IsTooLongFor, WipesMinis, len_of, mini_place_along, mini_sectors_owned, sector_of_mini, sectors_owned, IsNotChangeable, MovesContent}
 use Rattle.cfb_format.specs.declared.medium.MediumFault.{MediumFault}
 use Rattle.cfb_tables.specs.Refused.{ChangeRefused}
@@ -384,3 +384,19 @@ pub record HoldsNamedContent {T : Type 0} (tells : Bool) (can_write : MediumFaul
   pub begun : (table_of new).file.begun ≡ true
   pub err : IfErr result IsMediumError
   pub counts : IsTrue tells → CountsFailure can_write result (table_of old).file.failures (table_of new).file.failures
+
+-- the content of one stream was changed, and that of no other; where this was refused before anything was written all is as it was
+pub record ChangesContent {T : Type 0} (tells : Bool) (can_give : MediumFault → Bool) (entry : ℕ) (old new : MiniState) (result : Result T Error) : Type 0 where
+  pub moves : MovesAlone old new entry
+  pub spares : IsTrue tells → SparesOthers old new entry
+  pub changed : IsTrue tells → OnOk result (WasChanged old new entry)
+  pub tight : OnOk result (KeepsTablesTight old new)
+  pub still : OnErr result (IsStill old new ⊎ ((table_of new).file.begun ≡ true))
+  pub counts : IsTrue tells → CountsFailure can_give result (table_of old).file.failures (table_of new).file.failures
+
+-- sectors were filled for a content, and no other content was changed
+pub record ExtendsContent {T : Type 0} (tells : Bool) (can_give : MediumFault → Bool) (entry : ℕ) (old new : MiniState) (result : Result T Error) : Type 0 where
+  pub spares : IsTrue tells → SparesOthers old new entry
+  pub around : KeepsAround old new
+  pub tight : OnOk result (KeepsTablesTight old new)
+  pub counts : IsTrue tells → CountsFailure can_give result (table_of old).file.failures (table_of new).file.failures

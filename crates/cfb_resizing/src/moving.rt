@@ -2,7 +2,7 @@
 //! is had before the first write.
 ghost use Rattle.std.specs.Prelude.{◌⊎◌, length, slice_index, Contains, ◌≡◌, ◌<◌, ◌≤◌, ◌/◌, ◌*◌, ◌++◌, ◌+◌, ◌||◌, [], ℕ, None, false, true, IsTrue, IfOk, IfErr, OnOk, OnErr};
 ghost use Rattle.cfb_resizing.specs.Carrying.{KeepsAllAround, CanCarryToMinis, CarriesMinis, HoldsCarriedToMinis, CarryingToMinisRefused, CanCarryToSectors, CarriesSectors, HoldsCarriedToSectors, CarryingToSectorsRefused, BeginsPadded, BeginningRefused, SparesBegun};
-ghost use Rattle.cfb_content.specs.Turning.{ExtendsContent, IsStreamWithin};
+ghost use Rattle.cfb_content.specs.Turning.{IsStreamWithin};
 ghost use Rattle.cfb_content.specs.Growing.{HoldsWhole};
 ghost use Rattle.cfb_resizing.specs.cfb_mini.Reading.{OnlyReadsMinis};
 ghost use Rattle.cfb_format.specs.declared.validate.Validation.{Validation};
@@ -29,7 +29,7 @@ ghost use Rattle.cfb_content.specs.Contents.{IsNotChangeable, IsStreamOf, len_of
 ghost use Rattle.cfb_content.specs.Laws.{LacksNumbersFor};
 ghost use Rattle.cfb_content.specs.Room.{ComesFree};
 ghost use Rattle.cfb_content.specs.Parts.{IsThereInMinis, IsThereInSectors, StandAlong};
-ghost use Rattle.cfb_resizing.specs.Turning.{CarriesToMinis, CarriesToSectors, GoesUnnamed, IsPaddedAlong, KeepsAround, KeepsTablesTight, MovesSoundly, StopsOrBegun, TurnsSoundly, TurnsContent, MovingRefused, EmptiesAtOnce};
+ghost use Rattle.cfb_resizing.specs.Turning.{CarriesToMinis, CarriesToSectors, GoesUnnamed, IsPaddedAlong, KeepsAround, KeepsTablesTight, MovesSoundly, StopsOrBegun, TurnsSoundly, TurnsContent, MovingRefused, EmptiesAtOnce, ExtendsContent};
 
 use crate::room::{room_for_move, stream_sectors};
 use cfb_content::in_minis::{get_from_minis, put_in_minis, whole_mini_chain};

@@ -1,6 +1,6 @@
 //! How the content of a stream gets another length: cut, padded, and moved between sectors and mini sectors at 4096 bytes.
 ghost use Rattle.std.specs.Prelude.{◌≡◌, ◌≢◌, ◌<◌, ◌≤◌, ◌+◌, ◌||◌, ◌⊎◌, ◌↔◌, length, true, IsTrue, IfOk, IfErr, OnOk, OnErr};
-ghost use Rattle.cfb_content.specs.Turning.{ChangesContent, IsStreamWithin};
+ghost use Rattle.cfb_content.specs.Turning.{IsStreamWithin};
 ghost use Rattle.cfb_format.specs.declared.validate.Validation.{Validation};
 ghost use Rattle.cfb_format.specs.Bytes.{max_stream_len, sector_len};
 ghost use Rattle.cfb_format.specs.Content.{mini_stream_cutoff};
@@ -17,7 +17,7 @@ ghost use Rattle.cfb_resizing.specs.cfb_mini.MiniSectors.{IsStill};
 ghost use Rattle.cfb_content.specs.Changed.{MovesAlone, SparesOthers, WasChanged};
 ghost use Rattle.cfb_content.specs.Contents.{IsNotChangeable, IsStreamOf, IsTooLongFor, MovesContent, len_of};
 ghost use Rattle.cfb_content.specs.Laws.{LacksNumbersFor};
-ghost use Rattle.cfb_resizing.specs.Turning.{KeepsAround, KeepsTablesTight, ResizesContent, StopsOrBegun, TrimsChain, TurnsSoundly, TurnsContent, TurnRefused, EmptiesFirst, HasSize, ResizingRefused, NamesContent, HoldsNamedContent};
+ghost use Rattle.cfb_resizing.specs.Turning.{KeepsAround, KeepsTablesTight, ResizesContent, StopsOrBegun, TrimsChain, TurnsSoundly, TurnsContent, TurnRefused, EmptiesFirst, HasSize, ResizingRefused, NamesContent, HoldsNamedContent, ChangesContent};
 
 use crate::in_place::{cut_in_minis, cut_in_sectors, grow_in_minis, grow_in_sectors};
 use crate::moving::{move_to_minis, move_to_sectors};
