@@ -2,7 +2,7 @@ use Rattle.std.proofs.lemmas.Grind.{common_steps}
 use Rattle.std.proofs.Common.{◌≡◌, ◌<◌, ◌∷◌, ◌∙◌, [], ap, arith, length, sym, subst, ℕ, List, rules}
 use Rattle.std.specs.Prelude.{Contains}
 use Rattle.std.proofs.lemmas.Result.{err_from_is_err_and}
-use Rattle.cfb_alloc.proofs.AllocLemmas.{taken_reserved, others_refl, others_unchanged, placed_reserved, placed_written, shown_below, shown_taken, others_written, held_counted, fats_apart_shown, clean_taken, fats_known, difats_known, next_refused}
+use Rattle.cfb_alloc.proofs.AllocLemmas.{taken_reserved, others_refl, others_unchanged, placed_reserved, placed_written, shown_below, shown_taken, others_written, held_counted, fats_apart_shown, clean_taken, fats_known, difats_known, next_refused, refused_changed}
 use Rattle.cfb_format.specs.Bytes.{end_of_chain}
 use Rattle.cfb_format.specs.Chain.{IsChain, value}
 use Rattle.cfb_alloc.specs.Alloc.{AllocatorState}
@@ -15,28 +15,28 @@ use Rattle.cfb_alloc.proofs.alloc.Allocator.append_by.Goals as goal
 
 pub returns-in_err-before-clause-takes : goal.returns-in_err-before-clause-takes
 returns-in_err-before-clause-takes g c = record {
-  holds = first_of (search rules, grind (arith, common_steps));
+  holds = first_of (search rules, search (rules, refused_changed), grind (arith, common_steps));
   others = λ told. others_refl c.args.self.now;
-  begun = first_of (search rules, grind (arith, common_steps));
-  enough = first_of (search rules, grind (arith, common_steps));
-  counts = first_of (search rules, grind (arith, common_steps));
+  begun = first_of (search rules, search (rules, refused_changed), grind (arith, common_steps));
+  enough = first_of (search rules, search (rules, refused_changed), grind (arith, common_steps));
+  counts = first_of (search rules, search (rules, refused_changed), grind (arith, common_steps));
 }
 
 pub returns-in_err-next-clause-takes : goal.returns-in_err-next-clause-takes
 returns-in_err-next-clause-takes g c = record {
-  holds = first_of (search rules, grind (arith, common_steps));
+  holds = first_of (search rules, search (rules, refused_changed), grind (arith, common_steps));
   others = λ told. others_refl c.args.self.now;
-  begun = first_of (search rules, grind (arith, common_steps));
-  enough = first_of (search rules, grind (arith, common_steps));
-  counts = first_of (search rules, grind (arith, common_steps));
+  begun = first_of (search rules, search (rules, refused_changed), grind (arith, common_steps));
+  enough = first_of (search rules, search (rules, refused_changed), grind (arith, common_steps));
+  counts = first_of (search rules, search (rules, refused_changed), grind (arith, common_steps));
 }
 
 pub returns-in_err-next-clause-begins : goal.returns-in_err-next-clause-begins
 returns-in_err-next-clause-begins g c = record {
-  none = first_of (search rules, grind (arith, common_steps));
-  filled = first_of (search rules, grind (arith, common_steps));
+  none = first_of (search rules, search (rules, refused_changed), grind (arith, common_steps));
+  filled = first_of (search rules, search (rules, refused_changed), grind (arith, common_steps));
   spares = λ told. spares_refl (c.args.last ∷ []) c.args.self.now;
-  refused = first_of (search rules, grind (arith, common_steps));
+  refused = first_of (search rules, search (rules, refused_changed), grind (arith, common_steps));
   err = (
       let p = err_from_is_err_and c.from_residual-in_err-next.result c.from_residual-in_err-next.ensures.1 in
       rw (p.1, p.2) (next_refused _ _ _ _ c.args.self.now.tables.fat c.args.last c.in_err-next.field-0.0 (rw (← c.self.view_is) c.in_err-next.ensures.err))
@@ -45,20 +45,20 @@ returns-in_err-next-clause-begins g c = record {
 
 pub returns-then-branch-clause-takes : goal.returns-then-branch-clause-takes
 returns-then-branch-clause-takes g c = record {
-  holds = first_of (search rules, grind (arith, common_steps));
+  holds = first_of (search rules, search (rules, refused_changed), grind (arith, common_steps));
   others = λ told. others_refl c.args.self.now;
-  begun = first_of (search rules, grind (arith, common_steps));
-  enough = first_of (search rules, grind (arith, common_steps));
-  counts = first_of (search rules, grind (arith, common_steps));
+  begun = first_of (search rules, search (rules, refused_changed), grind (arith, common_steps));
+  enough = first_of (search rules, search (rules, refused_changed), grind (arith, common_steps));
+  counts = first_of (search rules, search (rules, refused_changed), grind (arith, common_steps));
 }
 
 pub returns-in_err-clone-clause-takes : goal.returns-in_err-clone-clause-takes
 returns-in_err-clone-clause-takes g c = record {
-  holds = first_of (search rules, grind (arith, common_steps));
+  holds = first_of (search rules, search (rules, refused_changed), grind (arith, common_steps));
   others = λ told. others_refl c.args.self.now;
-  begun = first_of (search rules, grind (arith, common_steps));
-  enough = first_of (search rules, grind (arith, common_steps));
-  counts = first_of (search rules, grind (arith, common_steps));
+  begun = first_of (search rules, search (rules, refused_changed), grind (arith, common_steps));
+  enough = first_of (search rules, search (rules, refused_changed), grind (arith, common_steps));
+  counts = first_of (search rules, search (rules, refused_changed), grind (arith, common_steps));
 }
 
 pub returns-then-count-eq0-clause-list : goal.returns-then-count-eq0-clause-list
@@ -77,43 +77,43 @@ returns-then-count-eq0-clause-list g c = record {
       subst (λ (z : List ℕ). IsChain t.fat c.args.last (c.args.last ∷ z)) (sym c.new.ensures.items)
       (chain-one t.fat c.args.last ended (let few = c.in_ok-before.ensures.sizes.short in omega (arith, inside, few)))
   );
-  counted = first_of (search rules, grind (arith, common_steps));
+  counted = first_of (search rules, search (rules, refused_changed), grind (arith, common_steps));
 }
 
 pub returns-then-count-eq0-clause-takes : goal.returns-then-count-eq0-clause-takes
 returns-then-count-eq0-clause-takes g c = record {
-  holds = first_of (search rules, grind (arith, common_steps));
+  holds = first_of (search rules, search (rules, refused_changed), grind (arith, common_steps));
   others = λ told. others_refl c.args.self.now;
-  begun = first_of (search rules, grind (arith, common_steps));
-  enough = first_of (search rules, grind (arith, common_steps));
-  counts = first_of (search rules, grind (arith, common_steps));
+  begun = first_of (search rules, search (rules, refused_changed), grind (arith, common_steps));
+  enough = first_of (search rules, search (rules, refused_changed), grind (arith, common_steps));
+  counts = first_of (search rules, search (rules, refused_changed), grind (arith, common_steps));
 }
 
 pub returns-in_err-reserve-clause-takes : goal.returns-in_err-reserve-clause-takes
 returns-in_err-reserve-clause-takes g c = record {
-  holds = first_of (search rules, grind (arith, common_steps));
+  holds = first_of (search rules, search (rules, refused_changed), grind (arith, common_steps));
   others = λ told. others_unchanged c.self.view_is c.reserve.new.self c.reserve.ensures.usable.unchanged;
-  begun = first_of (search rules, grind (arith, common_steps));
-  enough = first_of (search rules, grind (arith, common_steps));
-  counts = first_of (search rules, grind (arith, common_steps));
+  begun = first_of (search rules, search (rules, refused_changed), grind (arith, common_steps));
+  enough = first_of (search rules, search (rules, refused_changed), grind (arith, common_steps));
+  counts = first_of (search rules, search (rules, refused_changed), grind (arith, common_steps));
 }
 
 pub returns-in_err-clone-2-clause-takes : goal.returns-in_err-clone-2-clause-takes
 returns-in_err-clone-2-clause-takes g c = record {
-  holds = first_of (search rules, grind (arith, common_steps));
+  holds = first_of (search rules, search (rules, refused_changed), grind (arith, common_steps));
   others = λ told. others_unchanged c.self.view_is c.reserve.new.self c.reserve.ensures.usable.unchanged;
-  begun = first_of (search rules, grind (arith, common_steps));
-  enough = first_of (search rules, grind (arith, common_steps));
-  counts = first_of (search rules, grind (arith, common_steps));
+  begun = first_of (search rules, search (rules, refused_changed), grind (arith, common_steps));
+  enough = first_of (search rules, search (rules, refused_changed), grind (arith, common_steps));
+  counts = first_of (search rules, search (rules, refused_changed), grind (arith, common_steps));
 }
 
 pub returns-in_err-list-clause-takes : goal.returns-in_err-list-clause-takes
 returns-in_err-list-clause-takes g c = record {
-  holds = first_of (search rules, grind (arith, common_steps));
+  holds = first_of (search rules, search (rules, refused_changed), grind (arith, common_steps));
   others = λ told. others_unchanged c.self.view_is c.attach_by.new.self (c.in_err-list.ensures.error.unchanged ∙ c.reserve.ensures.usable.unchanged);
-  begun = first_of (search rules, grind (arith, common_steps));
-  enough = first_of (search rules, grind (arith, common_steps));
-  counts = first_of (search rules, grind (arith, common_steps));
+  begun = first_of (search rules, search (rules, refused_changed), grind (arith, common_steps));
+  enough = first_of (search rules, search (rules, refused_changed), grind (arith, common_steps));
+  counts = first_of (search rules, search (rules, refused_changed), grind (arith, common_steps));
 }
 
 pub write_taken-requires-clause-tables : goal.write_taken-requires-clause-tables
@@ -122,16 +122,16 @@ write_taken-requires-clause-tables g c = record {
       placed_reserved c.deref.result.now c.deref.ensures.value c.self.view_is (taken_reserved c.reserve.ensures.usable.unchanged c.in_ok-list.ensures.list.taken)
       c.reserve_sectors.new.self c.len.result c.reserve_sectors.ensures c.len.ensures.len c.self.invariant.0
   );
-  covered = first_of (search rules, grind (arith, common_steps));
+  covered = first_of (search rules, search (rules, refused_changed), grind (arith, common_steps));
 }
 
 pub write_taken-requires-clause-taken : goal.write_taken-requires-clause-taken
 write_taken-requires-clause-taken g c = record {
-  few = first_of (search rules, grind (arith, common_steps));
-  begun = first_of (search rules, grind (arith, common_steps));
-  places = first_of (search rules, grind (arith, common_steps));
-  counted = first_of (search rules, grind (arith, common_steps));
-  known = first_of (search rules, grind (arith, common_steps));
+  few = first_of (search rules, search (rules, refused_changed), grind (arith, common_steps));
+  begun = first_of (search rules, search (rules, refused_changed), grind (arith, common_steps));
+  places = first_of (search rules, search (rules, refused_changed), grind (arith, common_steps));
+  counted = first_of (search rules, search (rules, refused_changed), grind (arith, common_steps));
+  known = first_of (search rules, search (rules, refused_changed), grind (arith, common_steps));
   taken = shown_below c.deref.result.now c.deref.ensures.value c.self.view_is (taken_reserved c.reserve.ensures.usable.unchanged c.in_ok-list.ensures.list.taken);
 }
 
@@ -144,14 +144,14 @@ invariant_of-self-in_err-write_taken g c = (
 
 pub returns-in_err-write_taken-clause-takes : goal.returns-in_err-write_taken-clause-takes
 returns-in_err-write_taken-clause-takes g c = record {
-  holds = first_of (search rules, grind (arith, common_steps));
+  holds = first_of (search rules, search (rules, refused_changed), grind (arith, common_steps));
   others = λ told. (
       others_written c.deref.result.now c.deref.ensures.value c.self.view_is (taken_reserved c.reserve.ensures.usable.unchanged c.in_ok-list.ensures.list.taken)
       c.reserve_sectors.new.self c.write_taken.new.sectors c.len.result c.reserve_sectors.ensures (c.write_taken.ensures.writes.changes told)
   );
-  begun = first_of (search rules, grind (arith, common_steps));
-  enough = first_of (search rules, grind (arith, common_steps));
-  counts = first_of (search rules, grind (arith, common_steps));
+  begun = first_of (search rules, search (rules, refused_changed), grind (arith, common_steps));
+  enough = first_of (search rules, search (rules, refused_changed), grind (arith, common_steps));
+  counts = first_of (search rules, search (rules, refused_changed), grind (arith, common_steps));
 }
 
 pub invariant_of-self-2 : goal.invariant_of-self-2
@@ -163,7 +163,7 @@ invariant_of-self-2 g c = (
 
 pub returns-clause-begins : goal.returns-clause-begins
 returns-clause-begins g c = record {
-  none = first_of (search rules, grind (arith, common_steps));
+  none = first_of (search rules, search (rules, refused_changed), grind (arith, common_steps));
   filled = λ told validation h i m. (
       let now = c.deref.result.now in
       let same = c.deref.ensures.value in
@@ -176,8 +176,8 @@ returns-clause-begins g c = record {
       taken_written c.deref.result.now c.deref.ensures.value c.self.view_is (taken_reserved c.reserve.ensures.usable.unchanged c.in_ok-list.ensures.list.taken)
       c.reserve_sectors.new.self c.write_taken.new.sectors c.len.result c.reserve_sectors.ensures (c.write_taken.ensures.writes.changes told)
   );
-  refused = first_of (search rules, grind (arith, common_steps));
-  err = first_of (search rules, grind (arith, common_steps));
+  refused = first_of (search rules, search (rules, refused_changed), grind (arith, common_steps));
+  err = first_of (search rules, search (rules, refused_changed), grind (arith, common_steps));
 }
 
 pub returns-clause-takes : goal.returns-clause-takes
@@ -199,82 +199,82 @@ returns-clause-takes g c = record {
       others_written c.deref.result.now c.deref.ensures.value c.self.view_is (taken_reserved c.reserve.ensures.usable.unchanged c.in_ok-list.ensures.list.taken)
       c.reserve_sectors.new.self c.write_taken.new.sectors c.len.result c.reserve_sectors.ensures (c.write_taken.ensures.writes.changes told)
   );
-  begun = first_of (search rules, grind (arith, common_steps));
-  enough = first_of (search rules, grind (arith, common_steps));
-  counts = first_of (search rules, grind (arith, common_steps));
+  begun = first_of (search rules, search (rules, refused_changed), grind (arith, common_steps));
+  enough = first_of (search rules, search (rules, refused_changed), grind (arith, common_steps));
+  counts = first_of (search rules, search (rules, refused_changed), grind (arith, common_steps));
 }
 
 pub returns-in_err-before-clause-begins : goal.returns-in_err-before-clause-begins
 returns-in_err-before-clause-begins g c = record {
-  none = first_of (search rules, grind (arith, common_steps));
-  filled = first_of (search rules, grind (arith, common_steps));
+  none = first_of (search rules, search (rules, refused_changed), grind (arith, common_steps));
+  filled = first_of (search rules, search (rules, refused_changed), grind (arith, common_steps));
   spares = λ told. spares_refl (c.args.last ∷ []) c.args.self.now;
-  refused = first_of (search rules, grind (arith, common_steps));
-  err = first_of (search rules, grind (arith, common_steps));
+  refused = first_of (search rules, search (rules, refused_changed), grind (arith, common_steps));
+  err = first_of (search rules, search (rules, refused_changed), grind (arith, common_steps));
 }
 
 pub returns-then-branch-clause-begins : goal.returns-then-branch-clause-begins
 returns-then-branch-clause-begins g c = record {
-  none = first_of (search rules, grind (arith, common_steps));
-  filled = first_of (search rules, grind (arith, common_steps));
+  none = first_of (search rules, search (rules, refused_changed), grind (arith, common_steps));
+  filled = first_of (search rules, search (rules, refused_changed), grind (arith, common_steps));
   spares = λ told. spares_refl (c.args.last ∷ []) c.args.self.now;
-  refused = first_of (search rules, grind (arith, common_steps));
-  err = first_of (search rules, grind (arith, common_steps));
+  refused = first_of (search rules, search (rules, refused_changed), grind (arith, common_steps));
+  err = first_of (search rules, search (rules, refused_changed), grind (arith, common_steps));
 }
 
 pub returns-in_err-clone-clause-begins : goal.returns-in_err-clone-clause-begins
 returns-in_err-clone-clause-begins g c = record {
-  none = first_of (search rules, grind (arith, common_steps));
-  filled = first_of (search rules, grind (arith, common_steps));
+  none = first_of (search rules, search (rules, refused_changed), grind (arith, common_steps));
+  filled = first_of (search rules, search (rules, refused_changed), grind (arith, common_steps));
   spares = λ told. spares_refl (c.args.last ∷ []) c.args.self.now;
-  refused = first_of (search rules, grind (arith, common_steps));
-  err = first_of (search rules, grind (arith, common_steps));
+  refused = first_of (search rules, search (rules, refused_changed), grind (arith, common_steps));
+  err = first_of (search rules, search (rules, refused_changed), grind (arith, common_steps));
 }
 
 pub returns-then-count-eq0-clause-begins : goal.returns-then-count-eq0-clause-begins
 returns-then-count-eq0-clause-begins g c = record {
-  none = first_of (search rules, grind (arith, common_steps));
-  filled = first_of (search rules, grind (arith, common_steps));
+  none = first_of (search rules, search (rules, refused_changed), grind (arith, common_steps));
+  filled = first_of (search rules, search (rules, refused_changed), grind (arith, common_steps));
   spares = λ told. spares_refl (c.args.last ∷ []) c.args.self.now;
-  refused = first_of (search rules, grind (arith, common_steps));
-  err = first_of (search rules, grind (arith, common_steps));
+  refused = first_of (search rules, search (rules, refused_changed), grind (arith, common_steps));
+  err = first_of (search rules, search (rules, refused_changed), grind (arith, common_steps));
 }
 
 pub returns-in_err-reserve-clause-begins : goal.returns-in_err-reserve-clause-begins
 returns-in_err-reserve-clause-begins g c = record {
-  none = first_of (search rules, grind (arith, common_steps));
-  filled = first_of (search rules, grind (arith, common_steps));
+  none = first_of (search rules, search (rules, refused_changed), grind (arith, common_steps));
+  filled = first_of (search rules, search (rules, refused_changed), grind (arith, common_steps));
   spares = λ told. spares_unchanged (c.args.last ∷ []) c.self.view_is c.reserve.new.self c.reserve.ensures.usable.unchanged;
-  refused = first_of (search rules, grind (arith, common_steps));
-  err = first_of (search rules, grind (arith, common_steps));
+  refused = first_of (search rules, search (rules, refused_changed), grind (arith, common_steps));
+  err = first_of (search rules, search (rules, refused_changed), grind (arith, common_steps));
 }
 
 pub returns-in_err-clone-2-clause-begins : goal.returns-in_err-clone-2-clause-begins
 returns-in_err-clone-2-clause-begins g c = record {
-  none = first_of (search rules, grind (arith, common_steps));
-  filled = first_of (search rules, grind (arith, common_steps));
+  none = first_of (search rules, search (rules, refused_changed), grind (arith, common_steps));
+  filled = first_of (search rules, search (rules, refused_changed), grind (arith, common_steps));
   spares = λ told. spares_unchanged (c.args.last ∷ []) c.self.view_is c.reserve.new.self c.reserve.ensures.usable.unchanged;
-  refused = first_of (search rules, grind (arith, common_steps));
-  err = first_of (search rules, grind (arith, common_steps));
+  refused = first_of (search rules, search (rules, refused_changed), grind (arith, common_steps));
+  err = first_of (search rules, search (rules, refused_changed), grind (arith, common_steps));
 }
 
 pub returns-in_err-list-clause-begins : goal.returns-in_err-list-clause-begins
 returns-in_err-list-clause-begins g c = record {
-  none = first_of (search rules, grind (arith, common_steps));
-  filled = first_of (search rules, grind (arith, common_steps));
+  none = first_of (search rules, search (rules, refused_changed), grind (arith, common_steps));
+  filled = first_of (search rules, search (rules, refused_changed), grind (arith, common_steps));
   spares = λ told. spares_unchanged (c.args.last ∷ []) c.self.view_is c.attach_by.new.self (c.in_err-list.ensures.error.unchanged ∙ c.reserve.ensures.usable.unchanged);
-  refused = first_of (search rules, grind (arith, common_steps));
-  err = first_of (search rules, grind (arith, common_steps));
+  refused = first_of (search rules, search (rules, refused_changed), grind (arith, common_steps));
+  err = first_of (search rules, search (rules, refused_changed), grind (arith, common_steps));
 }
 
 pub returns-in_err-write_taken-clause-begins : goal.returns-in_err-write_taken-clause-begins
 returns-in_err-write_taken-clause-begins g c = record {
-  none = first_of (search rules, grind (arith, common_steps));
-  filled = first_of (search rules, grind (arith, common_steps));
+  none = first_of (search rules, search (rules, refused_changed), grind (arith, common_steps));
+  filled = first_of (search rules, search (rules, refused_changed), grind (arith, common_steps));
   spares = λ told. (
       taken_written c.deref.result.now c.deref.ensures.value c.self.view_is (taken_reserved c.reserve.ensures.usable.unchanged c.in_ok-list.ensures.list.taken)
       c.reserve_sectors.new.self c.write_taken.new.sectors c.len.result c.reserve_sectors.ensures (c.write_taken.ensures.writes.changes told)
   );
-  refused = first_of (search rules, grind (arith, common_steps));
-  err = first_of (search rules, grind (arith, common_steps));
+  refused = first_of (search rules, search (rules, refused_changed), grind (arith, common_steps));
+  err = first_of (search rules, search (rules, refused_changed), grind (arith, common_steps));
 }

@@ -11,26 +11,26 @@ use Rattle.cfb_format.proofs.Members.{Contains-here}
 
 pub returns-in_err-before-clause-takes : goal.returns-in_err-before-clause-takes
 returns-in_err-before-clause-takes g c = record {
-  holds = first_of (search rules, grind (arith, common_steps));
+  holds = first_of (search rules, search (rules, refused_changed), grind (arith, common_steps));
   others = λ told. others_refl c.args.self.now;
-  begun = first_of (search rules, grind (arith, common_steps));
-  enough = first_of (search rules, grind (arith, common_steps));
-  counts = first_of (search rules, grind (arith, common_steps));
+  begun = first_of (search rules, search (rules, refused_changed), grind (arith, common_steps));
+  enough = first_of (search rules, search (rules, refused_changed), grind (arith, common_steps));
+  counts = first_of (search rules, search (rules, refused_changed), grind (arith, common_steps));
 }
 
 pub returns-in_err-sector-clause-takes : goal.returns-in_err-sector-clause-takes
 returns-in_err-sector-clause-takes g c = record {
-  holds = first_of (search rules, grind (arith, common_steps));
+  holds = first_of (search rules, search (rules, refused_changed), grind (arith, common_steps));
   others = λ told. others_unchanged c.self.view_is c.take.new.self c.in_err-sector.ensures.error.unchanged;
-  begun = first_of (search rules, grind (arith, common_steps));
-  enough = first_of (search rules, grind (arith, common_steps));
-  counts = first_of (search rules, grind (arith, common_steps));
+  begun = first_of (search rules, search (rules, refused_changed), grind (arith, common_steps));
+  enough = first_of (search rules, search (rules, refused_changed), grind (arith, common_steps));
+  counts = first_of (search rules, search (rules, refused_changed), grind (arith, common_steps));
 }
 
 pub returns-in_err-sector-clause-begins : goal.returns-in_err-sector-clause-begins
 returns-in_err-sector-clause-begins g c = record {
   spares = λ told. spares_unchanged [] c.self.view_is c.take.new.self c.in_err-sector.ensures.error.unchanged;
-  refused = first_of (search rules, grind (arith, common_steps));
+  refused = first_of (search rules, search (rules, refused_changed), grind (arith, common_steps));
   err = (
       let p = err_from_is_err_and c.from_residual-in_err-sector.result c.from_residual-in_err-sector.ensures.1 in
       rw (p.1, p.2) (refused_changed _ _ _ _ c.in_err-sector.field-0.0 (rw (← c.self.view_is) c.in_err-sector.ensures.error.err))
@@ -43,20 +43,20 @@ write_taken-requires-clause-tables g c = record {
       placed_reserved (c.in_ok-sector.sector ∷ []) refl c.self.view_is c.in_ok-sector.ensures.number.taken
       c.reserve_sectors.new.self c.len.result c.reserve_sectors.ensures c.len.ensures.len c.self.invariant.0
   );
-  covered = first_of (search rules, grind (arith, common_steps));
+  covered = first_of (search rules, search (rules, refused_changed), grind (arith, common_steps));
 }
 
 pub write_taken-requires-clause-taken : goal.write_taken-requires-clause-taken
 write_taken-requires-clause-taken g c = record {
-  few = first_of (search rules, grind (arith, common_steps));
-  begun = first_of (search rules, grind (arith, common_steps));
+  few = first_of (search rules, search (rules, refused_changed), grind (arith, common_steps));
+  begun = first_of (search rules, search (rules, refused_changed), grind (arith, common_steps));
   places = (
       let e = c.in_ok-before.ensures in
       places_known (c.in_ok-sector.sector ∷ []) refl c.self.view_is c.in_ok-sector.ensures.number.taken c.in_ok-before.before.fats c.in_ok-before.before.difats e.ok.0 e.ok.1 e.sizes
   );
-  counted = first_of (search rules, grind (arith, common_steps));
-  known = first_of (search rules, grind (arith, common_steps));
-  taken = first_of (search rules, grind (arith, common_steps));
+  counted = first_of (search rules, search (rules, refused_changed), grind (arith, common_steps));
+  known = first_of (search rules, search (rules, refused_changed), grind (arith, common_steps));
+  taken = first_of (search rules, search (rules, refused_changed), grind (arith, common_steps));
 }
 
 pub invariant_of-self-in_err-write_taken : goal.invariant_of-self-in_err-write_taken
@@ -68,14 +68,14 @@ invariant_of-self-in_err-write_taken g c = (
 
 pub returns-in_err-write_taken-clause-takes : goal.returns-in_err-write_taken-clause-takes
 returns-in_err-write_taken-clause-takes g c = record {
-  holds = first_of (search rules, grind (arith, common_steps));
+  holds = first_of (search rules, search (rules, refused_changed), grind (arith, common_steps));
   others = λ told. (
       others_written (c.in_ok-sector.sector ∷ []) refl c.self.view_is c.in_ok-sector.ensures.number.taken
       c.reserve_sectors.new.self c.write_taken.new.sectors c.len.result c.reserve_sectors.ensures (c.write_taken.ensures.writes.changes told)
   );
-  begun = first_of (search rules, grind (arith, common_steps));
-  enough = first_of (search rules, grind (arith, common_steps));
-  counts = first_of (search rules, grind (arith, common_steps));
+  begun = first_of (search rules, search (rules, refused_changed), grind (arith, common_steps));
+  enough = first_of (search rules, search (rules, refused_changed), grind (arith, common_steps));
+  counts = first_of (search rules, search (rules, refused_changed), grind (arith, common_steps));
 }
 
 pub invariant_of-self-2 : goal.invariant_of-self-2
@@ -103,9 +103,9 @@ returns-clause-takes g c = record {
       others_written (c.in_ok-sector.sector ∷ []) refl c.self.view_is c.in_ok-sector.ensures.number.taken
       c.reserve_sectors.new.self c.write_taken.new.sectors c.len.result c.reserve_sectors.ensures (c.write_taken.ensures.writes.changes told)
   );
-  begun = first_of (search rules, grind (arith, common_steps));
+  begun = first_of (search rules, search (rules, refused_changed), grind (arith, common_steps));
   enough = λ few. c.in_ok-sector.ensures.error.enough (subst (λ (a : AllocatorState). IsTooFew a.tables 1) (sym c.self.view_is) few);
-  counts = first_of (search rules, grind (arith, common_steps));
+  counts = first_of (search rules, search (rules, refused_changed), grind (arith, common_steps));
 }
 
 pub returns-clause-filled : goal.returns-clause-filled
@@ -117,8 +117,8 @@ returns-clause-filled g c told validation h =
 pub returns-in_err-before-clause-begins : goal.returns-in_err-before-clause-begins
 returns-in_err-before-clause-begins g c = record {
   spares = λ told. spares_refl [] c.args.self.now;
-  refused = first_of (search rules, grind (arith, common_steps));
-  err = first_of (search rules, grind (arith, common_steps));
+  refused = first_of (search rules, search (rules, refused_changed), grind (arith, common_steps));
+  err = first_of (search rules, search (rules, refused_changed), grind (arith, common_steps));
 }
 
 pub returns-in_err-write_taken-clause-begins : goal.returns-in_err-write_taken-clause-begins
@@ -127,8 +127,8 @@ returns-in_err-write_taken-clause-begins g c = record {
       taken_written (c.in_ok-sector.sector ∷ []) refl c.self.view_is c.in_ok-sector.ensures.number.taken
       c.reserve_sectors.new.self c.write_taken.new.sectors c.len.result c.reserve_sectors.ensures (c.write_taken.ensures.writes.changes told)
   );
-  refused = first_of (search rules, grind (arith, common_steps));
-  err = first_of (search rules, grind (arith, common_steps));
+  refused = first_of (search rules, search (rules, refused_changed), grind (arith, common_steps));
+  err = first_of (search rules, search (rules, refused_changed), grind (arith, common_steps));
 }
 
 pub returns-clause-begins : goal.returns-clause-begins
@@ -137,6 +137,6 @@ returns-clause-begins g c = record {
       taken_written (c.in_ok-sector.sector ∷ []) refl c.self.view_is c.in_ok-sector.ensures.number.taken
       c.reserve_sectors.new.self c.write_taken.new.sectors c.len.result c.reserve_sectors.ensures (c.write_taken.ensures.writes.changes told)
   );
-  refused = first_of (search rules, grind (arith, common_steps));
-  err = first_of (search rules, grind (arith, common_steps));
+  refused = first_of (search rules, search (rules, refused_changed), grind (arith, common_steps));
+  err = first_of (search rules, search (rules, refused_changed), grind (arith, common_steps));
 }

@@ -13,20 +13,20 @@ use Rattle.cfb_format.proofs.Walks.{chain_of}
 
 pub returns-in_err-before-clause-takes : goal.returns-in_err-before-clause-takes
 returns-in_err-before-clause-takes g c = record {
-  holds = first_of (search rules, grind (arith, common_steps));
+  holds = first_of (search rules, search (rules, refused_changed), grind (arith, common_steps));
   others = λ told. others_refl c.args.self.now;
-  begun = first_of (search rules, grind (arith, common_steps));
-  enough = first_of (search rules, grind (arith, common_steps));
-  counts = first_of (search rules, grind (arith, common_steps));
+  begun = first_of (search rules, search (rules, refused_changed), grind (arith, common_steps));
+  enough = first_of (search rules, search (rules, refused_changed), grind (arith, common_steps));
+  counts = first_of (search rules, search (rules, refused_changed), grind (arith, common_steps));
 }
 
 pub returns-in_err-clone-clause-takes : goal.returns-in_err-clone-clause-takes
 returns-in_err-clone-clause-takes g c = record {
-  holds = first_of (search rules, grind (arith, common_steps));
+  holds = first_of (search rules, search (rules, refused_changed), grind (arith, common_steps));
   others = λ told. others_refl c.args.self.now;
-  begun = first_of (search rules, grind (arith, common_steps));
-  enough = first_of (search rules, grind (arith, common_steps));
-  counts = first_of (search rules, grind (arith, common_steps));
+  begun = first_of (search rules, search (rules, refused_changed), grind (arith, common_steps));
+  enough = first_of (search rules, search (rules, refused_changed), grind (arith, common_steps));
+  counts = first_of (search rules, search (rules, refused_changed), grind (arith, common_steps));
 }
 
 pub returns-then-count-eq0-clause-list : goal.returns-then-count-eq0-clause-list
@@ -39,51 +39,51 @@ returns-then-count-eq0-clause-list g c = record {
       let fat = c.args.self.now.tables.fat in
       subst (λ (z : List ℕ). IsChain fat (first_or_end z) z) (sym c.new.ensures.items) (chain_of fat (first_or_end []) [] refl)
   );
-  counted = first_of (search rules, grind (arith, common_steps));
+  counted = first_of (search rules, search (rules, refused_changed), grind (arith, common_steps));
 }
 
 pub returns-then-count-eq0-clause-takes : goal.returns-then-count-eq0-clause-takes
 returns-then-count-eq0-clause-takes g c = record {
-  holds = first_of (search rules, grind (arith, common_steps));
+  holds = first_of (search rules, search (rules, refused_changed), grind (arith, common_steps));
   others = λ told. others_refl c.args.self.now;
-  begun = first_of (search rules, grind (arith, common_steps));
-  enough = first_of (search rules, grind (arith, common_steps));
-  counts = first_of (search rules, grind (arith, common_steps));
+  begun = first_of (search rules, search (rules, refused_changed), grind (arith, common_steps));
+  enough = first_of (search rules, search (rules, refused_changed), grind (arith, common_steps));
+  counts = first_of (search rules, search (rules, refused_changed), grind (arith, common_steps));
 }
 
 pub returns-in_err-reserve-clause-takes : goal.returns-in_err-reserve-clause-takes
 returns-in_err-reserve-clause-takes g c = record {
-  holds = first_of (search rules, grind (arith, common_steps));
+  holds = first_of (search rules, search (rules, refused_changed), grind (arith, common_steps));
   others = λ told. others_unchanged c.self.view_is c.reserve.new.self c.reserve.ensures.usable.unchanged;
-  begun = first_of (search rules, grind (arith, common_steps));
-  enough = first_of (search rules, grind (arith, common_steps));
-  counts = first_of (search rules, grind (arith, common_steps));
+  begun = first_of (search rules, search (rules, refused_changed), grind (arith, common_steps));
+  enough = first_of (search rules, search (rules, refused_changed), grind (arith, common_steps));
+  counts = first_of (search rules, search (rules, refused_changed), grind (arith, common_steps));
 }
 
 pub returns-in_err-clone-2-clause-takes : goal.returns-in_err-clone-2-clause-takes
 returns-in_err-clone-2-clause-takes g c = record {
-  holds = first_of (search rules, grind (arith, common_steps));
+  holds = first_of (search rules, search (rules, refused_changed), grind (arith, common_steps));
   others = λ told. others_unchanged c.self.view_is c.reserve.new.self c.reserve.ensures.usable.unchanged;
-  begun = first_of (search rules, grind (arith, common_steps));
-  enough = first_of (search rules, grind (arith, common_steps));
-  counts = first_of (search rules, grind (arith, common_steps));
+  begun = first_of (search rules, search (rules, refused_changed), grind (arith, common_steps));
+  enough = first_of (search rules, search (rules, refused_changed), grind (arith, common_steps));
+  counts = first_of (search rules, search (rules, refused_changed), grind (arith, common_steps));
 }
 
 pub returns-in_err-list-clause-takes : goal.returns-in_err-list-clause-takes
 returns-in_err-list-clause-takes g c = record {
-  holds = first_of (search rules, grind (arith, common_steps));
+  holds = first_of (search rules, search (rules, refused_changed), grind (arith, common_steps));
   others = λ told. others_unchanged c.self.view_is c.take_by.new.self (c.in_err-list.ensures.error.unchanged ∙ c.reserve.ensures.usable.unchanged);
-  begun = first_of (search rules, grind (arith, common_steps));
-  enough = first_of (search rules, grind (arith, common_steps));
-  counts = first_of (search rules, grind (arith, common_steps));
+  begun = first_of (search rules, search (rules, refused_changed), grind (arith, common_steps));
+  enough = first_of (search rules, search (rules, refused_changed), grind (arith, common_steps));
+  counts = first_of (search rules, search (rules, refused_changed), grind (arith, common_steps));
 }
 
 pub returns-in_err-list-clause-begins : goal.returns-in_err-list-clause-begins
 returns-in_err-list-clause-begins g c = record {
-  none = first_of (search rules, grind (arith, common_steps));
-  filled = first_of (search rules, grind (arith, common_steps));
+  none = first_of (search rules, search (rules, refused_changed), grind (arith, common_steps));
+  filled = first_of (search rules, search (rules, refused_changed), grind (arith, common_steps));
   spares = λ told. spares_unchanged [] c.self.view_is c.take_by.new.self (c.in_err-list.ensures.error.unchanged ∙ c.reserve.ensures.usable.unchanged);
-  refused = first_of (search rules, grind (arith, common_steps));
+  refused = first_of (search rules, search (rules, refused_changed), grind (arith, common_steps));
   err = (
       let p = err_from_is_err_and c.from_residual-in_err-list.result c.from_residual-in_err-list.ensures.1 in
       rw (p.1, p.2) (refused_changed _ _ _ _ c.in_err-list.field-0.0 (rw (← c.self.view_is, ← c.reserve.ensures.usable.unchanged) c.in_err-list.ensures.error.err))
@@ -96,16 +96,16 @@ write_taken-requires-clause-tables g c = record {
       placed_reserved c.deref.result.now c.deref.ensures.value c.self.view_is (taken_reserved c.reserve.ensures.usable.unchanged c.in_ok-list.ensures.list.taken)
       c.reserve_sectors.new.self c.len.result c.reserve_sectors.ensures c.len.ensures.len c.self.invariant.0
   );
-  covered = first_of (search rules, grind (arith, common_steps));
+  covered = first_of (search rules, search (rules, refused_changed), grind (arith, common_steps));
 }
 
 pub write_taken-requires-clause-taken : goal.write_taken-requires-clause-taken
 write_taken-requires-clause-taken g c = record {
-  few = first_of (search rules, grind (arith, common_steps));
-  begun = first_of (search rules, grind (arith, common_steps));
-  places = first_of (search rules, grind (arith, common_steps));
-  counted = first_of (search rules, grind (arith, common_steps));
-  known = first_of (search rules, grind (arith, common_steps));
+  few = first_of (search rules, search (rules, refused_changed), grind (arith, common_steps));
+  begun = first_of (search rules, search (rules, refused_changed), grind (arith, common_steps));
+  places = first_of (search rules, search (rules, refused_changed), grind (arith, common_steps));
+  counted = first_of (search rules, search (rules, refused_changed), grind (arith, common_steps));
+  known = first_of (search rules, search (rules, refused_changed), grind (arith, common_steps));
   taken = shown_below c.deref.result.now c.deref.ensures.value c.self.view_is (taken_reserved c.reserve.ensures.usable.unchanged c.in_ok-list.ensures.list.taken);
 }
 
@@ -118,14 +118,14 @@ invariant_of-self-in_err-write_taken g c = (
 
 pub returns-in_err-write_taken-clause-takes : goal.returns-in_err-write_taken-clause-takes
 returns-in_err-write_taken-clause-takes g c = record {
-  holds = first_of (search rules, grind (arith, common_steps));
+  holds = first_of (search rules, search (rules, refused_changed), grind (arith, common_steps));
   others = λ told. (
       others_written c.deref.result.now c.deref.ensures.value c.self.view_is (taken_reserved c.reserve.ensures.usable.unchanged c.in_ok-list.ensures.list.taken)
       c.reserve_sectors.new.self c.write_taken.new.sectors c.len.result c.reserve_sectors.ensures (c.write_taken.ensures.writes.changes told)
   );
-  begun = first_of (search rules, grind (arith, common_steps));
-  enough = first_of (search rules, grind (arith, common_steps));
-  counts = first_of (search rules, grind (arith, common_steps));
+  begun = first_of (search rules, search (rules, refused_changed), grind (arith, common_steps));
+  enough = first_of (search rules, search (rules, refused_changed), grind (arith, common_steps));
+  counts = first_of (search rules, search (rules, refused_changed), grind (arith, common_steps));
 }
 
 pub invariant_of-self-2 : goal.invariant_of-self-2
@@ -137,7 +137,7 @@ invariant_of-self-2 g c = (
 
 pub returns-clause-begins : goal.returns-clause-begins
 returns-clause-begins g c = record {
-  none = first_of (search rules, grind (arith, common_steps));
+  none = first_of (search rules, search (rules, refused_changed), grind (arith, common_steps));
   filled = λ told validation h i m. (
       let now = c.deref.result.now in
       let same = c.deref.ensures.value in
@@ -150,8 +150,8 @@ returns-clause-begins g c = record {
       taken_written c.deref.result.now c.deref.ensures.value c.self.view_is (taken_reserved c.reserve.ensures.usable.unchanged c.in_ok-list.ensures.list.taken)
       c.reserve_sectors.new.self c.write_taken.new.sectors c.len.result c.reserve_sectors.ensures (c.write_taken.ensures.writes.changes told)
   );
-  refused = first_of (search rules, grind (arith, common_steps));
-  err = first_of (search rules, grind (arith, common_steps));
+  refused = first_of (search rules, search (rules, refused_changed), grind (arith, common_steps));
+  err = first_of (search rules, search (rules, refused_changed), grind (arith, common_steps));
 }
 
 pub returns-clause-takes : goal.returns-clause-takes
@@ -173,64 +173,64 @@ returns-clause-takes g c = record {
       others_written c.deref.result.now c.deref.ensures.value c.self.view_is (taken_reserved c.reserve.ensures.usable.unchanged c.in_ok-list.ensures.list.taken)
       c.reserve_sectors.new.self c.write_taken.new.sectors c.len.result c.reserve_sectors.ensures (c.write_taken.ensures.writes.changes told)
   );
-  begun = first_of (search rules, grind (arith, common_steps));
-  enough = first_of (search rules, grind (arith, common_steps));
-  counts = first_of (search rules, grind (arith, common_steps));
+  begun = first_of (search rules, search (rules, refused_changed), grind (arith, common_steps));
+  enough = first_of (search rules, search (rules, refused_changed), grind (arith, common_steps));
+  counts = first_of (search rules, search (rules, refused_changed), grind (arith, common_steps));
 }
 
 pub returns-in_err-before-clause-begins : goal.returns-in_err-before-clause-begins
 returns-in_err-before-clause-begins g c = record {
-  none = first_of (search rules, grind (arith, common_steps));
-  filled = first_of (search rules, grind (arith, common_steps));
+  none = first_of (search rules, search (rules, refused_changed), grind (arith, common_steps));
+  filled = first_of (search rules, search (rules, refused_changed), grind (arith, common_steps));
   spares = λ told. spares_refl [] c.args.self.now;
-  refused = first_of (search rules, grind (arith, common_steps));
-  err = first_of (search rules, grind (arith, common_steps));
+  refused = first_of (search rules, search (rules, refused_changed), grind (arith, common_steps));
+  err = first_of (search rules, search (rules, refused_changed), grind (arith, common_steps));
 }
 
 pub returns-in_err-clone-clause-begins : goal.returns-in_err-clone-clause-begins
 returns-in_err-clone-clause-begins g c = record {
-  none = first_of (search rules, grind (arith, common_steps));
-  filled = first_of (search rules, grind (arith, common_steps));
+  none = first_of (search rules, search (rules, refused_changed), grind (arith, common_steps));
+  filled = first_of (search rules, search (rules, refused_changed), grind (arith, common_steps));
   spares = λ told. spares_refl [] c.args.self.now;
-  refused = first_of (search rules, grind (arith, common_steps));
-  err = first_of (search rules, grind (arith, common_steps));
+  refused = first_of (search rules, search (rules, refused_changed), grind (arith, common_steps));
+  err = first_of (search rules, search (rules, refused_changed), grind (arith, common_steps));
 }
 
 pub returns-then-count-eq0-clause-begins : goal.returns-then-count-eq0-clause-begins
 returns-then-count-eq0-clause-begins g c = record {
-  none = first_of (search rules, grind (arith, common_steps));
-  filled = first_of (search rules, grind (arith, common_steps));
+  none = first_of (search rules, search (rules, refused_changed), grind (arith, common_steps));
+  filled = first_of (search rules, search (rules, refused_changed), grind (arith, common_steps));
   spares = λ told. spares_refl [] c.args.self.now;
-  refused = first_of (search rules, grind (arith, common_steps));
-  err = first_of (search rules, grind (arith, common_steps));
+  refused = first_of (search rules, search (rules, refused_changed), grind (arith, common_steps));
+  err = first_of (search rules, search (rules, refused_changed), grind (arith, common_steps));
 }
 
 pub returns-in_err-reserve-clause-begins : goal.returns-in_err-reserve-clause-begins
 returns-in_err-reserve-clause-begins g c = record {
-  none = first_of (search rules, grind (arith, common_steps));
-  filled = first_of (search rules, grind (arith, common_steps));
+  none = first_of (search rules, search (rules, refused_changed), grind (arith, common_steps));
+  filled = first_of (search rules, search (rules, refused_changed), grind (arith, common_steps));
   spares = λ told. spares_unchanged [] c.self.view_is c.reserve.new.self c.reserve.ensures.usable.unchanged;
-  refused = first_of (search rules, grind (arith, common_steps));
-  err = first_of (search rules, grind (arith, common_steps));
+  refused = first_of (search rules, search (rules, refused_changed), grind (arith, common_steps));
+  err = first_of (search rules, search (rules, refused_changed), grind (arith, common_steps));
 }
 
 pub returns-in_err-clone-2-clause-begins : goal.returns-in_err-clone-2-clause-begins
 returns-in_err-clone-2-clause-begins g c = record {
-  none = first_of (search rules, grind (arith, common_steps));
-  filled = first_of (search rules, grind (arith, common_steps));
+  none = first_of (search rules, search (rules, refused_changed), grind (arith, common_steps));
+  filled = first_of (search rules, search (rules, refused_changed), grind (arith, common_steps));
   spares = λ told. spares_unchanged [] c.self.view_is c.reserve.new.self c.reserve.ensures.usable.unchanged;
-  refused = first_of (search rules, grind (arith, common_steps));
-  err = first_of (search rules, grind (arith, common_steps));
+  refused = first_of (search rules, search (rules, refused_changed), grind (arith, common_steps));
+  err = first_of (search rules, search (rules, refused_changed), grind (arith, common_steps));
 }
 
 pub returns-in_err-write_taken-clause-begins : goal.returns-in_err-write_taken-clause-begins
 returns-in_err-write_taken-clause-begins g c = record {
-  none = first_of (search rules, grind (arith, common_steps));
-  filled = first_of (search rules, grind (arith, common_steps));
+  none = first_of (search rules, search (rules, refused_changed), grind (arith, common_steps));
+  filled = first_of (search rules, search (rules, refused_changed), grind (arith, common_steps));
   spares = λ told. (
       taken_written c.deref.result.now c.deref.ensures.value c.self.view_is (taken_reserved c.reserve.ensures.usable.unchanged c.in_ok-list.ensures.list.taken)
       c.reserve_sectors.new.self c.write_taken.new.sectors c.len.result c.reserve_sectors.ensures (c.write_taken.ensures.writes.changes told)
   );
-  refused = first_of (search rules, grind (arith, common_steps));
-  err = first_of (search rules, grind (arith, common_steps));
+  refused = first_of (search rules, search (rules, refused_changed), grind (arith, common_steps));
+  err = first_of (search rules, search (rules, refused_changed), grind (arith, common_steps));
 }

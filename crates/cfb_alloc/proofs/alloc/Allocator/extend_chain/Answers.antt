@@ -14,20 +14,20 @@ use Rattle.cfb_format.proofs.Members.{Contains-here}
 
 pub returns-in_err-before-clause-takes : goal.returns-in_err-before-clause-takes
 returns-in_err-before-clause-takes g c = record {
-  holds = first_of (search rules, grind (arith, common_steps));
+  holds = first_of (search rules, search (rules, refused_changed), grind (arith, common_steps));
   others = λ told. others_refl c.args.self.now;
-  begun = first_of (search rules, grind (arith, common_steps));
-  enough = first_of (search rules, grind (arith, common_steps));
-  counts = first_of (search rules, grind (arith, common_steps));
+  begun = first_of (search rules, search (rules, refused_changed), grind (arith, common_steps));
+  enough = first_of (search rules, search (rules, refused_changed), grind (arith, common_steps));
+  counts = first_of (search rules, search (rules, refused_changed), grind (arith, common_steps));
 }
 
 pub returns-in_err-last-clause-takes : goal.returns-in_err-last-clause-takes
 returns-in_err-last-clause-takes g c = record {
-  holds = first_of (search rules, grind (arith, common_steps));
+  holds = first_of (search rules, search (rules, refused_changed), grind (arith, common_steps));
   others = λ told. others_refl c.args.self.now;
-  begun = first_of (search rules, grind (arith, common_steps));
-  enough = first_of (search rules, grind (arith, common_steps));
-  counts = first_of (search rules, grind (arith, common_steps));
+  begun = first_of (search rules, search (rules, refused_changed), grind (arith, common_steps));
+  enough = first_of (search rules, search (rules, refused_changed), grind (arith, common_steps));
+  counts = first_of (search rules, search (rules, refused_changed), grind (arith, common_steps));
 }
 
 pub attach-requires : goal.attach-requires
@@ -44,19 +44,19 @@ attach-requires g c = record { last = record {
 
 pub returns-in_err-sector-clause-takes : goal.returns-in_err-sector-clause-takes
 returns-in_err-sector-clause-takes g c = record {
-  holds = first_of (search rules, grind (arith, common_steps));
+  holds = first_of (search rules, search (rules, refused_changed), grind (arith, common_steps));
   others = λ told. others_unchanged c.self.view_is c.attach.new.self c.in_err-sector.ensures.error.unchanged;
-  begun = first_of (search rules, grind (arith, common_steps));
-  enough = first_of (search rules, grind (arith, common_steps));
-  counts = first_of (search rules, grind (arith, common_steps));
+  begun = first_of (search rules, search (rules, refused_changed), grind (arith, common_steps));
+  enough = first_of (search rules, search (rules, refused_changed), grind (arith, common_steps));
+  counts = first_of (search rules, search (rules, refused_changed), grind (arith, common_steps));
 }
 
 pub returns-in_err-sector-clause-extends : goal.returns-in_err-sector-clause-extends
 returns-in_err-sector-clause-extends g c = record {
-  extended = first_of (search rules, grind (arith, common_steps));
-  filled = first_of (search rules, grind (arith, common_steps));
+  extended = first_of (search rules, search (rules, refused_changed), grind (arith, common_steps));
+  filled = first_of (search rules, search (rules, refused_changed), grind (arith, common_steps));
   spares = λ told list chain. spares_unchanged list c.self.view_is c.attach.new.self c.in_err-sector.ensures.error.unchanged;
-  refused = first_of (search rules, grind (arith, common_steps));
+  refused = first_of (search rules, search (rules, refused_changed), grind (arith, common_steps));
   err = (
       let p = err_from_is_err_and c.from_residual-in_err-sector.result c.from_residual-in_err-sector.ensures.1 in
       rw (p.1, p.2) (refused_changed _ _ _ _ c.in_err-sector.field-0.0 (rw (← c.self.view_is) c.in_err-sector.ensures.error.err))
@@ -69,7 +69,7 @@ write_taken-requires-clause-tables g c = record {
       placed_reserved (c.in_ok-sector.sector ∷ []) refl c.self.view_is c.in_ok-sector.ensures.number.taken
       c.reserve_sectors.new.self c.len.result c.reserve_sectors.ensures c.len.ensures.len c.self.invariant.0
   );
-  covered = first_of (search rules, grind (arith, common_steps));
+  covered = first_of (search rules, search (rules, refused_changed), grind (arith, common_steps));
 }
 
 pub invariant_of-self-in_err-write_taken : goal.invariant_of-self-in_err-write_taken
@@ -81,20 +81,20 @@ invariant_of-self-in_err-write_taken g c = (
 
 pub returns-in_err-write_taken-clause-takes : goal.returns-in_err-write_taken-clause-takes
 returns-in_err-write_taken-clause-takes g c = record {
-  holds = first_of (search rules, grind (arith, common_steps));
+  holds = first_of (search rules, search (rules, refused_changed), grind (arith, common_steps));
   others = λ told. (
       others_written (c.in_ok-sector.sector ∷ []) refl c.self.view_is c.in_ok-sector.ensures.number.taken
       c.reserve_sectors.new.self c.write_taken.new.sectors c.len.result c.reserve_sectors.ensures (c.write_taken.ensures.writes.changes told)
   );
-  begun = first_of (search rules, grind (arith, common_steps));
-  enough = first_of (search rules, grind (arith, common_steps));
-  counts = first_of (search rules, grind (arith, common_steps));
+  begun = first_of (search rules, search (rules, refused_changed), grind (arith, common_steps));
+  enough = first_of (search rules, search (rules, refused_changed), grind (arith, common_steps));
+  counts = first_of (search rules, search (rules, refused_changed), grind (arith, common_steps));
 }
 
 pub returns-in_err-write_taken-clause-extends : goal.returns-in_err-write_taken-clause-extends
 returns-in_err-write_taken-clause-extends g c = record {
-  extended = first_of (search rules, grind (arith, common_steps));
-  filled = first_of (search rules, grind (arith, common_steps));
+  extended = first_of (search rules, search (rules, refused_changed), grind (arith, common_steps));
+  filled = first_of (search rules, search (rules, refused_changed), grind (arith, common_steps));
   spares = λ told list chain. (
       let k = c.in_ok-last.ensures.ok in
       taken_for_chain (c.in_ok-sector.sector ∷ []) refl c.self.view_is c.in_ok-sector.ensures.number.taken
@@ -115,7 +115,7 @@ returns-in_err-write_taken-clause-extends g c = record {
             (extended c.self.inside.tables c.attach.new.self c.args.start k.0 last more k.1 c.in_ok-sector.ensures.number.taken c.in_ok-sector.ensures.number.chain),
       ))
   );
-  err = first_of (search rules, grind (arith, common_steps));
+  err = first_of (search rules, search (rules, refused_changed), grind (arith, common_steps));
 }
 
 pub invariant_of-self-2 : goal.invariant_of-self-2
@@ -146,8 +146,8 @@ returns-clause-extends g c = record {
       (subst (λ (a : AllocatorState). IsChain a.tables.fat c.args.start list) (sym c.self.view_is) chain))
       c.reserve_sectors.new.self c.write_taken.new.sectors c.len.result c.reserve_sectors.ensures (c.write_taken.ensures.writes.changes told)
   );
-  refused = first_of (search rules, grind (arith, common_steps));
-  err = first_of (search rules, grind (arith, common_steps));
+  refused = first_of (search rules, search (rules, refused_changed), grind (arith, common_steps));
+  err = first_of (search rules, search (rules, refused_changed), grind (arith, common_steps));
 }
 
 pub returns-clause-takes : goal.returns-clause-takes
@@ -168,25 +168,25 @@ returns-clause-takes g c = record {
       others_written (c.in_ok-sector.sector ∷ []) refl c.self.view_is c.in_ok-sector.ensures.number.taken
       c.reserve_sectors.new.self c.write_taken.new.sectors c.len.result c.reserve_sectors.ensures (c.write_taken.ensures.writes.changes told)
   );
-  begun = first_of (search rules, grind (arith, common_steps));
+  begun = first_of (search rules, search (rules, refused_changed), grind (arith, common_steps));
   enough = λ few. c.in_ok-sector.ensures.error.enough (subst (λ (a : AllocatorState). IsTooFew a.tables 1) (sym c.self.view_is) few);
-  counts = first_of (search rules, grind (arith, common_steps));
+  counts = first_of (search rules, search (rules, refused_changed), grind (arith, common_steps));
 }
 
 pub returns-in_err-before-clause-extends : goal.returns-in_err-before-clause-extends
 returns-in_err-before-clause-extends g c = record {
-  extended = first_of (search rules, grind (arith, common_steps));
-  filled = first_of (search rules, grind (arith, common_steps));
+  extended = first_of (search rules, search (rules, refused_changed), grind (arith, common_steps));
+  filled = first_of (search rules, search (rules, refused_changed), grind (arith, common_steps));
   spares = λ told list chain. spares_refl list c.args.self.now;
-  refused = first_of (search rules, grind (arith, common_steps));
-  err = first_of (search rules, grind (arith, common_steps));
+  refused = first_of (search rules, search (rules, refused_changed), grind (arith, common_steps));
+  err = first_of (search rules, search (rules, refused_changed), grind (arith, common_steps));
 }
 
 pub returns-in_err-last-clause-extends : goal.returns-in_err-last-clause-extends
 returns-in_err-last-clause-extends g c = record {
-  extended = first_of (search rules, grind (arith, common_steps));
-  filled = first_of (search rules, grind (arith, common_steps));
+  extended = first_of (search rules, search (rules, refused_changed), grind (arith, common_steps));
+  filled = first_of (search rules, search (rules, refused_changed), grind (arith, common_steps));
   spares = λ told list chain. spares_refl list c.args.self.now;
-  refused = first_of (search rules, grind (arith, common_steps));
-  err = first_of (search rules, grind (arith, common_steps));
+  refused = first_of (search rules, search (rules, refused_changed), grind (arith, common_steps));
+  err = first_of (search rules, search (rules, refused_changed), grind (arith, common_steps));
 }
