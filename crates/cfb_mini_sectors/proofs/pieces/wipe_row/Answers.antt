@@ -13,34 +13,34 @@ pub zero_run-requires-clause-listed : goal.zero_run-requires-clause-listed
 zero_run-requires-clause-listed g c =
     let a = c.args.allocator.now in
     let row = c.count_consecutive-row.ensures in
-    row_here a.tables.version c.args.stream.now c.args.minis.now c.args.index c.count_consecutive-row.result row.listed row.follow (length a.tables.fat) c.requires.known row.some
+    row_here a.tables.version c.args.stream.now c.args.minis.now c.args.index c.count_consecutive-row.result row.run.listed row.run.follow (length a.tables.fat) c.requires.known row.run.some
 
 pub zero_run-requires-clause-known : goal.zero_run-requires-clause-known
 zero_run-requires-clause-known g c k low listed =
     let a = c.args.allocator.now in
     let row = c.count_consecutive-row.ensures in
-    row_known a.tables.version c.args.stream.now c.args.minis.now c.args.index c.count_consecutive-row.result row.listed row.follow (length a.tables.fat) c.requires.known k low
+    row_known a.tables.version c.args.stream.now c.args.minis.now c.args.index c.count_consecutive-row.result row.run.listed row.run.follow (length a.tables.fat) c.requires.known k low
 
 pub returns-clause-row : goal.returns-clause-row
 returns-clause-row g c = record {
   some = (
       let a = c.args.allocator.now in
       let row = c.count_consecutive-row.ensures in
-      row_some a.tables.version c.args.stream.now c.args.minis.now c.args.index c.count_consecutive-row.result row.listed row.follow (length a.tables.fat) c.in_ok-count.count c.requires.known
-      row.some c.in_ok-count.ensures.run.longest
+      row_some a.tables.version c.args.stream.now c.args.minis.now c.args.index c.count_consecutive-row.result row.run.listed row.run.follow (length a.tables.fat) c.in_ok-count.count c.requires.known
+      row.run.some c.in_ok-count.ensures.run.longest
   );
   in_row = (
       let a = c.args.allocator.now in
       let row = c.count_consecutive-row.ensures in
       let e = c.in_ok-count.ensures in
-      run_row a.tables.version c.args.stream.now c.args.minis.now c.args.index c.count_consecutive-row.result row.listed row.follow c.in_ok-count.count (c.in_ok-count.count / 64)
+      run_row a.tables.version c.args.stream.now c.args.minis.now c.args.index c.count_consecutive-row.result row.run.listed row.run.follow c.in_ok-count.count (c.in_ok-count.count / 64)
       e.run.longest.few (omega arith) e.run.longest.run
   );
   longest = λ short are. (
       let a = c.args.allocator.now in
       let row = c.count_consecutive-row.ensures in
-      row_ends a.tables.version c.args.stream.now c.args.minis.now c.args.index c.count_consecutive-row.result row.listed row.follow (length a.tables.fat) c.in_ok-count.count c.requires.known
-      c.in_ok-count.ensures.run.longest row.longest short are
+      row_ends a.tables.version c.args.stream.now c.args.minis.now c.args.index c.count_consecutive-row.result row.run.listed row.run.follow (length a.tables.fat) c.in_ok-count.count c.requires.known
+      c.in_ok-count.ensures.run.longest row.run.longest short are
   );
 }
 
@@ -64,7 +64,7 @@ returns-clause-wiped g c = record {
       let a = c.args.allocator.now in
       let row = c.count_consecutive-row.ensures in
       let run = c.zero_run.ensures.run.others told in
-      row_changes a.tables.version c.args.stream.now c.args.minis.now c.args.index c.count_consecutive-row.result row.listed row.follow run.run a.file.bytes c.zero_run.new.allocator.file.bytes
+      row_changes a.tables.version c.args.stream.now c.args.minis.now c.args.index c.count_consecutive-row.result row.run.listed row.run.follow run.run a.file.bytes c.zero_run.new.allocator.file.bytes
       run.longest.few run.longest.run run.change
   );
 }
@@ -77,7 +77,7 @@ returns-in_err-count-clause-wiped g c = record {
       let a = c.args.allocator.now in
       let row = c.count_consecutive-row.ensures in
       let run = c.zero_run.ensures.run.others told in
-      row_changes a.tables.version c.args.stream.now c.args.minis.now c.args.index c.count_consecutive-row.result row.listed row.follow run.run a.file.bytes c.zero_run.new.allocator.file.bytes
+      row_changes a.tables.version c.args.stream.now c.args.minis.now c.args.index c.count_consecutive-row.result row.run.listed row.run.follow run.run a.file.bytes c.zero_run.new.allocator.file.bytes
       run.longest.few run.longest.run run.change
   );
 }
@@ -86,16 +86,16 @@ pub returns-in_err-count-clause-among : goal.returns-in_err-count-clause-among
 returns-in_err-count-clause-among g c told =
     let a = c.args.allocator.now in
     let row = c.count_consecutive-row.ensures in
-    run_writes a c.zero_run.new.allocator c.args.stream.now _ _ (omega (arith, row.some))
-    (row_here a.tables.version c.args.stream.now c.args.minis.now c.args.index c.count_consecutive-row.result row.listed row.follow (length a.tables.fat) c.requires.known row.some)
+    run_writes a c.zero_run.new.allocator c.args.stream.now _ _ (omega (arith, row.run.some))
+    (row_here a.tables.version c.args.stream.now c.args.minis.now c.args.index c.count_consecutive-row.result row.run.listed row.run.follow (length a.tables.fat) c.requires.known row.run.some)
     (c.zero_run.ensures.run.others told) (c.zero_run.ensures.writes.spares told)
 
 pub returns-clause-among : goal.returns-clause-among
 returns-clause-among g c told =
     let a = c.args.allocator.now in
     let row = c.count_consecutive-row.ensures in
-    run_writes a c.zero_run.new.allocator c.args.stream.now _ _ (omega (arith, row.some))
-    (row_here a.tables.version c.args.stream.now c.args.minis.now c.args.index c.count_consecutive-row.result row.listed row.follow (length a.tables.fat) c.requires.known row.some)
+    run_writes a c.zero_run.new.allocator c.args.stream.now _ _ (omega (arith, row.run.some))
+    (row_here a.tables.version c.args.stream.now c.args.minis.now c.args.index c.count_consecutive-row.result row.run.listed row.run.follow (length a.tables.fat) c.requires.known row.run.some)
     (c.zero_run.ensures.run.others told) (c.zero_run.ensures.writes.spares told)
 
 pub returns-clause-writes : goal.returns-clause-writes
