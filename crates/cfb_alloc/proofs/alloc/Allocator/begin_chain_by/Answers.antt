@@ -54,7 +54,7 @@ returns-then-count-eq0-clause-takes g c = record {
 pub returns-in_err-reserve-clause-takes : goal.returns-in_err-reserve-clause-takes
 returns-in_err-reserve-clause-takes g c = record {
   holds = first_of (search rules, search (rules, refused_changed), grind (arith, common_steps));
-  others = λ told. others_unchanged c.self.view_is c.reserve.new.self c.reserve.ensures.usable.unchanged;
+  others = λ told. others_unchanged c.self.view_is c.reserve.new.self c.reserve.ensures.unchanged;
   begun = first_of (search rules, search (rules, refused_changed), grind (arith, common_steps));
   enough = first_of (search rules, search (rules, refused_changed), grind (arith, common_steps));
   counts = first_of (search rules, search (rules, refused_changed), grind (arith, common_steps));
@@ -63,7 +63,7 @@ returns-in_err-reserve-clause-takes g c = record {
 pub returns-in_err-clone-2-clause-takes : goal.returns-in_err-clone-2-clause-takes
 returns-in_err-clone-2-clause-takes g c = record {
   holds = first_of (search rules, search (rules, refused_changed), grind (arith, common_steps));
-  others = λ told. others_unchanged c.self.view_is c.reserve.new.self c.reserve.ensures.usable.unchanged;
+  others = λ told. others_unchanged c.self.view_is c.reserve.new.self c.reserve.ensures.unchanged;
   begun = first_of (search rules, search (rules, refused_changed), grind (arith, common_steps));
   enough = first_of (search rules, search (rules, refused_changed), grind (arith, common_steps));
   counts = first_of (search rules, search (rules, refused_changed), grind (arith, common_steps));
@@ -72,7 +72,7 @@ returns-in_err-clone-2-clause-takes g c = record {
 pub returns-in_err-list-clause-takes : goal.returns-in_err-list-clause-takes
 returns-in_err-list-clause-takes g c = record {
   holds = first_of (search rules, search (rules, refused_changed), grind (arith, common_steps));
-  others = λ told. others_unchanged c.self.view_is c.take_by.new.self (c.in_err-list.ensures.error.unchanged ∙ c.reserve.ensures.usable.unchanged);
+  others = λ told. others_unchanged c.self.view_is c.take_by.new.self (c.in_err-list.ensures.error.unchanged ∙ c.reserve.ensures.unchanged);
   begun = first_of (search rules, search (rules, refused_changed), grind (arith, common_steps));
   enough = first_of (search rules, search (rules, refused_changed), grind (arith, common_steps));
   counts = first_of (search rules, search (rules, refused_changed), grind (arith, common_steps));
@@ -82,18 +82,18 @@ pub returns-in_err-list-clause-begins : goal.returns-in_err-list-clause-begins
 returns-in_err-list-clause-begins g c = record {
   none = first_of (search rules, search (rules, refused_changed), grind (arith, common_steps));
   filled = first_of (search rules, search (rules, refused_changed), grind (arith, common_steps));
-  spares = λ told. spares_unchanged [] c.self.view_is c.take_by.new.self (c.in_err-list.ensures.error.unchanged ∙ c.reserve.ensures.usable.unchanged);
+  spares = λ told. spares_unchanged [] c.self.view_is c.take_by.new.self (c.in_err-list.ensures.error.unchanged ∙ c.reserve.ensures.unchanged);
   refused = first_of (search rules, search (rules, refused_changed), grind (arith, common_steps));
   err = (
       let p = err_from_is_err_and c.from_residual-in_err-list.result c.from_residual-in_err-list.ensures.1 in
-      rw (p.1, p.2) (refused_changed _ _ _ _ c.in_err-list.field-0.0 (rw (← c.self.view_is, ← c.reserve.ensures.usable.unchanged) c.in_err-list.ensures.error.err))
+      rw (p.1, p.2) (refused_changed _ _ _ _ c.in_err-list.field-0.0 (rw (← c.self.view_is, ← c.reserve.ensures.unchanged) c.in_err-list.ensures.error.err))
   );
 }
 
 pub write_taken-requires-clause-tables : goal.write_taken-requires-clause-tables
 write_taken-requires-clause-tables g c = record {
   placed = (
-      placed_reserved c.deref.result.now c.deref.ensures.value c.self.view_is (taken_reserved c.reserve.ensures.usable.unchanged c.in_ok-list.ensures.list.taken)
+      placed_reserved c.deref.result.now c.deref.ensures.value c.self.view_is (taken_reserved c.reserve.ensures.unchanged c.in_ok-list.ensures.list.taken)
       c.reserve_sectors.new.self c.len.result c.reserve_sectors.ensures c.len.ensures.len c.self.invariant.0
   );
   covered = first_of (search rules, search (rules, refused_changed), grind (arith, common_steps));
@@ -106,12 +106,12 @@ write_taken-requires-clause-taken g c = record {
   places = first_of (search rules, search (rules, refused_changed), grind (arith, common_steps));
   counted = first_of (search rules, search (rules, refused_changed), grind (arith, common_steps));
   known = first_of (search rules, search (rules, refused_changed), grind (arith, common_steps));
-  taken = shown_below c.deref.result.now c.deref.ensures.value c.self.view_is (taken_reserved c.reserve.ensures.usable.unchanged c.in_ok-list.ensures.list.taken);
+  taken = shown_below c.deref.result.now c.deref.ensures.value c.self.view_is (taken_reserved c.reserve.ensures.unchanged c.in_ok-list.ensures.list.taken);
 }
 
 pub invariant_of-self-in_err-write_taken : goal.invariant_of-self-in_err-write_taken
 invariant_of-self-in_err-write_taken g c = (
-  placed_written c.deref.result.now c.deref.ensures.value c.self.view_is (taken_reserved c.reserve.ensures.usable.unchanged c.in_ok-list.ensures.list.taken)
+  placed_written c.deref.result.now c.deref.ensures.value c.self.view_is (taken_reserved c.reserve.ensures.unchanged c.in_ok-list.ensures.list.taken)
       c.reserve_sectors.new.self c.write_taken.new.sectors c.len.result c.reserve_sectors.ensures c.write_taken.ensures.writes.kept c.len.ensures.len c.self.invariant.0,
   tt,
 )
@@ -120,7 +120,7 @@ pub returns-in_err-write_taken-clause-takes : goal.returns-in_err-write_taken-cl
 returns-in_err-write_taken-clause-takes g c = record {
   holds = first_of (search rules, search (rules, refused_changed), grind (arith, common_steps));
   others = λ told. (
-      others_written c.deref.result.now c.deref.ensures.value c.self.view_is (taken_reserved c.reserve.ensures.usable.unchanged c.in_ok-list.ensures.list.taken)
+      others_written c.deref.result.now c.deref.ensures.value c.self.view_is (taken_reserved c.reserve.ensures.unchanged c.in_ok-list.ensures.list.taken)
       c.reserve_sectors.new.self c.write_taken.new.sectors c.len.result c.reserve_sectors.ensures (c.write_taken.ensures.writes.changes told)
   );
   begun = first_of (search rules, search (rules, refused_changed), grind (arith, common_steps));
@@ -130,7 +130,7 @@ returns-in_err-write_taken-clause-takes g c = record {
 
 pub invariant_of-self-2 : goal.invariant_of-self-2
 invariant_of-self-2 g c = (
-  placed_written c.deref.result.now c.deref.ensures.value c.self.view_is (taken_reserved c.reserve.ensures.usable.unchanged c.in_ok-list.ensures.list.taken)
+  placed_written c.deref.result.now c.deref.ensures.value c.self.view_is (taken_reserved c.reserve.ensures.unchanged c.in_ok-list.ensures.list.taken)
       c.reserve_sectors.new.self c.write_taken.new.sectors c.len.result c.reserve_sectors.ensures c.write_taken.ensures.writes.kept c.len.ensures.len c.self.invariant.0,
   tt,
 )
@@ -141,13 +141,13 @@ returns-clause-begins g c = record {
   filled = λ told validation h i m. (
       let now = c.deref.result.now in
       let same = c.deref.ensures.value in
-      let taken = (taken_reserved c.reserve.ensures.usable.unchanged c.in_ok-list.ensures.list.taken) in
+      let taken = (taken_reserved c.reserve.ensures.unchanged c.in_ok-list.ensures.list.taken) in
       let known = shown_taken now same c.self.view_is taken in
       filled_each _ _ _ now (c.in_ok-write_taken.ensures.filled told known.once (fats_apart_shown now same c.self.view_is taken validation h)) i
       (subst (λ (xs : List ℕ). Contains xs i) (sym same) m)
   );
   spares = λ told. (
-      taken_written c.deref.result.now c.deref.ensures.value c.self.view_is (taken_reserved c.reserve.ensures.usable.unchanged c.in_ok-list.ensures.list.taken)
+      taken_written c.deref.result.now c.deref.ensures.value c.self.view_is (taken_reserved c.reserve.ensures.unchanged c.in_ok-list.ensures.list.taken)
       c.reserve_sectors.new.self c.write_taken.new.sectors c.len.result c.reserve_sectors.ensures (c.write_taken.ensures.writes.changes told)
   );
   refused = first_of (search rules, search (rules, refused_changed), grind (arith, common_steps));
@@ -159,7 +159,7 @@ returns-clause-takes g c = record {
   holds = λ told validation h. (
       let now = c.deref.result.now in
       let same = c.deref.ensures.value in
-      let taken = (taken_reserved c.reserve.ensures.usable.unchanged c.in_ok-list.ensures.list.taken) in
+      let taken = (taken_reserved c.reserve.ensures.unchanged c.in_ok-list.ensures.list.taken) in
       let clean = clean_taken now same c.self.view_is taken validation h (first_or_end c.in_ok-list.list.items) c.in_ok-list.ensures.list.chain (omega arith) in
       record {
         holds = c.in_ok-write_taken.ensures.holds told validation c.self.inside.tables (shown_taken now same c.self.view_is taken) clean
@@ -170,7 +170,7 @@ returns-clause-takes g c = record {
       }
   );
   others = λ told. (
-      others_written c.deref.result.now c.deref.ensures.value c.self.view_is (taken_reserved c.reserve.ensures.usable.unchanged c.in_ok-list.ensures.list.taken)
+      others_written c.deref.result.now c.deref.ensures.value c.self.view_is (taken_reserved c.reserve.ensures.unchanged c.in_ok-list.ensures.list.taken)
       c.reserve_sectors.new.self c.write_taken.new.sectors c.len.result c.reserve_sectors.ensures (c.write_taken.ensures.writes.changes told)
   );
   begun = first_of (search rules, search (rules, refused_changed), grind (arith, common_steps));
@@ -209,7 +209,7 @@ pub returns-in_err-reserve-clause-begins : goal.returns-in_err-reserve-clause-be
 returns-in_err-reserve-clause-begins g c = record {
   none = first_of (search rules, search (rules, refused_changed), grind (arith, common_steps));
   filled = first_of (search rules, search (rules, refused_changed), grind (arith, common_steps));
-  spares = λ told. spares_unchanged [] c.self.view_is c.reserve.new.self c.reserve.ensures.usable.unchanged;
+  spares = λ told. spares_unchanged [] c.self.view_is c.reserve.new.self c.reserve.ensures.unchanged;
   refused = first_of (search rules, search (rules, refused_changed), grind (arith, common_steps));
   err = first_of (search rules, search (rules, refused_changed), grind (arith, common_steps));
 }
@@ -218,7 +218,7 @@ pub returns-in_err-clone-2-clause-begins : goal.returns-in_err-clone-2-clause-be
 returns-in_err-clone-2-clause-begins g c = record {
   none = first_of (search rules, search (rules, refused_changed), grind (arith, common_steps));
   filled = first_of (search rules, search (rules, refused_changed), grind (arith, common_steps));
-  spares = λ told. spares_unchanged [] c.self.view_is c.reserve.new.self c.reserve.ensures.usable.unchanged;
+  spares = λ told. spares_unchanged [] c.self.view_is c.reserve.new.self c.reserve.ensures.unchanged;
   refused = first_of (search rules, search (rules, refused_changed), grind (arith, common_steps));
   err = first_of (search rules, search (rules, refused_changed), grind (arith, common_steps));
 }
@@ -228,7 +228,7 @@ returns-in_err-write_taken-clause-begins g c = record {
   none = first_of (search rules, search (rules, refused_changed), grind (arith, common_steps));
   filled = first_of (search rules, search (rules, refused_changed), grind (arith, common_steps));
   spares = λ told. (
-      taken_written c.deref.result.now c.deref.ensures.value c.self.view_is (taken_reserved c.reserve.ensures.usable.unchanged c.in_ok-list.ensures.list.taken)
+      taken_written c.deref.result.now c.deref.ensures.value c.self.view_is (taken_reserved c.reserve.ensures.unchanged c.in_ok-list.ensures.list.taken)
       c.reserve_sectors.new.self c.write_taken.new.sectors c.len.result c.reserve_sectors.ensures (c.write_taken.ensures.writes.changes told)
   );
   refused = first_of (search rules, search (rules, refused_changed), grind (arith, common_steps));
