@@ -1,5 +1,8 @@
 //! The bytes of a stream where they stand, be the file sound or not.
 ghost use Rattle.std.specs.Prelude.{◌≡◌, ◌<◌, ◌≤◌, ◌+◌, ◌-◌, ◌⊎◌, ℕ, length, min, take, drop, slice_index, IsTrue, IfOk, IfErr, IsErrAnd, OnOk};
+ghost use Rattle.cfb_access.specs.Reading.{ReadsAlong, ReadsAlongMinis, ReadsSome, ReadsInside, ReadsMost, ReadsContentAt};
+ghost use Rattle.cfb_access.specs.cfb_mini.Reading.{OnlyReadsMinis};
+ghost use Rattle.cfb_access.specs.cfb_alloc.Reading.{OnlyReadsFile};
 ghost use Rattle.cfb_format.specs.Medium.{part};
 ghost use Rattle.cfb_format.specs.Refused.{CountsFailure, IsInvalidData, IsMemory};
 ghost use Rattle.cfb_format.specs.Siblings.{entry_at};
@@ -85,25 +88,12 @@ fn read_along<F: ReadMedium, A: Heap + Clone>(
 ) -> Result<usize, Error>
     requires some { 0 < length into.old }
     requires inside { at + length into.old ≤ len }
-    ensures tables { allocator.new.tables ≡ allocator.old.tables }
-    ensures kept { allocator.new.file ≡ record allocator.old.file {
-      bytes = allocator.new.file.bytes;
-      failures = allocator.new.file.failures;
-    } }
-    ensures count { IfOk result (λ n. (0 < n) × (n ≤ length into.old)) }
-    ensures there { IfOk result (λ n. (k : ℕ) → k < at + n → IsThereAlong allocator.old start k) }
-    ensures ok { IsTrue F.tells → IfOk result (λ n. (j : ℕ) → j < n
-        → IsByteAlong allocator.old start (at + j) (slice_index into.new j)) }
-    ensures rest { IfOk result (λ n. drop n into.new ≡ drop n into.old) }
-    ensures len { length into.new ≡ length into.old }
+        ensures reads { OnlyReadsFile F.tells F.read_faults allocator.old allocator.new result }
+        ensures part { ReadsAlong F.tells start at allocator.old into.old into.new result }
     ensures err { IfErr result
         (ChangeRefused (IsCutBy (IsThereAlong allocator.old start) at) Unit ⊥ Unit) }
     ensures cut { IsCutBy (IsThereAlong allocator.old start) at
         → IsErrAnd result (λ e. IsInvalidData e ⊎ IsMemory e) }
-    ensures same { IsTrue F.tells → OnOk result (allocator.new ≡ allocator.old) }
-    ensures bytes { IsTrue F.tells → allocator.new.file.bytes ≡ allocator.old.file.bytes }
-    ensures counts { IsTrue F.tells → CountsFailure F.read_faults result
-        allocator.old.file.failures allocator.new.file.failures }
 {
     let ids = allocator.open_chain(start)?;
     let there = there_in_chain(allocator, &ids, len);
@@ -127,21 +117,12 @@ fn read_along_minis<F: ReadMedium, A: Heap + Clone>(
 ) -> Result<usize, Error>
     requires some { 0 < length into.old }
     requires inside { at + length into.old ≤ len }
-    ensures kept { IsStill mini.old mini.new }
-    ensures count { IfOk result (λ n. (0 < n) × (n ≤ length into.old)) }
-    ensures there { IfOk result (λ n. (k : ℕ) → k < at + n → IsThereAlongMinis mini.old start k) }
-    ensures ok { IsTrue F.tells → IfOk result (λ n. (j : ℕ) → j < n
-        → IsMiniByteAlong mini.old start (at + j) (slice_index into.new j)) }
-    ensures rest { IfOk result (λ n. drop n into.new ≡ drop n into.old) }
-    ensures len { length into.new ≡ length into.old }
+        ensures reads { OnlyReadsMinis F.tells F.read_faults mini.old mini.new result }
+        ensures part { ReadsAlongMinis F.tells start at mini.old into.old into.new result }
     ensures err { IfErr result
         (ChangeRefused (IsCutBy (IsThereAlongMinis mini.old start) at) Unit ⊥ Unit) }
     ensures cut { IsCutBy (IsThereAlongMinis mini.old start) at
         → IsErrAnd result (λ e. IsInvalidData e ⊎ IsMemory e) }
-    ensures same { IsTrue F.tells → OnOk result (mini.new ≡ mini.old) }
-    ensures bytes { IsTrue F.tells → bytes_of mini.new ≡ bytes_of mini.old }
-    ensures counts { IsTrue F.tells → CountsFailure F.read_faults result
-        (table_of mini.old).file.failures (table_of mini.new).file.failures }
 {
     let ids = mini.mini_chain(start)?;
     let there = there_in_minis(mini, &ids, len);
@@ -164,24 +145,9 @@ fn read_inside<F: ReadMedium, A: Heap + Clone>(
     requires inside { entry < length (entries_of mini.old) }
     requires some { 0 < length into.old }
     requires fits { at + length into.old ≤ len_of mini.old entry }
-    ensures kept { IsStill mini.old mini.new }
-    ensures count { IfOk result (λ n. (0 < n) × (n ≤ length into.old)) }
-    ensures ok { IsTrue F.tells → TellsPlaces mini.old → IfOk result (λ n.
-        take n into.new ≡ part (content_of mini.old (entry_at (entries_of mini.old) entry)) at n) }
-    ensures within { IsTrue F.tells → TellsPlaces mini.old → IfOk result (λ n.
-        at + n ≤ length (content_of mini.old (entry_at (entries_of mini.old) entry))) }
-    ensures rest { IfOk result (λ n. drop n into.new ≡ drop n into.old) }
-    ensures len { length into.new ≡ length into.old }
-    ensures err { IsTrue F.tells → TellsPlaces mini.old
-        → IfErr result (ChangeRefused
-        (length (content_of mini.old (entry_at (entries_of mini.old) entry)) ≤ at) Unit ⊥ Unit) }
-    ensures past { IsTrue F.tells → TellsPlaces mini.old
-        → length (content_of mini.old (entry_at (entries_of mini.old) entry)) ≤ at
-        → IsErrAnd result (λ e. IsInvalidData e ⊎ IsMemory e) }
-    ensures same { IsTrue F.tells → OnOk result (mini.new ≡ mini.old) }
-    ensures bytes { IsTrue F.tells → bytes_of mini.new ≡ bytes_of mini.old }
-    ensures counts { IsTrue F.tells → CountsFailure F.read_faults result
-        (table_of mini.old).file.failures (table_of mini.new).file.failures }
+        ensures reads { OnlyReadsMinis F.tells F.read_faults mini.old mini.new result }
+        ensures part { ReadsSome into.old into.new result }
+        ensures inside { ReadsInside F.tells entry at mini.old into.new result }
 {
     let (start, len) = content_in(mini, entry);
     if len >= MINI_STREAM_CUTOFF as u64 {
@@ -200,27 +166,9 @@ pub fn read_content<F: ReadMedium, A: Heap + Clone>(
     into: &mut [u8],
 ) -> Result<usize, Error>
     requires inside { entry < length (entries_of mini.old) }
-    ensures kept { IsStill mini.old mini.new }
-    ensures count { IfOk result (λ n. n ≤ min (length into.old) (len_of mini.old entry - at)) }
-    ensures some { IfOk result (λ n.
-        0 < min (length into.old) (len_of mini.old entry - at) → 0 < n) }
-    ensures ok { IsTrue F.tells → TellsPlaces mini.old → IfOk result (λ n.
-        take n into.new ≡ part (content_of mini.old (entry_at (entries_of mini.old) entry)) at n) }
-    ensures within { IsTrue F.tells → TellsPlaces mini.old → IfOk result (λ n. 0 < n
-        → at + n ≤ length (content_of mini.old (entry_at (entries_of mini.old) entry))) }
-    ensures rest { IfOk result (λ n. drop n into.new ≡ drop n into.old) }
-    ensures err { IsTrue F.tells → TellsPlaces mini.old
-        → IfErr result (ChangeRefused
-        ((length (content_of mini.old (entry_at (entries_of mini.old) entry)) ≤ at)
-        × (0 < min (length into.old) (len_of mini.old entry - at))) Unit ⊥ Unit) }
-    ensures past { IsTrue F.tells → TellsPlaces mini.old
-        → length (content_of mini.old (entry_at (entries_of mini.old) entry)) ≤ at
-        → 0 < min (length into.old) (len_of mini.old entry - at)
-        → IsErrAnd result (λ e. IsInvalidData e ⊎ IsMemory e) }
-    ensures same { IsTrue F.tells → OnOk result (mini.new ≡ mini.old) }
-    ensures bytes { IsTrue F.tells → bytes_of mini.new ≡ bytes_of mini.old }
-    ensures counts { IsTrue F.tells → CountsFailure F.read_faults result
-        (table_of mini.old).file.failures (table_of mini.new).file.failures }
+        ensures reads { OnlyReadsMinis F.tells F.read_faults mini.old mini.new result }
+        ensures part { ReadsMost entry at mini.old into.old into.new result }
+        ensures content { ReadsContentAt F.tells entry at mini.old into.old into.new result }
 {
     let (_, len) = content_in(mini, entry);
     if into.is_empty() || at >= len {

@@ -1,5 +1,6 @@
 //! The bytes of a stream written over where they stand, inside its length.
 ghost use Rattle.std.specs.Prelude.{◌≡◌, ◌<◌, ◌≤◌, ◌+◌, ◌||◌, length, false, true, IsTrue, IfErr, OnOk, OnErr};
+ghost use Rattle.cfb_access.specs.Writing.{WritesInPlace, HoldsWritten};
 ghost use Rattle.cfb_format.specs.declared.validate.Validation.{Validation};
 ghost use Rattle.cfb_format.specs.Medium.{written};
 ghost use Rattle.cfb_format.specs.Refused.{CountsFailure};
@@ -31,31 +32,12 @@ pub fn write_content<F: Medium, A: Heap + Clone>(
 ) -> Result<(), Error>
     requires stream { IsStreamOf mini.old entry }
     requires inside { at + length bytes.now ≤ len_of mini.old entry }
-    ensures rest { mini.new ≡ record mini.old {
-      directory = record mini.old.directory {
-        table = record (table_of mini.old) { file = (table_of mini.new).file };
-      };
-    } }
+        ensures writes { WritesInPlace F.tells (λ f. F.read_faults f || F.write_faults f) mini.old
+            mini.new result }
     ensures none { length bytes.now ≡ 0 → OnErr result ⊥ × (mini.new ≡ mini.old) }
-    ensures content { IsTrue F.tells → (validation : Validation) → IsChangeable validation mini.old
-        → OnOk result (content_of mini.new (entry_at (entries_of mini.old) entry)
-        ≡ written (content_of mini.old (entry_at (entries_of mini.old) entry)) at bytes.now) }
-    ensures others { IsTrue F.tells → (validation : Validation) → IsChangeable validation mini.old
-        → KeepsOthers entry mini.old mini.new }
-    ensures header { IsTrue F.tells → KeepsFixedHeader mini.old mini.new }
-    ensures counted { IsTrue F.tells → (validation : Validation) → IsChangeable validation mini.old
-        → OnOk result (dir_count_of mini.new ≡ dir_count_of mini.old) }
-    ensures holds { IsTrue F.tells → (validation : Validation) → IsChangeable validation mini.old
-        → OnOk result (IsChangeable validation mini.new) }
+        ensures holds { HoldsWritten F.tells entry at mini.old mini.new bytes.now result }
     ensures begun { OnOk result (IsRaised (0 < length bytes.now)
         (table_of mini.old).file (table_of mini.new).file) }
-    ensures refused { IfErr result (StopsStillOrBegun mini.old mini.new) }
-    ensures unwritten { IsTrue F.tells → (table_of mini.new).file.begun ≡ false
-        → bytes_of mini.new ≡ bytes_of mini.old }
-    ensures err { IfErr result (ChangeRefused (IsNotChangeable mini.old) Unit ⊥ Unit) }
-    ensures counts { IsTrue F.tells
-        → CountsFailure (λ f. F.read_faults f || F.write_faults f) result
-        (table_of mini.old).file.failures (table_of mini.new).file.failures }
 {
     if bytes.is_empty() {
         return Ok(());
@@ -76,29 +58,10 @@ pub fn write_listed<F: Medium, A: Heap>(
     requires stream { IsStreamOf mini.old entry }
     requires some { 0 < length bytes.now }
     requires inside { at + length bytes.now ≤ len_of mini.old entry }
-    ensures rest { mini.new ≡ record mini.old {
-      directory = record mini.old.directory {
-        table = record (table_of mini.old) { file = (table_of mini.new).file };
-      };
-    } }
-    ensures content { IsTrue F.tells → (validation : Validation) → IsChangeable validation mini.old
-        → OnOk result (content_of mini.new (entry_at (entries_of mini.old) entry)
-        ≡ written (content_of mini.old (entry_at (entries_of mini.old) entry)) at bytes.now) }
-    ensures others { IsTrue F.tells → (validation : Validation) → IsChangeable validation mini.old
-        → KeepsOthers entry mini.old mini.new }
-    ensures header { IsTrue F.tells → KeepsFixedHeader mini.old mini.new }
-    ensures counted { IsTrue F.tells → (validation : Validation) → IsChangeable validation mini.old
-        → OnOk result (dir_count_of mini.new ≡ dir_count_of mini.old) }
-    ensures holds { IsTrue F.tells → (validation : Validation) → IsChangeable validation mini.old
-        → OnOk result (IsChangeable validation mini.new) }
+        ensures writes { WritesInPlace F.tells (λ f. F.read_faults f || F.write_faults f) mini.old
+            mini.new result }
+        ensures holds { HoldsWritten F.tells entry at mini.old mini.new bytes.now result }
     ensures begun { OnOk result ((table_of mini.new).file.begun ≡ true) }
-    ensures refused { IfErr result (StopsStillOrBegun mini.old mini.new) }
-    ensures unwritten { IsTrue F.tells → (table_of mini.new).file.begun ≡ false
-        → bytes_of mini.new ≡ bytes_of mini.old }
-    ensures err { IfErr result (ChangeRefused (IsNotChangeable mini.old) Unit ⊥ Unit) }
-    ensures counts { IsTrue F.tells
-        → CountsFailure (λ f. F.read_faults f || F.write_faults f) result
-        (table_of mini.old).file.failures (table_of mini.new).file.failures }
 {
     let (start, len) = content_in(mini, entry);
     if len >= MINI_STREAM_CUTOFF as u64 {

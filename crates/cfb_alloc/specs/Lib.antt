@@ -13,3 +13,8 @@ pub mod Kept
 pub mod HeaderWords
 pub mod Frame
 pub mod Fresh
+pub mod Reading
+pub mod Taking
+pub mod Freeing
+pub mod Writing
+pub mod Lending

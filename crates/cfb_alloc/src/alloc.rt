@@ -1,5 +1,12 @@
 //! The allocator of sectors: chains are begun, extended, cut and freed (MS-CFB 2.3 and 2.5).
 ghost use Rattle.std.specs.Prelude.{◌≡◌, ◌≢◌, ◌↔◌, ℕ, List, [], ◌∷◌, max, min, length, true, false, IsTrue, IfOk, IfErr, IfSome, OnOk, OnErr, take, drop, ◌++◌, ◌⊎◌, ◌+◌, ◌-◌, ◌*◌, ◌<◌, ◌≤◌, Contains, IsErrAnd, MatchResult, vec_len};
+ghost use Rattle.cfb_alloc.specs.Writing.{WritesHeaderWord, FlushesFile, KeepsTablesOutside};
+ghost use Rattle.cfb_alloc.specs.Freeing.{FreesTheChain, FreesTheChainAfter, FreesTheListed, CutsTheListed, FreesBehind};
+ghost use Rattle.cfb_alloc.specs.Taking.{ExtendsListed, ListedTakesSectors, TakesSectors, TakesOneSector, BeginsChain, BeginsChainBy, AppendsChainBy, ExtendsChainBy, ExtendsChain, PutsFrom, UsableTables};
+ghost use Rattle.cfb_alloc.specs.Reading.{OnlyReadsFile};
+ghost use Rattle.cfb_tables.specs.Taking.{TakesNumbers, AttachesNumbers, TakesNumber};
+ghost use Rattle.cfb_alloc.specs.cfb_sectors.Writing.{WritesOnlyUntil, WritesBeganUntil, PutsBytes};
+ghost use Rattle.cfb_alloc.specs.cfb_sectors.Reading.{ReadsBytesFrom, RefusedBehind};
 ghost use Rattle.cfb_format.specs.declared.validate.Validation.{Validation};
 ghost use Rattle.cfb_format.specs.Bytes.{sector_len, max_regular_sector, end_of_chain};
 ghost use Rattle.cfb_format.specs.Chain.{IsChain, value};
@@ -268,11 +275,7 @@ impl<F: ReadMedium, A: Heap> Allocator<F, A> {
     /// as the taking would be: `InvalidData` where the FAT sectors do not cover the file, `Full` where there are too few numbers,
     /// and `Memory`. Nothing changes.
     pub fn reserve(&mut self, count: usize) -> Result<(), Error>
-        ensures unchanged { self.new ≡ self.old }
-        ensures usable { OnOk result (IsUsable self.old.tables) }
-        ensures enough { OnOk result (IsTooFew self.old.tables count → ⊥) }
-        ensures err { IfErr result (ChangeRefused (IsUsable self.old.tables
-            → ⊥) (IsTooFew self.old.tables count → ⊥) (IsTooFew self.old.tables count) ⊥) }
+        ensures usable { UsableTables count self.old self.new result }
     {
         let _sizes = self.usable_sizes()?;
         self.tables.reserve(count)
@@ -376,22 +379,12 @@ impl<F: Medium, A: Heap> Allocator<F, A> {
     /// changed but the table sectors.
     #[tactic(auto, using(crate::proofs::AllocLemmas::refused_changed))]
     pub fn begin_chain(&mut self, init: SectorInit) -> Result<u32, Error>
-        ensures taken { IfOk result (λ x. HasTaken self.old.tables self.new.tables [] (x ∷ [])) }
-        ensures chain { IfOk result (λ x. IsChain self.new.tables.fat x (x ∷ [])) }
+        ensures number { TakesNumber self.old.tables self.new.tables result }
         ensures filled { IsTrue F.tells
             → (validation : Validation) → HoldsTables validation self.old
             → IfOk result (λ x. IsAsFilled self.new.tables.version init self.new.file.bytes x) }
-        ensures holds { IsTrue F.tells → (validation : Validation)
-            → HoldsTables validation self.old → OnOk result (HoldsTables validation self.new) }
-        ensures others { IsTrue F.tells → OthersStay self.old self.new }
-        ensures spares { IsTrue F.tells → Spares [] self.old self.new }
-        ensures enough { OnOk result (IsTooFew self.old.tables 1 → ⊥) }
-        ensures begun { OnOk result (self.new.file.begun ≡ true) }
-        ensures refused { IfErr result (BreaksOff (TakesFor []) self.old self.new) }
-        ensures err { IfErr result (ChangeRefused (IsUsable self.old.tables
-            → ⊥) (IsTooFew self.old.tables 1 → ⊥) (IsTooFew self.old.tables 1) Unit) }
-        ensures counts { IsTrue F.tells
-            → CountsFailure F.write_faults result self.old.file.failures self.new.file.failures }
+        ensures takes { TakesOneSector F.tells F.write_faults self.old self.new result }
+        ensures begins { BeginsChain F.tells self.old self.new result }
     {
         let before = self.usable_sizes()?;
         self.kept = None;
@@ -424,33 +417,13 @@ impl<F: Medium, A: Heap> Allocator<F, A> {
         count: usize,
         init: SectorInit,
     ) -> Result<(), Error>
-        ensures chain { IsChain self.old.tables.fat (first_or_end ids.old.items) ids.old.items
-            → IsChain self.new.tables.fat (first_or_end ids.new.items) ids.new.items }
-        ensures behind { OnOk result
-            (IsChain self.new.tables.fat (first_or_end (ends_of ids.old.items
-            ++ gained ids.old.items ids.new.items)) (ends_of ids.old.items
-            ++ gained ids.old.items ids.new.items)) }
-        ensures ends { OnOk result (EndsChain self.old.tables.fat ids.old.items) }
-        ensures lengthened { OnOk result
-            (Lengthens count ids.old.items ids.new.items self.old.tables self.new.tables) }
-        ensures none { count ≡ 0 → (self.new ≡ self.old) × (ids.new.items ≡ ids.old.items) }
+        ensures extends { ExtendsListed count self.old self.new ids.old.items ids.new.items result }
         ensures filled { IsTrue F.tells
             → (validation : Validation) → HoldsTables validation self.old
             → OnOk result ((i : ℕ) → Contains (gained ids.old.items ids.new.items) i
             → IsAsFilled self.new.tables.version init self.new.file.bytes i) }
-        ensures holds { IsTrue F.tells → (validation : Validation)
-            → HoldsTables validation self.old → OnOk result (HoldsTables validation self.new) }
-        ensures others { IsTrue F.tells → OthersStay self.old self.new }
-        ensures spares { IsTrue F.tells → Spares (ends_of ids.old.items) self.old self.new }
-        ensures enough { OnOk result (IsTooFew self.old.tables count → ⊥) }
-        ensures begun { OnOk result (IsRaised (0 < count) self.old.file self.new.file) }
-        ensures refused { IfErr result
-            (ListBreaksOff (Lengthens count) ids.old.items ids.new.items self.old self.new) }
-        ensures err { IfErr result (ChangeRefused ((IsUsable self.old.tables → ⊥)
-            ⊎ (EndsChain self.old.tables.fat ids.old.items → ⊥)) (IsTooFew self.old.tables count
-            → ⊥) (IsTooFew self.old.tables count) Unit) }
-        ensures counts { IsTrue F.tells
-            → CountsFailure F.write_faults result self.old.file.failures self.new.file.failures }
+        ensures takes { ListedTakesSectors F.tells F.write_faults count self.old self.new
+            ids.old.items ids.new.items result }
     {
         self.extend_listed_from(ids, count, init, &[])
     }
@@ -475,42 +448,11 @@ impl<F: Medium, A: Heap> Allocator<F, A> {
         from: &[u8],
     ) -> Result<(), Error>
         requires fits { length from.now ≤ count * sector_len self.old.tables.version }
-        ensures chain { IsChain self.old.tables.fat (first_or_end ids.old.items) ids.old.items
-            → IsChain self.new.tables.fat (first_or_end ids.new.items) ids.new.items }
-        ensures behind { OnOk result
-            (IsChain self.new.tables.fat (first_or_end (ends_of ids.old.items
-            ++ gained ids.old.items ids.new.items)) (ends_of ids.old.items
-            ++ gained ids.old.items ids.new.items)) }
-        ensures ends { OnOk result (EndsChain self.old.tables.fat ids.old.items) }
-        ensures lengthened { OnOk result
-            (Lengthens count ids.old.items ids.new.items self.old.tables self.new.tables) }
-        ensures none { count ≡ 0 → (self.new ≡ self.old) × (ids.new.items ≡ ids.old.items) }
-        ensures put { IsTrue F.tells
-            → (validation : Validation) → HoldsTables validation self.old
-            → OnOk result (AreFilledFrom self.new.tables.version
-            init from.now self.new.file.bytes (gained ids.old.items ids.new.items)) }
-        ensures ordered { IsTrue F.tells
-            → (validation : Validation) → HoldsTables validation self.old
-            → IfErr result (λ _. AreFilledFrom self.new.tables.version
-            init from.now self.new.file.bytes (gained ids.old.items ids.new.items)
-            ⊎ KeepsSectors self.old.tables.version
-            self.old.tables.fat_sectors self.old.file.bytes self.new.file.bytes) }
-        ensures holds { IsTrue F.tells → (validation : Validation)
-            → HoldsTables validation self.old → OnOk result (HoldsTables validation self.new) }
-        ensures changes { IsTrue F.tells → ChangesSectors (self.new.tables.fat_sectors
-            ++ self.new.tables.difat_sectors ++ gained ids.old.items ids.new.items)
-            self.new.tables.version self.old.file.bytes self.new.file.bytes }
-        ensures others { IsTrue F.tells → OthersStay self.old self.new }
-        ensures spares { IsTrue F.tells → Spares (ends_of ids.old.items) self.old self.new }
-        ensures enough { OnOk result (IsTooFew self.old.tables count → ⊥) }
-        ensures begun { OnOk result (IsRaised (0 < count) self.old.file self.new.file) }
-        ensures refused { IfErr result
-            (ListBreaksOff (Lengthens count) ids.old.items ids.new.items self.old self.new) }
-        ensures err { IfErr result (ChangeRefused ((IsUsable self.old.tables → ⊥)
-            ⊎ (EndsChain self.old.tables.fat ids.old.items → ⊥)) (IsTooFew self.old.tables count
-            → ⊥) (IsTooFew self.old.tables count) Unit) }
-        ensures counts { IsTrue F.tells
-            → CountsFailure F.write_faults result self.old.file.failures self.new.file.failures }
+        ensures extends { ExtendsListed count self.old self.new ids.old.items ids.new.items result }
+        ensures fills { PutsFrom F.tells init self.old self.new ids.old.items ids.new.items from.now
+            result }
+        ensures takes { ListedTakesSectors F.tells F.write_faults count self.old self.new
+            ids.old.items ids.new.items result }
     {
         let before = self.usable_sizes()?;
         self.check_end(ids)?;
@@ -537,18 +479,10 @@ impl<F: Medium, A: Heap> Allocator<F, A> {
         requires usable { IsUsable self.old.tables }
         requires chain { IsChain self.old.tables.fat (first_or_end ids.now) ids.now }
         requires fewer { left < length ids.now }
-        ensures given_back { TablesGiveBack
-            (ends_of (take left ids.now)) (drop left ids.now) self.old.tables self.new.tables }
+        ensures frees { FreesBehind F.tells F.write_faults left self.old self.new ids.now result }
         ensures holds { IsTrue F.tells → (validation : Validation) → HoldsTables validation self.old
             → (left ≡ 0 → IsUnnamed self.old.tables.fat (first_or_end ids.now))
             → OnOk result (HoldsTables validation self.new) }
-        ensures changes { IsTrue F.tells → ChangesSectors self.old.tables.fat_sectors
-            self.old.tables.version self.old.file.bytes self.new.file.bytes }
-        ensures spares { IsTrue F.tells → Spares ids.now self.old self.new }
-        ensures begun { self.new.file.begun ≡ true }
-        ensures err { IfErr result IsMediumError }
-        ensures counts { IsTrue F.tells
-            → CountsFailure F.write_faults result self.old.file.failures self.new.file.failures }
     {
         self.kept = None;
         self.tables.cut_listed(ids, left);
@@ -569,23 +503,11 @@ impl<F: Medium, A: Heap> Allocator<F, A> {
         requires chain { CanShorten left self.old.tables.fat ids.old.items }
         ensures chain { IsChain self.old.tables.fat (first_or_end ids.old.items) ids.old.items
             → IsChain self.new.tables.fat (first_or_end ids.new.items) ids.new.items }
-        ensures shortened { OnOk result
-            (Shortens left ids.old.items ids.new.items self.old.tables self.new.tables) }
-        ensures none { length ids.old.items ≤ left
-            → (self.new ≡ self.old) × (ids.new.items ≡ ids.old.items) × OnErr result ⊥ }
+        ensures cuts { CutsTheListed F.tells F.write_faults left self.old self.new ids.old.items
+            ids.new.items result }
         ensures holds { IsTrue F.tells → (validation : Validation) → HoldsTables validation self.old
             → (left ≡ 0 → IsUnnamed self.old.tables.fat (first_or_end ids.old.items))
             → OnOk result (HoldsTables validation self.new) }
-        ensures changes { IsTrue F.tells → ChangesSectors self.old.tables.fat_sectors
-            self.old.tables.version self.old.file.bytes self.new.file.bytes }
-        ensures spares { IsTrue F.tells → Spares ids.old.items self.old self.new }
-        ensures begun { OnOk result (IsRaised (left
-            < length ids.old.items) self.old.file self.new.file) }
-        ensures refused { IfErr result
-            (ListBreaksOff (Shortens left) ids.old.items ids.new.items self.old self.new) }
-        ensures err { IfErr result (ChangeRefused (IsUsable self.old.tables → ⊥) ⊥ ⊥ Unit) }
-        ensures counts { IsTrue F.tells
-            → CountsFailure F.write_faults result self.old.file.failures self.new.file.failures }
     {
         if left >= ids.len() {
             return Ok(());
@@ -602,19 +524,10 @@ impl<F: Medium, A: Heap> Allocator<F, A> {
     /// `InvalidData` and `Medium` as in `cut_listed`.
     pub fn free_listed(&mut self, ids: &[u32]) -> Result<(), Error>
         requires chain { IsChain self.old.tables.fat (first_or_end ids.now) ids.now }
-        ensures freed { OnOk result (TablesGiveBack [] ids.now self.old.tables self.new.tables) }
-        ensures none { length ids.now ≡ 0 → (self.new ≡ self.old) × OnErr result ⊥ }
+        ensures frees { FreesTheListed F.tells F.write_faults self.old self.new ids.now result }
         ensures holds { IsTrue F.tells → (validation : Validation)
             → HoldsTables validation self.old → IsUnnamed self.old.tables.fat (first_or_end ids.now)
             → OnOk result (HoldsTables validation self.new) }
-        ensures changes { IsTrue F.tells → ChangesSectors self.old.tables.fat_sectors
-            self.old.tables.version self.old.file.bytes self.new.file.bytes }
-        ensures spares { IsTrue F.tells → Spares ids.now self.old self.new }
-        ensures begun { OnOk result (IsRaised (0 < length ids.now) self.old.file self.new.file) }
-        ensures refused { IfErr result (BreaksOff (TablesGiveBack [] ids.now) self.old self.new) }
-        ensures err { IfErr result (ChangeRefused (IsUsable self.old.tables → ⊥) ⊥ ⊥ Unit) }
-        ensures counts { IsTrue F.tells
-            → CountsFailure F.write_faults result self.old.file.failures self.new.file.failures }
     {
         if ids.is_empty() {
             return Ok(());
@@ -626,24 +539,8 @@ impl<F: Medium, A: Heap> Allocator<F, A> {
     /// Writes a word of the header that does not speak of the tables (MS-CFB 2.2). `Medium` where the medium fails: then no byte has
     /// changed but that word's.
     pub fn write_header_word(&mut self, word: HeaderWord, value: u32) -> Result<(), Error>
-        ensures tables { self.new.tables ≡ self.old.tables }
-        ensures kept { self.new.file ≡ record self.old.file {
-          bytes = self.new.file.bytes;
-          failures = self.new.file.failures;
-          begun = true;
-        } }
-        ensures ok { IsTrue F.tells → OnOk result (self.new.file ≡ record self.old.file {
-          bytes = with_word self.old.file.bytes (header_word_place word) value;
-          begun = true;
-        }) }
-        ensures holds { IsTrue F.tells → (validation : Validation)
-            → HoldsTables validation self.old → OnOk result (HoldsTables validation self.new) }
-        ensures others { IsTrue F.tells
-            → ChangesOnlyBytes (header_word_place word) 4 self.old.file.bytes self.new.file.bytes }
-        ensures spares { IsTrue F.tells → Spares [] self.old self.new }
-        ensures err { IfErr result IsMediumError }
-        ensures counts { IsTrue F.tells
-            → CountsFailure F.write_faults result self.old.file.failures self.new.file.failures }
+        ensures writes { WritesHeaderWord F.tells F.write_faults word value self.old self.new result
+            }
     {
         let _fact = self.sectors.num_sectors();
         self.sectors.write_header_word(word.place(), value)
@@ -720,24 +617,8 @@ impl<F: Medium, A: Heap + Clone> Allocator<F, A> {
     /// `Memory` and `Full` as in `begin_chain`.
     #[tactic(auto, using(crate::proofs::AllocLemmas::refused_changed))]
     pub fn extend_chain(&mut self, start: u32, init: SectorInit) -> Result<u32, Error>
-        ensures extended { IfOk result (λ x.
-            Extended self.old.tables self.new.tables start (x ∷ [])) }
-        ensures filled { IsTrue F.tells
-            → (validation : Validation) → HoldsTables validation self.old
-            → IfOk result (λ x. IsAsFilled self.new.tables.version init self.new.file.bytes x) }
-        ensures holds { IsTrue F.tells → (validation : Validation)
-            → HoldsTables validation self.old → OnOk result (HoldsTables validation self.new) }
-        ensures others { IsTrue F.tells → OthersStay self.old self.new }
-        ensures spares { IsTrue F.tells → (list : List ℕ)
-            → IsChain self.old.tables.fat start list → Spares list self.old self.new }
-        ensures enough { OnOk result (IsTooFew self.old.tables 1 → ⊥) }
-        ensures begun { OnOk result (self.new.file.begun ≡ true) }
-        ensures refused { IfErr result (BreaksOff (ExtendsFrom start) self.old self.new) }
-        ensures err { IfErr result (ChangeRefused ((IsUsable self.old.tables → ⊥)
-            ⊎ NoLast self.old.tables.fat start) (IsTooFew self.old.tables 1
-            → ⊥) (IsTooFew self.old.tables 1) Unit) }
-        ensures counts { IsTrue F.tells
-            → CountsFailure F.write_faults result self.old.file.failures self.new.file.failures }
+        ensures extends { ExtendsChain F.tells start init self.old self.new result }
+        ensures takes { TakesOneSector F.tells F.write_faults self.old self.new result }
     {
         let before = self.usable_sizes()?;
         let last = self.tables.last(start)?;
@@ -767,27 +648,8 @@ impl<F: Medium, A: Heap + Clone> Allocator<F, A> {
         count: usize,
         init: SectorInit,
     ) -> Result<Vec<u32, A>, Error>
-        ensures taken { IfOk result (λ list.
-            HasTaken self.old.tables self.new.tables (ending last) list.items) }
-        ensures chain { IfOk result (λ list. IsChain self.new.tables.fat (first_or_end (ending last
-            ++ list.items)) (ending last ++ list.items)) }
-        ensures count { IfOk result (λ list. vec_len list ≡ count) }
-        ensures none { count ≡ 0 → self.new ≡ self.old }
-        ensures filled { IsTrue F.tells → (validation : Validation)
-            → HoldsTables validation self.old → IfOk result (λ list. (i : ℕ) → Contains list.items i
-            → IsAsFilled self.new.tables.version init self.new.file.bytes i) }
-        ensures holds { IsTrue F.tells → (validation : Validation)
-            → HoldsTables validation self.old → OnOk result (HoldsTables validation self.new) }
-        ensures others { IsTrue F.tells → OthersStay self.old self.new }
-        ensures spares { IsTrue F.tells → Spares (ending last) self.old self.new }
-        ensures enough { OnOk result (IsTooFew self.old.tables count → ⊥) }
-        ensures begun { OnOk result (IsRaised (0 < count) self.old.file self.new.file) }
-        ensures refused { IfErr result (BreaksOff (TakesFor (ending last)) self.old self.new) }
-        ensures err { IfErr result (ChangeRefused ((IsUsable self.old.tables → ⊥)
-            ⊎ ((last ≢ end_of_chain) × (value self.old.tables.fat last ≢ end_of_chain)))
-            (IsTooFew self.old.tables count → ⊥) (IsTooFew self.old.tables count) Unit) }
-        ensures counts { IsTrue F.tells
-            → CountsFailure F.write_faults result self.old.file.failures self.new.file.failures }
+        ensures extends { ExtendsChainBy F.tells last count init self.old self.new result }
+        ensures takes { TakesSectors F.tells F.write_faults count self.old self.new result }
     {
         if last == END_OF_CHAIN {
             return self.begin_chain_by(count, init);
@@ -801,20 +663,10 @@ impl<F: Medium, A: Heap + Clone> Allocator<F, A> {
     /// and `Memory`. Nothing has changed where it is refused, but after `Medium`: then the chain is free in memory, and of the
     /// file's bytes the FAT sectors alone have changed.
     pub fn free_chain(&mut self, start: u32) -> Result<(), Error>
-        ensures freed { OnOk result (GivesBackChain [] start self.old.tables self.new.tables) }
+        ensures frees { FreesTheChain F.tells F.write_faults start self.old self.new result }
         ensures none { start ≡ end_of_chain → self.new ≡ self.old }
         ensures holds { IsTrue F.tells → (validation : Validation) → HoldsTables validation self.old
             → IsUnnamed self.old.tables.fat start → OnOk result (HoldsTables validation self.new) }
-        ensures changes { IsTrue F.tells → ChangesSectors self.old.tables.fat_sectors
-            self.old.tables.version self.old.file.bytes self.new.file.bytes }
-        ensures spares { IsTrue F.tells → (list : List ℕ)
-            → IsChain self.old.tables.fat start list → Spares list self.old self.new }
-        ensures begun { OnOk result (IsRaised (start ≢ end_of_chain) self.old.file self.new.file) }
-        ensures refused { IfErr result (BreaksOff (GivesBackChain [] start) self.old self.new) }
-        ensures err { IfErr result (ChangeRefused ((IsUsable self.old.tables → ⊥)
-            ⊎ NoChain self.old.tables.fat start) Unit ⊥ Unit) }
-        ensures counts { IsTrue F.tells
-            → CountsFailure F.write_faults result self.old.file.failures self.new.file.failures }
     {
         self.usable_sizes()?;
         if start == END_OF_CHAIN {
@@ -830,22 +682,7 @@ impl<F: Medium, A: Heap + Clone> Allocator<F, A> {
     /// `InvalidData` where no chain goes on from the sector, and where the FAT sectors do not cover the file; `Medium` and `Memory`
     /// as in `free_chain`.
     pub fn free_chain_after(&mut self, sector: u32) -> Result<(), Error>
-        ensures cut { OnOk result (GivesBackChain (sector
-            ∷ []) (value self.old.tables.fat sector) self.old.tables self.new.tables) }
-        ensures holds { IsTrue F.tells → (validation : Validation)
-            → HoldsTables validation self.old → OnOk result (HoldsTables validation self.new) }
-        ensures changes { IsTrue F.tells → ChangesSectors self.old.tables.fat_sectors
-            self.old.tables.version self.old.file.bytes self.new.file.bytes }
-        ensures spares { IsTrue F.tells
-            → (list : List ℕ) → IsChain self.old.tables.fat (value self.old.tables.fat sector) list
-            → Spares (sector ∷ list) self.old self.new }
-        ensures begun { OnOk result (self.new.file.begun ≡ true) }
-        ensures refused { IfErr result (BreaksOff (GivesBackChain (sector
-            ∷ []) (value self.old.tables.fat sector)) self.old self.new) }
-        ensures err { IfErr result (ChangeRefused ((IsUsable self.old.tables → ⊥)
-            ⊎ NoChain self.old.tables.fat (value self.old.tables.fat sector)) Unit ⊥ Unit) }
-        ensures counts { IsTrue F.tells
-            → CountsFailure F.write_faults result self.old.file.failures self.new.file.failures }
+        ensures frees { FreesTheChainAfter F.tells F.write_faults sector self.old self.new result }
     {
         self.usable_sizes()?;
         self.tables.next(sector)?;
@@ -858,26 +695,9 @@ impl<F: Medium, A: Heap + Clone> Allocator<F, A> {
     /// Takes so many sectors as a new chain.
     #[tactic(auto, using(crate::proofs::AllocLemmas::refused_changed))]
     fn begin_chain_by(&mut self, count: usize, init: SectorInit) -> Result<Vec<u32, A>, Error>
-        ensures taken { IfOk result (λ list.
-            HasTaken self.old.tables self.new.tables [] list.items) }
-        ensures chain { IfOk result (λ list.
-            IsChain self.new.tables.fat (first_or_end list.items) list.items) }
-        ensures count { IfOk result (λ list. vec_len list ≡ count) }
-        ensures none { count ≡ 0 → self.new ≡ self.old }
-        ensures filled { IsTrue F.tells → (validation : Validation)
-            → HoldsTables validation self.old → IfOk result (λ list. (i : ℕ) → Contains list.items i
-            → IsAsFilled self.new.tables.version init self.new.file.bytes i) }
-        ensures holds { IsTrue F.tells → (validation : Validation)
-            → HoldsTables validation self.old → OnOk result (HoldsTables validation self.new) }
-        ensures others { IsTrue F.tells → OthersStay self.old self.new }
-        ensures spares { IsTrue F.tells → Spares [] self.old self.new }
-        ensures enough { OnOk result (IsTooFew self.old.tables count → ⊥) }
-        ensures begun { OnOk result (IsRaised (0 < count) self.old.file self.new.file) }
-        ensures refused { IfErr result (BreaksOff (TakesFor []) self.old self.new) }
-        ensures err { IfErr result (ChangeRefused (IsUsable self.old.tables
-            → ⊥) (IsTooFew self.old.tables count → ⊥) (IsTooFew self.old.tables count) Unit) }
-        ensures counts { IsTrue F.tells
-            → CountsFailure F.write_faults result self.old.file.failures self.new.file.failures }
+        ensures list { TakesNumbers count self.old.tables self.new.tables result }
+        ensures begins { BeginsChainBy F.tells count init self.old self.new result }
+        ensures takes { TakesSectors F.tells F.write_faults count self.old self.new result }
     {
         let before = self.usable_sizes()?;
         if count == 0 {
@@ -902,26 +722,9 @@ impl<F: Medium, A: Heap + Clone> Allocator<F, A> {
     /// Adds so many sectors behind the last one of a chain.
     #[tactic(auto, using(crate::proofs::AllocLemmas::refused_changed))]
     fn append_by(&mut self, last: u32, count: usize, init: SectorInit) -> Result<Vec<u32, A>, Error>
-        ensures taken { IfOk result (λ list.
-            HasTaken self.old.tables self.new.tables (last ∷ []) list.items) }
-        ensures chain { IfOk result (λ list. IsChain self.new.tables.fat last (last ∷ list.items)) }
-        ensures count { IfOk result (λ list. vec_len list ≡ count) }
-        ensures none { count ≡ 0 → self.new ≡ self.old }
-        ensures filled { IsTrue F.tells → (validation : Validation)
-            → HoldsTables validation self.old → IfOk result (λ list. (i : ℕ) → Contains list.items i
-            → IsAsFilled self.new.tables.version init self.new.file.bytes i) }
-        ensures holds { IsTrue F.tells → (validation : Validation)
-            → HoldsTables validation self.old → OnOk result (HoldsTables validation self.new) }
-        ensures others { IsTrue F.tells → OthersStay self.old self.new }
-        ensures spares { IsTrue F.tells → Spares (last ∷ []) self.old self.new }
-        ensures enough { OnOk result (IsTooFew self.old.tables count → ⊥) }
-        ensures begun { OnOk result (IsRaised (0 < count) self.old.file self.new.file) }
-        ensures refused { IfErr result (BreaksOff (TakesFor (last ∷ [])) self.old self.new) }
-        ensures err { IfErr result (ChangeRefused ((IsUsable self.old.tables → ⊥)
-            ⊎ (value self.old.tables.fat last ≢ end_of_chain)) (IsTooFew self.old.tables count
-            → ⊥) (IsTooFew self.old.tables count) Unit) }
-        ensures counts { IsTrue F.tells
-            → CountsFailure F.write_faults result self.old.file.failures self.new.file.failures }
+        ensures list { AttachesNumbers last count self.old.tables self.new.tables result }
+        ensures begins { AppendsChainBy F.tells last count init self.old self.new result }
+        ensures takes { TakesSectors F.tells F.write_faults count self.old self.new result }
     {
         let before = self.usable_sizes()?;
         if self.tables.next(last)? != END_OF_CHAIN {
@@ -965,24 +768,14 @@ impl<F: ReadMedium, A: Heap> Allocator<F, A> {
         into: &mut [u8],
     ) -> Result<usize, Error>
         requires { offset ≤ sector_len self.old.tables.version }
-        ensures tables { self.new.tables ≡ self.old.tables }
-        ensures kept { self.new.file ≡ record self.old.file {
-          bytes = self.new.file.bytes;
-          failures = self.new.file.failures;
-        } }
-        ensures count { IfOk result (λ n. n ≡ min (length into.old) (self.old.file.len
-            - place_in_sector self.old.file sector offset)) }
-        ensures ok { IsTrue F.tells → IfOk result (λ n. take n into.new
-            ≡ part self.old.file.bytes (place_in_sector self.old.file sector offset) n) }
-        ensures rest { IfOk result (λ n. drop n into.new ≡ drop n into.old) }
-        ensures past { sectors_end self.old.file < place_in_sector self.old.file sector offset
-            + length into.old → IsErrAnd result IsInvalidData × (self.new ≡ self.old) }
-        ensures inside { place_in_sector self.old.file sector offset + length into.old
-            ≤ sectors_end self.old.file → IfErr result IsMediumError }
-        ensures same { IsTrue F.tells → OnOk result (self.new ≡ self.old) }
-        ensures bytes { IsTrue F.tells → self.new.file.bytes ≡ self.old.file.bytes }
-        ensures counts { IsTrue F.tells
-            → CountsFailure F.read_faults result self.old.file.failures self.new.file.failures }
+        ensures reads { OnlyReadsFile F.tells F.read_faults self.old self.new result }
+        ensures part { ReadsBytesFrom F.tells (place_in_sector self.old.file sector offset) into.old
+            into.new self.old.file.bytes
+            (min (length into.old) (self.old.file.len - place_in_sector self.old.file sector
+            offset)) result }
+        ensures error { RefusedBehind self.old self.new
+            (place_in_sector self.old.file sector offset + length into.old)
+            (sectors_end self.old.file) result }
     {
         self.sectors.read_contiguous(sector, offset, into)
     }
@@ -996,60 +789,26 @@ impl<F: Medium, A: Heap> Allocator<F, A> {
         requires within { offset ≤ sector_len self.old.tables.version }
         requires some { 0 < length from.now }
         ensures tables { self.new.tables ≡ self.old.tables }
-        ensures ok { IsTrue F.tells → OnOk result (self.new.file ≡ record self.old.file {
-          bytes
-              = written self.old.file.bytes (place_in_sector self.old.file sector offset) from.now;
-          len = max self.old.file.len (place_in_sector self.old.file sector offset
-              + length from.now);
-          begun = true;
-        }) }
-        ensures kept { self.new.file ≡ record self.old.file {
-          len = self.new.file.len;
-          bytes = self.new.file.bytes;
-          failures = self.new.file.failures;
-          begun = self.new.file.begun;
-        } }
-        ensures len { MatchResult result (λ _. self.new.file.len
-            ≡ max self.old.file.len (place_in_sector self.old.file sector offset
-            + length from.now)) (λ _. self.new.file.len ≡ self.old.file.len) }
+        ensures put { PutsBytes F.tells F.write_faults (place_in_sector self.old.file sector offset)
+            from.now self.old.file self.new.file
+            (place_in_sector self.old.file sector offset + length from.now) (length from.now) result
+            }
+        ensures kept { WritesOnlyUntil self.old.file self.new.file
+            (place_in_sector self.old.file sector offset + length from.now) result }
         ensures past { sectors_end self.old.file < place_in_sector self.old.file sector offset
             + length from.now → IsErrAnd result IsInvalidData × (self.new ≡ self.old) }
         ensures inside { place_in_sector self.old.file sector offset + length from.now
             ≤ sectors_end self.old.file
             → IfErr result IsMediumError × (self.new.file.begun ≡ true) }
-        ensures others { IsTrue F.tells
-            → ChangesOnlyBytes (place_in_sector self.old.file sector offset)
-            (length from.now) self.old.file.bytes self.new.file.bytes }
-        ensures sectors { IsTrue F.tells
-            → OtherSectorsStay self.old.file.version (place_in_sector self.old.file sector offset)
-            (length from.now) self.old.file.bytes self.new.file.bytes }
-        ensures spares { IsTrue F.tells → (own : List ℕ)
-            → LieAmong own self.old.tables.version (place_in_sector self.old.file sector offset)
-            (length from.now) → Spares own self.old self.new }
-        ensures holds { IsTrue F.tells → (validation : Validation) → HoldsTables validation self.old
-            → LieOutside (table_sectors self.old.tables) self.old.tables.version
-            (place_in_sector self.old.file sector offset) (length from.now)
-            → OnOk result (HoldsTables validation self.new) }
-        ensures counts { IsTrue F.tells
-            → CountsFailure F.write_faults result self.old.file.failures self.new.file.failures }
+        ensures there { KeepsTablesOutside F.tells self.old self.new
+            (place_in_sector self.old.file sector offset) (length from.now) result }
     {
         self.sectors.write_contiguous(sector, offset, from)
     }
 
     /// Has the medium hand on what was written. `Medium` where it fails.
     pub fn flush(&mut self) -> Result<(), Error>
-        ensures tables { self.new.tables ≡ self.old.tables }
-        ensures ok { IsTrue F.tells
-            → OnOk result (self.new.file ≡ record self.old.file { begun = true }) }
-        ensures kept { self.new.file ≡ record self.old.file {
-          bytes = self.new.file.bytes;
-          failures = self.new.file.failures;
-          begun = true;
-        } }
-        ensures bytes { IsTrue F.tells → self.new.file.bytes ≡ self.old.file.bytes }
-        ensures err { IfErr result IsMediumError }
-        ensures counts { IsTrue F.tells
-            → CountsFailure F.write_faults result self.old.file.failures self.new.file.failures }
+        ensures flushes { FlushesFile F.tells F.write_faults self.old self.new result }
     {
         self.sectors.flush()
     }
@@ -1058,20 +817,10 @@ impl<F: Medium, A: Heap> Allocator<F, A> {
 impl<F: ReadMedium, A: Heap> Allocator<F, A> {
     /// Reads what is there of the bytes from `at` on, as far as `into` has room.
     pub(crate) fn read_at(&mut self, at: u64, into: &mut [u8]) -> Result<usize, Error>
-        ensures tables { self.new.tables ≡ self.old.tables }
-        ensures kept { self.new.file ≡ record self.old.file {
-          bytes = self.new.file.bytes;
-          failures = self.new.file.failures;
-        } }
-        ensures count { IfOk result (λ n. n ≡ min (length into.old) (self.old.file.len - at)) }
-        ensures ok { IsTrue F.tells
-            → IfOk result (λ n. take n into.new ≡ part self.old.file.bytes at n) }
-        ensures rest { IfOk result (λ n. drop n into.new ≡ drop n into.old) }
+        ensures reads { OnlyReadsFile F.tells F.read_faults self.old self.new result }
+        ensures part { ReadsBytesFrom F.tells at into.old into.new self.old.file.bytes
+            (min (length into.old) (self.old.file.len - at)) result }
         ensures err { IfErr result IsMediumError }
-        ensures same { IsTrue F.tells → OnOk result (self.new ≡ self.old) }
-        ensures bytes { IsTrue F.tells → self.new.file.bytes ≡ self.old.file.bytes }
-        ensures counts { IsTrue F.tells
-            → CountsFailure F.read_faults result self.old.file.failures self.new.file.failures }
     {
         self.sectors.read_at(at, into)
     }
@@ -1083,24 +832,9 @@ impl<F: Medium, A: Heap> Allocator<F, A> {
         requires some { 0 < length from.now }
         requires inside { at + length from.now ≤ sectors_end self.old.file }
         ensures tables { self.new.tables ≡ self.old.tables }
-        ensures ok { IsTrue F.tells → OnOk result (self.new.file ≡ record self.old.file {
-          bytes = written self.old.file.bytes at from.now;
-          len = max self.old.file.len (at + length from.now);
-          begun = true;
-        }) }
-        ensures kept { self.new.file ≡ record self.old.file {
-          len = self.new.file.len;
-          bytes = self.new.file.bytes;
-          failures = self.new.file.failures;
-          begun = true;
-        } }
-        ensures len { MatchResult result
-            (λ _. self.new.file.len ≡ max self.old.file.len (at + length from.now))
-            (λ e. IsMediumError e × (self.new.file.len ≡ self.old.file.len)) }
-        ensures others { IsTrue F.tells
-            → ChangesOnlyBytes at (length from.now) self.old.file.bytes self.new.file.bytes }
-        ensures counts { IsTrue F.tells
-            → CountsFailure F.write_faults result self.old.file.failures self.new.file.failures }
+        ensures put { PutsBytes F.tells F.write_faults at from.now self.old.file self.new.file
+            (at + length from.now) (length from.now) result }
+        ensures kept { WritesBeganUntil self.old.file self.new.file (at + length from.now) result }
     {
         self.sectors.write_at(at, from)
     }

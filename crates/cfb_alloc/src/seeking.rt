@@ -1,5 +1,8 @@
 //! Stretches of a file that are lent with its allocator: the header, a sector or a part of one (MS-CFB 2.1 and 2.2).
 ghost use Rattle.std.specs.Prelude.{◌≡◌, ℕ, ◌+◌, ◌-◌, ◌*◌, ◌^◌, ◌<◌, ◌≤◌, max, min, [], ◌∷◌, length, true, take, drop, IsTrue, IfOk, IfErr, OnOk, MatchResult, Ok};
+ghost use Rattle.cfb_alloc.specs.Reading.{OnlyReadsFile};
+ghost use Rattle.cfb_alloc.specs.cfb_sectors.Lending.{IsLentSector};
+ghost use Rattle.cfb_alloc.specs.cfb_sectors.Reading.{ReadsBytesFrom};
 ghost use Rattle.cfb_format.specs.declared.validate.Validation.{Validation};
 ghost use Rattle.cfb_format.specs.Bytes.{sector_len, sector_start};
 ghost use Rattle.cfb_format.specs.Medium.{ChangesOnlyBytes, part, written};
@@ -60,8 +63,7 @@ impl<F: ReadMedium, A: Heap> Allocator<F, A> {
             × (len_of s ≡ sector_len self.old.tables.version) × (offset_of s ≡ 0)) }
         ensures lies { IfOk result (λ s.
             LiesIn self.old.tables.version sector (start_of s) (len_of s)) }
-        ensures known { IfOk result (λ s. sector < length self.old.tables.fat) }
-        ensures past { IfErr result (λ e. IsInvalidData e × (length self.old.tables.fat ≤ sector)) }
+        ensures sector { IsLentSector sector (length self.old.tables.fat) result }
     {
         self.seek_within_sector(sector, 0)
     }
@@ -82,8 +84,7 @@ impl<F: ReadMedium, A: Heap> Allocator<F, A> {
             × (len_of s ≡ sector_len self.old.tables.version) × (offset_of s ≡ offset)) }
         ensures lies { IfOk result (λ s.
             LiesIn self.old.tables.version sector (start_of s) (len_of s)) }
-        ensures known { IfOk result (λ s. sector < length self.old.tables.fat) }
-        ensures past { IfErr result (λ e. IsInvalidData e × (length self.old.tables.fat ≤ sector)) }
+        ensures sector { IsLentSector sector (length self.old.tables.fat) result }
     {
         let start = self.sector_place(sector)?;
         let len = self.sector_len();
@@ -115,8 +116,7 @@ impl<F: ReadMedium, A: Heap> Allocator<F, A> {
             + index * len) × (len_of s ≡ len) × (offset_of s ≡ offset)) }
         ensures lies { IfOk result (λ s.
             LiesIn self.old.tables.version sector (start_of s) (len_of s)) }
-        ensures known { IfOk result (λ s. sector < length self.old.tables.fat) }
-        ensures past { IfErr result (λ e. IsInvalidData e × (length self.old.tables.fat ≤ sector)) }
+        ensures sector { IsLentSector sector (length self.old.tables.fat) result }
     {
         let whole = self.sector_len();
         let _fact = whole;
@@ -221,26 +221,15 @@ impl<'a, F: ReadMedium, A: Heap> AllocatedSector<'a, F, A> {
             ≡ (allocator_of self.old).ghost_name }
         ensures place { (start_of self.new ≡ start_of self.old)
             × (len_of self.new ≡ len_of self.old) }
-        ensures tables { (allocator_of self.new).now.tables ≡ (allocator_of self.old).now.tables }
-        ensures kept { (allocator_of self.new).now.file ≡ record (allocator_of self.old).now.file {
-          bytes = (allocator_of self.new).now.file.bytes;
-          failures = (allocator_of self.new).now.file.failures;
-        } }
-        ensures count { IfOk result (λ n. n
-            ≡ min (min (length into.old) (room_of self.old)) ((allocator_of self.old).now.file.len
-            - place_of self.old)) }
+        ensures reads { OnlyReadsFile F.tells F.read_faults (allocator_of self.old).now
+            (allocator_of self.new).now result }
+        ensures part { ReadsBytesFrom F.tells (place_of self.old) into.old into.new
+            (allocator_of self.old).now.file.bytes
+            (min (min (length into.old) (room_of self.old)) ((allocator_of
+            self.old).now.file.len - place_of self.old)) result }
         ensures offset { MatchResult result (λ n. offset_of self.new
             ≡ offset_of self.old + n) (λ _. offset_of self.new ≡ offset_of self.old) }
-        ensures ok { IsTrue F.tells → IfOk result (λ n. take n into.new
-            ≡ part (allocator_of self.old).now.file.bytes (place_of self.old) n) }
-        ensures rest { IfOk result (λ n. drop n into.new ≡ drop n into.old) }
         ensures err { IfErr result IsMediumError }
-        ensures same { IsTrue F.tells
-            → OnOk result ((allocator_of self.new).now ≡ (allocator_of self.old).now) }
-        ensures bytes { IsTrue F.tells
-            → (allocator_of self.new).now.file.bytes ≡ (allocator_of self.old).now.file.bytes }
-        ensures counts { IsTrue F.tells → CountsFailure F.read_faults result
-            (allocator_of self.old).now.file.failures (allocator_of self.new).now.file.failures }
     {
         let room = into.len().min(self.remaining());
         let count = self
@@ -253,55 +242,18 @@ impl<'a, F: ReadMedium, A: Heap> AllocatedSector<'a, F, A> {
 
 impl<'a, F: Medium, A: Heap> AllocatedSector<'a, F, A> {
     ghost use Rattle.cfb_alloc.specs.LentSector.{allocator_of, version_of, start_of, len_of, offset_of, place_of, room_of};
+    ghost use Rattle.cfb_alloc.specs.Lending.{MovesOnIn, WritesInSector, WritesOnlyInSector};
 
     /// Writes a beginning of `from` at its place, as far as the stretch has room, goes on behind it, and answers how many bytes it is.
     /// `Medium` where the medium fails: then no byte has changed but where that beginning was to go, and past the old end.
     pub fn write(&mut self, from: &[u8]) -> Result<usize, Error>
-        ensures same_allocator { (allocator_of self.new).ghost_name
-            ≡ (allocator_of self.old).ghost_name }
-        ensures place { (start_of self.new ≡ start_of self.old)
-            × (len_of self.new ≡ len_of self.old) }
-        ensures tables { (allocator_of self.new).now.tables ≡ (allocator_of self.old).now.tables }
-        ensures count { IfOk result (λ n. n ≡ min (length from.now) (room_of self.old)) }
-        ensures offset { MatchResult result (λ n. offset_of self.new
-            ≡ offset_of self.old + n) (λ _. offset_of self.new ≡ offset_of self.old) }
-        ensures ok { IsTrue F.tells → IfOk result (λ n. 0 < n → (allocator_of self.new).now.file
-            ≡ record (allocator_of self.old).now.file {
-              bytes = written
-                  (allocator_of self.old).now.file.bytes (place_of self.old) (take n from.now);
-              len = max (allocator_of self.old).now.file.len (place_of self.old + n);
-              begun = true;
-            }) }
-        ensures none { min (length from.now) (room_of self.old) ≡ 0
-            → (result ≡ Ok 0) × ((allocator_of self.new).now ≡ (allocator_of self.old).now) }
-        ensures kept { 0 < min (length from.now) (room_of self.old)
-            → (allocator_of self.new).now.file
-            ≡ record (allocator_of self.old).now.file {
-              len = (allocator_of self.new).now.file.len;
-              bytes = (allocator_of self.new).now.file.bytes;
-              failures = (allocator_of self.new).now.file.failures;
-              begun = true;
-            } }
-        ensures len { MatchResult result (λ n. 0 < n → (allocator_of self.new).now.file.len
-            ≡ max (allocator_of self.old).now.file.len (place_of self.old + n)) (λ e.
-            IsMediumError e
-            × ((allocator_of self.new).now.file.len ≡ (allocator_of self.old).now.file.len)) }
-        ensures holds { IsTrue F.tells → (validation : Validation)
-            → HoldsTables validation (allocator_of self.old).now → (sector : ℕ)
-            → LiesIn (version_of self.old) sector (start_of self.old) (len_of self.old)
-            → IsNoTableSector (allocator_of self.old).now.tables sector
-            → OnOk result (HoldsTables validation (allocator_of self.new).now) }
-        ensures others { IsTrue F.tells
-            → ChangesOnlyBytes (place_of self.old) (min (length from.now) (room_of self.old))
-            (allocator_of self.old).now.file.bytes (allocator_of self.new).now.file.bytes }
-        ensures spares { IsTrue F.tells → (sector : ℕ)
-            → LiesIn (version_of self.old) sector (start_of self.old) (len_of self.old)
-            → Spares (sector ∷ []) (allocator_of self.old).now (allocator_of self.new).now }
-        ensures sectors { IsTrue F.tells → OtherSectorsStay
-            (version_of self.old) (place_of self.old) (min (length from.now) (room_of self.old))
-            (allocator_of self.old).now.file.bytes (allocator_of self.new).now.file.bytes }
-        ensures counts { IsTrue F.tells → CountsFailure F.write_faults result
-            (allocator_of self.old).now.file.failures (allocator_of self.new).now.file.failures }
+        ensures moves { MovesOnIn self.old self.new result }
+        ensures written { WritesInSector F.tells from.now (allocator_of self.old).now
+            (allocator_of self.new).now (min (length from.now) (room_of self.old))
+            (place_of self.old) result }
+        ensures there { WritesOnlyInSector F.tells F.write_faults (allocator_of self.old).now
+            (allocator_of self.new).now (min (length from.now) (room_of self.old))
+            (place_of self.old) (version_of self.old) (start_of self.old) (len_of self.old) result }
     {
         let count = from.len().min(self.remaining());
         if count == 0 {

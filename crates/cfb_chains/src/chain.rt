@@ -1,5 +1,8 @@
 //! A chain of sectors as one list of bytes with a position (MS-CFB 2.3).
 ghost use Rattle.std.specs.Prelude.{◌≡◌, ◌≢◌, ℕ, List, [], ◌∷◌, ◌++◌, ◌+◌, ◌-◌, ◌*◌, ◌/◌, ◌%◌, ◌<◌, ◌≤◌, max, min, length, replicate, true, take, drop, slice_index, ◌⊎◌, Contains, Some, IsTrue, IfOk, IfErr, IsErrAnd, OnOk, OnErr, MatchResult, vec_len};
+ghost use Rattle.cfb_chains.specs.Listing.{ListGrows, GrowingRefused, CutsTheList, LongerList, StaysListed, FillsGained};
+ghost use Rattle.cfb_chains.specs.cfb_alloc.Taking.{TakesSectors};
+ghost use Rattle.cfb_chains.specs.cfb_alloc.Reading.{OnlyReadsFile};
 ghost use Rattle.cfb_format.specs.declared.validate.Validation.{Validation};
 ghost use Rattle.cfb_format.specs.Bytes.{sector_len, sector_start, max_regular_sector, end_of_chain, free_sector};
 ghost use Rattle.cfb_format.specs.Chain.{IsChain, chain_from, value};
@@ -96,6 +99,7 @@ impl<'a, F: ReadMedium, A: Heap + Clone> Chain<'a, F, A> {
 
 impl<'a, F: ReadMedium, A: Heap> Chain<'a, F, A> {
     ghost use Rattle.cfb_chains.specs.LentChain.{allocator_of, start_sector_of, ids_of, init_of, version_of, len_of, left_of, position_of, room_of, place_at, place_of, HasAllSectors, content_of};
+    ghost use Rattle.cfb_chains.specs.Reading.{MovesAlong, SameChain, ReadsChain, ChainReadRefused};
 
     /// The number of its first sector, or END where it has none.
     pub fn start_sector_id(&self) -> u32
@@ -136,11 +140,8 @@ impl<'a, F: ReadMedium, A: Heap> Chain<'a, F, A> {
 
     /// Goes to a byte, or to the end. `InvalidInput` exactly past the end: then nothing has changed.
     pub fn seek(&mut self, position: u64) -> Result<(), Error>
-        ensures same_allocator { (allocator_of self.new).ghost_name
-            ≡ (allocator_of self.old).ghost_name }
+        ensures stays { SameChain self.old self.new }
         ensures allocator { (allocator_of self.new).now ≡ (allocator_of self.old).now }
-        ensures chain { (ids_of self.new ≡ ids_of self.old) × (start_sector_of self.new
-            ≡ start_sector_of self.old) × (init_of self.new ≡ init_of self.old) }
         ensures inside { position ≤ len_of self.old
             → OnOk result (position_of self.new ≡ position) × OnErr result ⊥ }
         ensures past { len_of self.old < position
@@ -166,39 +167,11 @@ impl<'a, F: ReadMedium, A: Heap> Chain<'a, F, A> {
     /// `InvalidData` exactly where the file does not have the byte at the position, and `Medium` where the medium fails: the position
     /// then stays.
     pub fn read(&mut self, into: &mut [u8]) -> Result<usize, Error>
-        ensures same_allocator { (allocator_of self.new).ghost_name
-            ≡ (allocator_of self.old).ghost_name }
-        ensures tables { (allocator_of self.new).now.tables ≡ (allocator_of self.old).now.tables }
-        ensures kept { (allocator_of self.new).now.file ≡ record (allocator_of self.old).now.file {
-          bytes = (allocator_of self.new).now.file.bytes;
-          failures = (allocator_of self.new).now.file.failures;
-        } }
-        ensures chain { (ids_of self.new ≡ ids_of self.old) × (start_sector_of self.new
-            ≡ start_sector_of self.old) × (init_of self.new ≡ init_of self.old) }
-        ensures count { IfOk result (λ n. n ≤ min (length into.old) (left_of self.old)) }
-        ensures some { IfOk result (λ n. 0 < min (length into.old) (left_of self.old) → 0 < n) }
-        ensures within { IfOk result (λ n. (j : ℕ) → j < n
-            → place_at self.old (position_of self.old + j) < (allocator_of self.old).now.file.len) }
-        ensures position { MatchResult result (λ n. position_of self.new
-            ≡ position_of self.old + n) (λ _. position_of self.new ≡ position_of self.old) }
-        ensures ok { IsTrue F.tells → IfOk result (λ n. take n into.new ≡ placed_from
-            (allocator_of self.old).now.file.bytes (place_in_chain (version_of self.old)
-            (allocator_of self.old).now.file.bytes (ids_of self.old)) (position_of self.old) n) }
-        ensures rest { IfOk result (λ n. drop n into.new ≡ drop n into.old) }
-        ensures content { IsTrue F.tells → HasAllSectors self.old → IfOk result (λ n.
-            take n into.new ≡ part (content_of self.old) (position_of self.old) n) }
-        ensures cut { 0 < min (length into.old) (left_of self.old)
-            → (allocator_of self.old).now.file.len ≤ place_of self.old
-            → IsErrAnd result IsInvalidData }
-        ensures there { min (length into.old) (left_of self.old) ≡ 0 → OnErr result ⊥ }
-        ensures err { place_of self.old < (allocator_of self.old).now.file.len
-            → IfErr result IsMediumError }
-        ensures same { IsTrue F.tells
-            → OnOk result ((allocator_of self.new).now ≡ (allocator_of self.old).now) }
-        ensures bytes { IsTrue F.tells
-            → (allocator_of self.new).now.file.bytes ≡ (allocator_of self.old).now.file.bytes }
-        ensures counts { IsTrue F.tells → CountsFailure F.read_faults result
-            (allocator_of self.old).now.file.failures (allocator_of self.new).now.file.failures }
+        ensures moves { MovesAlong self.old self.new result }
+        ensures reads { OnlyReadsFile F.tells F.read_faults (allocator_of self.old).now
+            (allocator_of self.new).now result }
+        ensures part { ReadsChain F.tells into.old into.new self.old result }
+        ensures error { ChainReadRefused into.old self.old result }
     {
         let room = (into.len() as u64).min(self.left());
         if room == 0 {
@@ -226,54 +199,23 @@ impl<'a, F: ReadMedium, A: Heap> Chain<'a, F, A> {
 
 impl<'a, F: Medium, A: Heap> Chain<'a, F, A> {
     ghost use Rattle.cfb_chains.specs.LentChain.{allocator_of, start_sector_of, ids_of, init_of, version_of, len_of, position_of, left_of, place_at, place_of, tail_of, HasAllSectors, content_of, HasBytes, HoldsWanted, ChangesOnlyWanted, HasWritten};
+    ghost use Rattle.cfb_chains.specs.Reading.{MovesAlong, SameChain};
+    ghost use Rattle.cfb_chains.specs.Writing.{WritesInChain, WritesChainPart, ZeroesTail};
 
     /// Writes a beginning of `from` over what the chain has from the position on, goes on behind it, and answers how many bytes that
     /// is: none exactly where `from` is empty or the end is reached. `Medium` where the medium fails: the position then stays, and no
     /// byte of the file has changed but where `from` was to stand.
     pub fn write_within(&mut self, from: &[u8]) -> Result<usize, Error>
-        ensures same_allocator { (allocator_of self.new).ghost_name
-            ≡ (allocator_of self.old).ghost_name }
-        ensures tables { (allocator_of self.new).now.tables ≡ (allocator_of self.old).now.tables }
-        ensures kept { (allocator_of self.new).now.file ≡ record (allocator_of self.old).now.file {
-          len = (allocator_of self.new).now.file.len;
-          bytes = (allocator_of self.new).now.file.bytes;
-          failures = (allocator_of self.new).now.file.failures;
-          begun = (allocator_of self.new).now.file.begun;
-        } }
-        ensures chain { (ids_of self.new ≡ ids_of self.old) × (start_sector_of self.new
-            ≡ start_sector_of self.old) × (init_of self.new ≡ init_of self.old) }
-        ensures count { IfOk result (λ n. n ≤ min (length from.now) (left_of self.old)) }
-        ensures some { IfOk result (λ n. 0 < min (length from.now) (left_of self.old) → 0 < n) }
-        ensures none { min (length from.now) (left_of self.old) ≡ 0
-            → OnErr result ⊥ × ((allocator_of self.new).now ≡ (allocator_of self.old).now) }
-        ensures position { MatchResult result (λ n. position_of self.new
-            ≡ position_of self.old + n) (λ _. position_of self.new ≡ position_of self.old) }
-        ensures ok { IsTrue F.tells → IfOk result (λ n. 0 < n → (allocator_of self.new).now.file
-            ≡ record (allocator_of self.old).now.file {
-              bytes = written
-                  (allocator_of self.old).now.file.bytes (place_of self.old) (take n from.now);
-              len = max (allocator_of self.old).now.file.len (place_of self.old + n);
-              begun = true;
-            }) }
-        ensures places { IsTrue F.tells
-            → IfOk result (λ n. HasWritten n from.now self.old self.new) }
-        ensures holds { IsTrue F.tells
-            → (validation : Validation) → HoldsTables validation (allocator_of self.old).now
-            → OnOk result (HoldsTables validation (allocator_of self.new).now) }
-        ensures content { IsTrue F.tells
-            → HasAllSectors self.old → IfOk result (λ n. 0 < n → HasBytes self.new
-            (written (content_of self.old) (position_of self.old) (take n from.now))) }
-        ensures err { IfErr result IsMediumError }
+        ensures moves { MovesAlong self.old self.new result }
+        ensures writes { WritesInChain F.tells F.write_faults (allocator_of self.old).now
+            (allocator_of self.new).now (ids_of self.old) result }
+        ensures part { WritesChainPart F.tells from.now self.old self.new result }
         ensures begun { 0 < min (length from.now) (left_of self.old)
             → (allocator_of self.new).now.file.begun ≡ true }
         ensures sectors { IsTrue F.tells → (i : ℕ)
             → (HoldsWanted (length from.now) self.old i → ⊥) → SectorStays (version_of self.old) i
             (allocator_of self.old).now.file.bytes (allocator_of self.new).now.file.bytes }
         ensures others { IsTrue F.tells → ChangesOnlyWanted (length from.now) self.old self.new }
-        ensures spares { IsTrue F.tells
-            → Spares (ids_of self.old) (allocator_of self.old).now (allocator_of self.new).now }
-        ensures counts { IsTrue F.tells → CountsFailure F.write_faults result
-            (allocator_of self.old).now.file.failures (allocator_of self.new).now.file.failures }
     {
         let room = (from.len() as u64).min(self.left());
         if room == 0 {
@@ -288,43 +230,11 @@ impl<'a, F: Medium, A: Heap> Chain<'a, F, A> {
     /// fails: of the sectors that one alone has changed then.
     pub fn zero_tail(&mut self, offset: u64) -> Result<(), Error>
         requires { offset ≤ len_of self.old }
-        ensures same_allocator { (allocator_of self.new).ghost_name
-            ≡ (allocator_of self.old).ghost_name }
-        ensures tables { (allocator_of self.new).now.tables ≡ (allocator_of self.old).now.tables }
-        ensures kept { (allocator_of self.new).now.file ≡ record (allocator_of self.old).now.file {
-          len = (allocator_of self.new).now.file.len;
-          bytes = (allocator_of self.new).now.file.bytes;
-          failures = (allocator_of self.new).now.file.failures;
-          begun = (allocator_of self.new).now.file.begun;
-        } }
-        ensures chain { (ids_of self.new ≡ ids_of self.old) × (start_sector_of self.new
-            ≡ start_sector_of self.old) × (init_of self.new ≡ init_of self.old) }
+        ensures stays { SameChain self.old self.new }
+        ensures writes { WritesInChain F.tells F.write_faults (allocator_of self.old).now
+            (allocator_of self.new).now (ids_of self.old) result }
         ensures position { position_of self.new ≡ position_of self.old }
-        ensures none { offset % sector_len (version_of self.old) ≡ 0
-            → OnErr result ⊥ × ((allocator_of self.new).now ≡ (allocator_of self.old).now) }
-        ensures ok { IsTrue F.tells → 0 < offset % sector_len (version_of self.old)
-            → OnOk result ((allocator_of self.new).now.file ≡ record (allocator_of
-            self.old).now.file {
-              bytes = written (allocator_of self.old).now.file.bytes
-                  (place_at self.old offset) (replicate (tail_of self.old offset) 0);
-              len = max (allocator_of self.old).now.file.len (place_at self.old offset
-                  + tail_of self.old offset);
-              begun = true;
-            }) }
-        ensures holds { IsTrue F.tells
-            → (validation : Validation) → HoldsTables validation (allocator_of self.old).now
-            → OnOk result (HoldsTables validation (allocator_of self.new).now) }
-        ensures whole { IsTrue F.tells
-            → HasAllSectors self.old → OnOk result (HasAllSectors self.new) }
-        ensures same { IsTrue F.tells
-            → HasAllSectors self.old → offset % sector_len (version_of self.old) ≡ 0
-            → OnOk result (content_of self.new ≡ content_of self.old) }
-        ensures content { IsTrue F.tells → HasAllSectors self.old
-            → 0 < offset % sector_len (version_of self.old) → OnOk result (content_of self.new
-            ≡ written (content_of self.old) offset (replicate (tail_of self.old offset) 0)) }
-        ensures err { IfErr result IsMediumError }
-        ensures begun { 0 < offset % sector_len (version_of self.old)
-            → (allocator_of self.new).now.file.begun ≡ true }
+        ensures zeroes { ZeroesTail F.tells offset self.old self.new result }
         ensures sectors { IsTrue F.tells → (i : ℕ)
             → i ≢ slice_index (ids_of self.old) (offset / sector_len (version_of self.old))
             → SectorStays (version_of self.old) i
@@ -332,10 +242,6 @@ impl<'a, F: Medium, A: Heap> Chain<'a, F, A> {
         ensures others { IsTrue F.tells
             → ChangesOnlyBytes (place_at self.old offset) (tail_of self.old offset)
             (allocator_of self.old).now.file.bytes (allocator_of self.new).now.file.bytes }
-        ensures spares { IsTrue F.tells
-            → Spares (ids_of self.old) (allocator_of self.old).now (allocator_of self.new).now }
-        ensures counts { IsTrue F.tells → CountsFailure F.write_faults result
-            (allocator_of self.old).now.file.failures (allocator_of self.new).now.file.failures }
     {
         let sector_len = self.allocator.sector_len();
         let rest = (offset % sector_len as u64) as usize;
@@ -354,6 +260,8 @@ impl<'a, F: Medium, A: Heap> Chain<'a, F, A> {
 
 impl<'a, F: Medium, A: Heap + Clone> Chain<'a, F, A> {
     ghost use Rattle.cfb_chains.specs.LentChain.{allocator_of, start_sector_of, ids_of, init_of, version_of, len_of, position_of, missing_of, wanted_of, HasGained, HasTurned, IsAsBefore, HasAllSectors, content_of, HasBytes, HoldsWanted, HasWritten, HasResized, left_of};
+    ghost use Rattle.cfb_chains.specs.Reading.{SameAllocator};
+    ghost use Rattle.cfb_chains.specs.Writing.{FreesAll, FreeingRefused, WritesOn, TakesMissing, HoldsWritten, WriteSpares, WriteRefused, HasLen, TurnsTables, HoldsResized, ResizeSpares, ResizeRefused};
 
     /// Frees its sectors: then it has none. Where it had none nothing changes.
     ///
@@ -364,29 +272,10 @@ impl<'a, F: Medium, A: Heap + Clone> Chain<'a, F, A> {
         ensures same_allocator { (allocator_of self.new).ghost_name
             ≡ (allocator_of self.old).ghost_name }
         ensures init { init_of self.new ≡ init_of self.old }
-        ensures ids { OnOk result (ids_of self.new ≡ []) }
-        ensures none { ids_of self.old ≡ [] → OnErr result ⊥ × IsAsBefore self.old self.new }
-        ensures freed { OnOk result (GivesBackChain [] (start_sector_of self.old)
-            (allocator_of self.old).now.tables (allocator_of self.new).now.tables) }
-        ensures holds { IsTrue F.tells
-            → (validation : Validation) → HoldsTables validation (allocator_of self.old).now
-            → IsUnnamed (allocator_of self.old).now.tables.fat (start_sector_of self.old)
-            → OnOk result (HoldsTables validation (allocator_of self.new).now) }
-        ensures changes { IsTrue F.tells
-            → ChangesSectors (allocator_of self.old).now.tables.fat_sectors
-            (allocator_of self.old).now.tables.version
-            (allocator_of self.old).now.file.bytes (allocator_of self.new).now.file.bytes }
+        ensures frees { FreesAll F.tells self.old self.new result }
         ensures spares { IsTrue F.tells
             → Spares (ids_of self.old) (allocator_of self.old).now (allocator_of self.new).now }
-        ensures refused { IfErr result (BreaksOff (GivesBackChain [] (start_sector_of self.old))
-            (allocator_of self.old).now (allocator_of self.new).now) }
-        ensures view { IfErr result (StaysOrBecomes [] (ids_of self.old) (ids_of self.new)) }
-        ensures place { IfErr result
-            (StaysOrBecomes 0 (position_of self.old) (position_of self.new)) }
-        ensures err { IfErr result (ChangeRefused (IsUsable (allocator_of self.old).now.tables
-            → ⊥) ⊥ ⊥ Unit) }
-        ensures begun { 0 < length (ids_of self.old)
-            → OnOk result ((allocator_of self.new).now.file.begun ≡ true) }
+        ensures refused { FreeingRefused self.old self.new result }
         ensures counts { IsTrue F.tells → CountsFailure F.write_faults result
             (allocator_of self.old).now.file.failures (allocator_of self.new).now.file.failures }
     {
@@ -403,76 +292,12 @@ impl<'a, F: Medium, A: Heap + Clone> Chain<'a, F, A> {
     /// fails: then it has gained the sectors in memory, and no byte has changed but in the sectors where `from` was to stand, in table
     /// sectors and in sectors that were free; and the gained sectors hold what was to stand there, or no FAT sector has changed.
     pub fn write(&mut self, from: &[u8]) -> Result<usize, Error>
-        ensures same_allocator { (allocator_of self.new).ghost_name
-            ≡ (allocator_of self.old).ghost_name }
-        ensures init { init_of self.new ≡ init_of self.old }
-        ensures version { version_of self.new ≡ version_of self.old }
-        ensures count { IfOk result (λ n. n ≤ length from.now) }
-        ensures some { IfOk result (λ n. 0 < length from.now → 0 < n) }
-        ensures position { IfOk result (λ n. position_of self.new ≡ position_of self.old + n) }
-        ensures none { length from.now ≡ 0 → OnErr result ⊥ × IsAsBefore self.old self.new }
-        ensures ids { OnOk result (ids_of self.new
-            ≡ ids_of self.old ++ gained (ids_of self.old) (ids_of self.new)) }
-        ensures gained { OnOk result (length (gained (ids_of self.old) (ids_of self.new))
-            ≡ missing_of self.old (length from.now)) }
-        ensures tables { missing_of self.old (length from.now) ≡ 0
-            → (allocator_of self.new).now.tables ≡ (allocator_of self.old).now.tables }
-        ensures taken { 0 < missing_of self.old (length from.now) → OnOk result
-            (HasTaken (allocator_of self.old).now.tables (allocator_of self.new).now.tables
-            (ending (last_or_end (ids_of self.old))) (gained (ids_of self.old) (ids_of self.new))) }
-        ensures enough { 0 < missing_of self.old (length from.now) → OnOk result (IsTooFew
-            (allocator_of self.old).now.tables (missing_of self.old (length from.now)) → ⊥) }
-        ensures holds { IsTrue F.tells
-            → (validation : Validation) → HoldsTables validation (allocator_of self.old).now
-            → OnOk result (HoldsTables validation (allocator_of self.new).now) }
-        ensures places { IsTrue F.tells
-            → (validation : Validation) → HoldsTables validation (allocator_of self.old).now
-            → IfOk result (λ n. HasWritten n from.now self.old self.new) }
-        ensures content { IsTrue F.tells
-            → (validation : Validation) → HoldsTables validation (allocator_of self.old).now
-            → HasAllSectors self.old → IfOk result (λ n. 0 < n
-            → (n ≡ length from.now) ⊎ (missing_of self.old (length from.now) ≡ 0)
-            → HasBytes self.new (written (content_of self.old
-            ++ copies (missing_of self.old (length from.now)) (init_bytes
-            (version_of self.old) (init_of self.old))) (position_of self.old) (take n from.now))) }
-        ensures others { IsTrue F.tells → (i : ℕ) → (value (allocator_of self.old).now.tables.fat i
-            ≡ free_sector → ⊥) → (Contains ((allocator_of self.old).now.tables.fat_sectors
-            ++ (allocator_of self.old).now.tables.difat_sectors) i → ⊥)
-            → (HoldsWanted (length from.now) self.old i → ⊥) → SectorStays (version_of self.old) i
-            (allocator_of self.old).now.file.bytes (allocator_of self.new).now.file.bytes }
-        ensures foreign { IsTrue F.tells → OthersStayBut
-            (ids_of self.old) (allocator_of self.old).now (allocator_of self.new).now }
-        ensures spares { IsTrue F.tells
-            → Spares (ids_of self.old) (allocator_of self.old).now (allocator_of self.new).now }
-        ensures there { IsTrue F.tells → IfOk result (λ n. 0 < n → part
-            (allocator_of self.new).now.file.bytes (place_along
-            (version_of self.old) (ids_of self.new) (position_of self.old)) (min n (left_of
-            self.old)) ≡ take (min n (left_of self.old)) from.now) }
-        ensures run { IsTrue F.tells
-            → (validation : Validation) → HoldsTables validation (allocator_of self.old).now
-            → IfOk result (λ n. IsRun
-            (version_of self.old) (ids_of self.new) (position_of self.old) n → part
-            (allocator_of self.new).now.file.bytes (place_along
-            (version_of self.old) (ids_of self.new) (position_of self.old)) n ≡ take n from.now) }
-        ensures begun { 0 < length from.now
-            → OnOk result ((allocator_of self.new).now.file.begun ≡ true) }
-        ensures broken { IfErr result (AfterMedium (((allocator_of self.new).now.file.begun ≡ true)
-            × HasGained (missing_of self.old (length from.now)) self.old self.new)
-            (IsAsBefore self.old self.new)) }
-        ensures err { IfErr result (ChangeRefused (IsUsable (allocator_of self.old).now.tables → ⊥)
-            (IsTooFew (allocator_of self.old).now.tables (missing_of self.old (length from.now))
-            → ⊥) (IsTooFew
-            (allocator_of self.old).now.tables (missing_of self.old (length from.now))) Unit) }
-        ensures needed { missing_of self.old (length from.now) ≡ 0 → IfErr result IsMediumError }
-        ensures ordered { IsTrue F.tells
-            → (validation : Validation) → HoldsTables validation (allocator_of self.old).now
-            → IfErr result (λ _. AreFilledFrom (version_of self.old) (init_of self.old)
-            (drop (left_of self.old) from.now) (allocator_of self.new).now.file.bytes
-            (gained (ids_of self.old) (ids_of self.new))
-            ⊎ KeepsSectors (version_of self.old) (allocator_of self.old).now.tables.fat_sectors
-            (allocator_of self.old).now.file.bytes (allocator_of self.new).now.file.bytes) }
-        ensures counts { IsTrue F.tells → CountsFailure F.write_faults result
-            (allocator_of self.old).now.file.failures (allocator_of self.new).now.file.failures }
+        ensures same { SameAllocator self.old self.new }
+        ensures written { WritesOn from.now self.old self.new result }
+        ensures takes { TakesMissing from.now self.old self.new result }
+        ensures holds { HoldsWritten F.tells from.now self.old self.new result }
+        ensures spares { WriteSpares F.tells F.write_faults from.now self.old self.new result }
+        ensures refused { WriteRefused from.now self.old self.new result }
     {
         let missing = self.missing(from.len());
         if missing == 0 {
@@ -493,85 +318,12 @@ impl<'a, F: Medium, A: Heap + Clone> Chain<'a, F, A> {
     /// `InvalidData`, `Full` and `Memory` as in `write`: nothing has changed then; a shorter length asks for no memory. `Medium` where
     /// the medium fails: then it has its new sectors in memory.
     pub fn set_len(&mut self, len: u64) -> Result<(), Error>
-        ensures same_allocator { (allocator_of self.new).ghost_name
-            ≡ (allocator_of self.old).ghost_name }
-        ensures init { init_of self.new ≡ init_of self.old }
-        ensures version { version_of self.new ≡ version_of self.old }
-        ensures count { OnOk result (length (ids_of self.new) ≡ wanted_of self.old len) }
-        ensures none { len ≡ len_of self.old → OnErr result ⊥ × IsAsBefore self.old self.new }
-        ensures position { OnOk result (position_of self.new
-            ≡ min (position_of self.old) (len_of self.new)) }
-        ensures grown { length (ids_of self.old) < wanted_of self.old len
-            → OnOk result (ids_of self.new
-            ≡ ids_of self.old ++ gained (ids_of self.old) (ids_of self.new)) }
-        ensures taken { length (ids_of self.old) < wanted_of self.old len → OnOk result
-            (HasTaken (allocator_of self.old).now.tables (allocator_of self.new).now.tables
-            (ending (last_or_end (ids_of self.old))) (gained (ids_of self.old) (ids_of self.new))) }
-        ensures enough { length (ids_of self.old) < wanted_of self.old len
-            → OnOk result (IsTooFew (allocator_of self.old).now.tables (wanted_of self.old len
-            - length (ids_of self.old)) → ⊥) }
-        ensures filled { IsTrue F.tells
-            → (validation : Validation) → HoldsTables validation (allocator_of self.old).now
-            → length (ids_of self.old) < wanted_of self.old len → OnOk result ((i : ℕ)
-            → Contains (gained (ids_of self.old) (ids_of self.new)) i → IsAsFilled
-            (version_of self.new) (init_of self.old) (allocator_of self.new).now.file.bytes i) }
-        ensures cut { wanted_of self.old len ≤ length (ids_of self.old)
-            → OnOk result (ids_of self.new ≡ take (wanted_of self.old len) (ids_of self.old)) }
-        ensures freed { wanted_of self.old len < length (ids_of self.old) → OnOk result
-            (TablesGiveBack (ends_of (take (wanted_of self.old len) (ids_of self.old)))
-            (drop (wanted_of self.old len) (ids_of self.old))
-            (allocator_of self.old).now.tables (allocator_of self.new).now.tables) }
-        ensures zeroed { IsTrue F.tells → wanted_of self.old len ≤ length (ids_of self.old)
-            → 0 < len % sector_len (version_of self.old) → OnOk result
-            (part (allocator_of self.new).now.file.bytes (sector_start (version_of self.old)
-            (slice_index (ids_of self.new) (len / sector_len (version_of self.old)))
-            + len % sector_len (version_of self.old)) (sector_len (version_of self.old)
-            - len % sector_len (version_of self.old)) ≡ replicate (sector_len (version_of self.old)
-            - len % sector_len (version_of self.old)) 0) }
-        ensures tables { wanted_of self.old len ≡ length (ids_of self.old)
-            → (allocator_of self.new).now.tables ≡ (allocator_of self.old).now.tables }
-        ensures holds { IsTrue F.tells → (validation : Validation)
-            → HoldsTables validation (allocator_of self.old).now → (len ≡ 0
-            → IsUnnamed (allocator_of self.old).now.tables.fat (start_sector_of self.old))
-            → OnOk result (HoldsTables validation (allocator_of self.new).now) }
-        ensures places { IsTrue F.tells
-            → (validation : Validation) → HoldsTables validation (allocator_of self.old).now
-            → OnOk result (HasResized len self.old self.new) }
-        ensures longer { IsTrue F.tells
-            → (validation : Validation) → HoldsTables validation (allocator_of self.old).now
-            → HasAllSectors self.old → length (ids_of self.old) < wanted_of self.old len
-            → OnOk result (HasBytes self.new (content_of self.old ++ copies (wanted_of self.old len
-            - length (ids_of self.old)) (init_bytes (version_of self.old) (init_of self.old)))) }
-        ensures shorter { IsTrue F.tells
-            → (validation : Validation) → HoldsTables validation (allocator_of self.old).now
-            → HasAllSectors self.old → wanted_of self.old len ≤ length (ids_of self.old)
-            → OnOk result (HasBytes self.new (take len (content_of self.old)
-            ++ replicate (wanted_of self.old len * sector_len (version_of self.old) - len) 0)) }
-        ensures others { IsTrue F.tells → (i : ℕ) → (value (allocator_of self.old).now.tables.fat i
-            ≡ free_sector → ⊥) → (Contains ((allocator_of self.old).now.tables.fat_sectors
-            ++ (allocator_of self.old).now.tables.difat_sectors) i → ⊥)
-            → i ≢ slice_index (ids_of self.new) (len / sector_len (version_of self.old))
-            → SectorStays (version_of self.old) i
-            (allocator_of self.old).now.file.bytes (allocator_of self.new).now.file.bytes }
-        ensures foreign { IsTrue F.tells → OthersStayBut
-            (ids_of self.old) (allocator_of self.old).now (allocator_of self.new).now }
-        ensures spares { IsTrue F.tells
-            → Spares (ids_of self.old) (allocator_of self.old).now (allocator_of self.new).now }
-        ensures broken { IfErr result (AfterMedium (((allocator_of self.new).now.file.begun ≡ true)
-            × HasTurned (wanted_of self.old len) self.old self.new)
-            (IsAsBefore self.old self.new)) }
-        ensures err { IfErr result (ChangeRefused (IsUsable (allocator_of self.old).now.tables
-            → ⊥) ((length (ids_of self.old) < wanted_of self.old len)
-            × (IsTooFew (allocator_of self.old).now.tables (wanted_of self.old len
-            - length (ids_of self.old))
-            → ⊥)) (IsTooFew (allocator_of self.old).now.tables (wanted_of self.old len
-            - length (ids_of self.old))) Unit) }
-        ensures needed { wanted_of self.old len ≡ length (ids_of self.old)
-            → IfErr result IsMediumError }
-        ensures begun { OnOk result (IsRaised (wanted_of self.old len ≢ length (ids_of self.old))
-            (allocator_of self.old).now.file (allocator_of self.new).now.file) }
-        ensures counts { IsTrue F.tells → CountsFailure F.write_faults result
-            (allocator_of self.old).now.file.failures (allocator_of self.new).now.file.failures }
+        ensures same { SameAllocator self.old self.new }
+        ensures sized { HasLen len self.old self.new result }
+        ensures takes { TurnsTables len self.old self.new result }
+        ensures holds { HoldsResized F.tells len self.old self.new result }
+        ensures spares { ResizeSpares F.tells F.write_faults len self.old self.new result }
+        ensures refused { ResizeRefused len self.old self.new result }
     {
         let sectors = len.div_ceil(self.allocator.sector_len() as u64) as usize;
         let have = self.num_sectors();
@@ -585,42 +337,22 @@ impl<'a, F: Medium, A: Heap + Clone> Chain<'a, F, A> {
     /// Adds so many sectors at its end: all of them or none. After `Medium` it has them in memory, and after any other error nothing has
     /// changed.
     fn grow(&mut self, count: usize) -> Result<(), Error>
-        ensures same_allocator { (allocator_of self.new).ghost_name
-            ≡ (allocator_of self.old).ghost_name }
-        ensures init { init_of self.new ≡ init_of self.old }
-        ensures version { version_of self.new ≡ version_of self.old }
-        ensures ids { OnOk result (ids_of self.new
-            ≡ ids_of self.old ++ gained (ids_of self.old) (ids_of self.new)) }
-        ensures count { OnOk result (length (gained (ids_of self.old) (ids_of self.new)) ≡ count) }
+        ensures same { SameAllocator self.old self.new }
+        ensures grows { ListGrows count (allocator_of self.old).now (allocator_of self.new).now
+            (ids_of self.old) (ids_of self.new) result }
         ensures position { position_of self.new ≡ position_of self.old }
-        ensures taken { OnOk result
-            (HasTaken (allocator_of self.old).now.tables (allocator_of self.new).now.tables
-            (ending (last_or_end (ids_of self.old))) (gained (ids_of self.old) (ids_of self.new))) }
         ensures filled { IsTrue F.tells → (validation : Validation)
             → HoldsTables validation (allocator_of self.old).now → OnOk result ((i : ℕ)
             → Contains (gained (ids_of self.old) (ids_of self.new)) i → IsAsFilled
             (version_of self.new) (init_of self.old) (allocator_of self.new).now.file.bytes i) }
-        ensures holds { IsTrue F.tells
-            → (validation : Validation) → HoldsTables validation (allocator_of self.old).now
-            → OnOk result (HoldsTables validation (allocator_of self.new).now) }
+        ensures takes { TakesSectors F.tells F.write_faults count (allocator_of self.old).now
+            (allocator_of self.new).now result }
         ensures content { IsTrue F.tells
             → (validation : Validation) → HoldsTables validation (allocator_of self.old).now
             → HasAllSectors self.old → OnOk result (HasBytes self.new (content_of self.old
             ++ copies count (init_bytes (version_of self.old) (init_of self.old)))) }
-        ensures others { IsTrue F.tells
-            → OthersStay (allocator_of self.old).now (allocator_of self.new).now }
-        ensures enough { OnOk result (IsTooFew (allocator_of self.old).now.tables count → ⊥) }
-        ensures refused { IfErr result (ListBreaksOff (Lengthens count) (ids_of self.old)
-            (ids_of self.new) (allocator_of self.old).now (allocator_of self.new).now) }
-        ensures spares { IsTrue F.tells
-            → Spares (ids_of self.old) (allocator_of self.old).now (allocator_of self.new).now }
-        ensures err { IfErr result (ChangeRefused (IsUsable (allocator_of self.old).now.tables
-            → ⊥) (IsTooFew (allocator_of self.old).now.tables count
-            → ⊥) (IsTooFew (allocator_of self.old).now.tables count) Unit) }
-        ensures begun { OnOk result (IsRaised (0
-            < count) (allocator_of self.old).now.file (allocator_of self.new).now.file) }
-        ensures counts { IsTrue F.tells → CountsFailure F.write_faults result
-            (allocator_of self.old).now.file.failures (allocator_of self.new).now.file.failures }
+        ensures refused { GrowingRefused F.tells count (allocator_of self.old).now
+            (allocator_of self.new).now (ids_of self.old) (ids_of self.new) result }
     {
         self.grow_from(count, &[])
     }
@@ -630,44 +362,16 @@ impl<'a, F: Medium, A: Heap + Clone> Chain<'a, F, A> {
     /// changed.
     fn grow_from(&mut self, count: usize, from: &[u8]) -> Result<(), Error>
         requires fits { length from.now ≤ count * sector_len (version_of self.old) }
-        ensures same_allocator { (allocator_of self.new).ghost_name
-            ≡ (allocator_of self.old).ghost_name }
-        ensures init { init_of self.new ≡ init_of self.old }
-        ensures version { version_of self.new ≡ version_of self.old }
-        ensures ids { OnOk result (ids_of self.new
-            ≡ ids_of self.old ++ gained (ids_of self.old) (ids_of self.new)) }
-        ensures count { OnOk result (length (gained (ids_of self.old) (ids_of self.new)) ≡ count) }
+        ensures same { SameAllocator self.old self.new }
+        ensures grows { ListGrows count (allocator_of self.old).now (allocator_of self.new).now
+            (ids_of self.old) (ids_of self.new) result }
         ensures position { position_of self.new ≡ position_of self.old }
-        ensures taken { OnOk result
-            (HasTaken (allocator_of self.old).now.tables (allocator_of self.new).now.tables
-            (ending (last_or_end (ids_of self.old))) (gained (ids_of self.old) (ids_of self.new))) }
-        ensures put { IsTrue F.tells
-            → (validation : Validation) → HoldsTables validation (allocator_of self.old).now
-            → OnOk result (AreFilledFrom (version_of self.new) (init_of self.old) from.now
-            (allocator_of self.new).now.file.bytes (gained (ids_of self.old) (ids_of self.new))) }
-        ensures ordered { IsTrue F.tells
-            → (validation : Validation) → HoldsTables validation (allocator_of self.old).now
-            → IfErr result (λ _. AreFilledFrom (version_of self.new) (init_of self.old) from.now
-            (allocator_of self.new).now.file.bytes (gained (ids_of self.old) (ids_of self.new))
-            ⊎ KeepsSectors (version_of self.old) (allocator_of self.old).now.tables.fat_sectors
-            (allocator_of self.old).now.file.bytes (allocator_of self.new).now.file.bytes) }
-        ensures holds { IsTrue F.tells
-            → (validation : Validation) → HoldsTables validation (allocator_of self.old).now
-            → OnOk result (HoldsTables validation (allocator_of self.new).now) }
-        ensures others { IsTrue F.tells
-            → OthersStay (allocator_of self.old).now (allocator_of self.new).now }
-        ensures enough { OnOk result (IsTooFew (allocator_of self.old).now.tables count → ⊥) }
-        ensures refused { IfErr result (ListBreaksOff (Lengthens count) (ids_of self.old)
-            (ids_of self.new) (allocator_of self.old).now (allocator_of self.new).now) }
-        ensures spares { IsTrue F.tells
-            → Spares (ids_of self.old) (allocator_of self.old).now (allocator_of self.new).now }
-        ensures err { IfErr result (ChangeRefused (IsUsable (allocator_of self.old).now.tables
-            → ⊥) (IsTooFew (allocator_of self.old).now.tables count
-            → ⊥) (IsTooFew (allocator_of self.old).now.tables count) Unit) }
-        ensures begun { OnOk result (IsRaised (0
-            < count) (allocator_of self.old).now.file (allocator_of self.new).now.file) }
-        ensures counts { IsTrue F.tells → CountsFailure F.write_faults result
-            (allocator_of self.old).now.file.failures (allocator_of self.new).now.file.failures }
+        ensures fills { FillsGained F.tells (init_of self.old) (allocator_of self.old).now
+            (allocator_of self.new).now (ids_of self.old) (ids_of self.new) from.now result }
+        ensures takes { TakesSectors F.tells F.write_faults count (allocator_of self.old).now
+            (allocator_of self.new).now result }
+        ensures refused { GrowingRefused F.tells count (allocator_of self.old).now
+            (allocator_of self.new).now (ids_of self.old) (ids_of self.new) result }
     {
         extend_list(
             self.allocator,
@@ -682,39 +386,22 @@ impl<'a, F: Medium, A: Heap + Clone> Chain<'a, F, A> {
     /// Keeps so many of its sectors and frees those behind them, and goes to its end where the position was past it. After `Medium`
     /// it is cut in memory, and after any other error nothing has changed.
     fn cut(&mut self, count: usize) -> Result<(), Error>
-        ensures same_allocator { (allocator_of self.new).ghost_name
-            ≡ (allocator_of self.old).ghost_name }
-        ensures init { init_of self.new ≡ init_of self.old }
-        ensures version { version_of self.new ≡ version_of self.old }
-        ensures ids { OnOk result (ids_of self.new ≡ take count (ids_of self.old)) }
+        ensures same { SameAllocator self.old self.new }
+        ensures shorter { CutsTheList F.tells F.write_faults count (allocator_of self.old).now
+            (allocator_of self.new).now (ids_of self.old) (ids_of self.new)
+            (start_sector_of self.old) result }
         ensures position { position_of self.new ≡ min (position_of self.old) (len_of self.new) }
         ensures none { length (ids_of self.old) ≤ count
             → OnErr result ⊥ × IsAsBefore self.old self.new }
         ensures cut { count < length (ids_of self.old) → OnOk result
             (TablesGiveBack (ends_of (take count (ids_of self.old))) (drop count (ids_of self.old))
             (allocator_of self.old).now.tables (allocator_of self.new).now.tables) }
-        ensures holds { IsTrue F.tells → (validation : Validation)
-            → HoldsTables validation (allocator_of self.old).now → (count ≡ 0
-            → IsUnnamed (allocator_of self.old).now.tables.fat (start_sector_of self.old))
-            → OnOk result (HoldsTables validation (allocator_of self.new).now) }
         ensures content { IsTrue F.tells
             → (validation : Validation) → HoldsTables validation (allocator_of self.old).now
             → HasAllSectors self.old → OnOk result (HasBytes self.new (take (count
             * sector_len (version_of self.old)) (content_of self.old))) }
-        ensures changes { IsTrue F.tells
-            → ChangesSectors (allocator_of self.old).now.tables.fat_sectors
-            (allocator_of self.old).now.tables.version
-            (allocator_of self.old).now.file.bytes (allocator_of self.new).now.file.bytes }
-        ensures refused { IfErr result (ListBreaksOff (Shortens count) (ids_of self.old)
-            (ids_of self.new) (allocator_of self.old).now (allocator_of self.new).now) }
-        ensures spares { IsTrue F.tells
-            → Spares (ids_of self.old) (allocator_of self.old).now (allocator_of self.new).now }
-        ensures err { IfErr result (ChangeRefused (IsUsable (allocator_of self.old).now.tables
-            → ⊥) ⊥ ⊥ Unit) }
         ensures begun { OnOk result (IsRaised (count < length (ids_of self.old))
             (allocator_of self.old).now.file (allocator_of self.new).now.file) }
-        ensures counts { IsTrue F.tells → CountsFailure F.write_faults result
-            (allocator_of self.old).now.file.failures (allocator_of self.new).now.file.failures }
     {
         if count >= self.ids.len() {
             return Ok(());
@@ -746,39 +433,17 @@ fn extend_list<F: Medium, A: Heap + Clone>(
 ) -> Result<(), Error>
     requires chained { chain_from allocator.old.tables.fat start.old ≡ Some ids.old.items }
     requires fits { length from.now ≤ count * sector_len allocator.old.tables.version }
-    ensures chained { chain_from allocator.new.tables.fat start.new ≡ Some ids.new.items }
-    ensures few { length ids.new.items ≤ max_regular_sector + 1 }
-    ensures longer { length ids.old.items ≤ length ids.new.items }
-    ensures version { allocator.new.tables.version ≡ allocator.old.tables.version }
-    ensures lengthened { OnOk result
-        (Lengthens count ids.old.items ids.new.items allocator.old.tables allocator.new.tables) }
-    ensures ids { OnOk result (ids.new.items
-        ≡ ids.old.items ++ gained ids.old.items ids.new.items) }
-    ensures count { OnOk result (length (gained ids.old.items ids.new.items) ≡ count) }
-    ensures taken { OnOk result (HasTaken allocator.old.tables allocator.new.tables
-        (ending (last_or_end ids.old.items)) (gained ids.old.items ids.new.items)) }
-    ensures put { IsTrue F.tells → (validation : Validation) → HoldsTables validation allocator.old
-        → OnOk result (AreFilledFrom allocator.new.tables.version
-        init from.now allocator.new.file.bytes (gained ids.old.items ids.new.items)) }
-    ensures ordered { IsTrue F.tells
-        → (validation : Validation) → HoldsTables validation allocator.old
-        → IfErr result (λ _. AreFilledFrom allocator.new.tables.version
-        init from.now allocator.new.file.bytes (gained ids.old.items ids.new.items)
-        ⊎ KeepsSectors allocator.old.tables.version
-        allocator.old.tables.fat_sectors allocator.old.file.bytes allocator.new.file.bytes) }
-    ensures holds { IsTrue F.tells
-        → (validation : Validation) → HoldsTables validation allocator.old
-        → OnOk result (HoldsTables validation allocator.new) }
-    ensures others { IsTrue F.tells → OthersStay allocator.old allocator.new }
-    ensures spares { IsTrue F.tells → Spares ids.old.items allocator.old allocator.new }
-    ensures enough { OnOk result (IsTooFew allocator.old.tables count → ⊥) }
-    ensures refused { IfErr result
-        (ListBreaksOff (Lengthens count) ids.old.items ids.new.items allocator.old allocator.new) }
-    ensures err { IfErr result (ChangeRefused (IsUsable allocator.old.tables
-        → ⊥) (IsTooFew allocator.old.tables count → ⊥) (IsTooFew allocator.old.tables count) Unit) }
-    ensures begun { OnOk result (IsRaised (0 < count) allocator.old.file allocator.new.file) }
-    ensures counts { IsTrue F.tells → CountsFailure
-        F.write_faults result allocator.old.file.failures allocator.new.file.failures }
+        ensures listed { StaysListed ids.new.items start.new allocator.old allocator.new }
+        ensures longer { LongerList count allocator.old allocator.new ids.old.items ids.new.items
+            result }
+        ensures grows { ListGrows count allocator.old allocator.new ids.old.items ids.new.items
+            result }
+        ensures fills { FillsGained F.tells init allocator.old allocator.new ids.old.items
+            ids.new.items from.now result }
+        ensures takes { TakesSectors F.tells F.write_faults count allocator.old allocator.new result
+            }
+        ensures refused { GrowingRefused F.tells count allocator.old allocator.new ids.old.items
+            ids.new.items result }
 {
     let extended = allocator.extend_listed_from(ids, count, init, from);
     *start = first_number(ids);
@@ -794,25 +459,13 @@ fn shorten_list<F: Medium, A: Heap + Clone>(
 ) -> Result<(), Error>
     requires chained { chain_from allocator.old.tables.fat start.old ≡ Some ids.old.items }
     requires fewer { count < length ids.old.items }
-    ensures chained { chain_from allocator.new.tables.fat start.new ≡ Some ids.new.items }
+        ensures listed { StaysListed ids.new.items start.new allocator.old allocator.new }
     ensures few { length ids.new.items ≤ max_regular_sector + 1 }
-    ensures version { allocator.new.tables.version ≡ allocator.old.tables.version }
-    ensures ids { OnOk result (ids.new.items ≡ take count ids.old.items) }
+        ensures shorter { CutsTheList F.tells F.write_faults count allocator.old allocator.new
+            ids.old.items ids.new.items start.old result }
     ensures cut { OnOk result (TablesGiveBack (ends_of (take count ids.old.items))
         (drop count ids.old.items) allocator.old.tables allocator.new.tables) }
-    ensures holds { IsTrue F.tells
-        → (validation : Validation) → HoldsTables validation allocator.old
-        → (count ≡ 0 → IsUnnamed allocator.old.tables.fat start.old)
-        → OnOk result (HoldsTables validation allocator.new) }
-    ensures changes { IsTrue F.tells → ChangesSectors allocator.old.tables.fat_sectors
-        allocator.old.tables.version allocator.old.file.bytes allocator.new.file.bytes }
-    ensures spares { IsTrue F.tells → Spares ids.old.items allocator.old allocator.new }
-    ensures refused { IfErr result
-        (ListBreaksOff (Shortens count) ids.old.items ids.new.items allocator.old allocator.new) }
-    ensures err { IfErr result (ChangeRefused (IsUsable allocator.old.tables → ⊥) ⊥ ⊥ Unit) }
     ensures begun { OnOk result (allocator.new.file.begun ≡ true) }
-    ensures counts { IsTrue F.tells → CountsFailure
-        F.write_faults result allocator.old.file.failures allocator.new.file.failures }
 {
     let cut = allocator.cut_listed(ids, count);
     *start = first_number(ids);

@@ -21,3 +21,6 @@ pub mod Uses
 pub mod Laws
 pub mod Parts
 pub mod Along
+pub mod Filling
+pub mod Growing
+pub mod Turning

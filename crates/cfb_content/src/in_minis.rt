@@ -1,5 +1,8 @@
 //! Contents that lie in mini sectors (MS-CFB 2.4), by the list of a mini chain's numbers.
 ghost use Rattle.std.specs.Prelude.{◌≡◌, ℕ, ◌+◌, ◌-◌, ◌/◌, ◌^◌, ◌<◌, ◌≤◌, List, length, drop, replicate, true, nat_eq, slice_index, IsTrue, IfOk, IfErr, OnOk, OnErr};
+ghost use Rattle.cfb_content.specs.Filling.{ReadsInMinis, PutsInMinis};
+ghost use Rattle.cfb_mini.specs.Changing.{WritesInMini};
+ghost use Rattle.cfb_mini.specs.Reading.{OnlyReadsMinis};
 ghost use Rattle.std.specs.List.{IsDistinct};
 ghost use Rattle.cfb_format.specs.declared.validate.Validation.{Validation};
 ghost use Rattle.cfb_format.specs.Content.{mini_sector_len};
@@ -97,18 +100,9 @@ fn read_in_minis<F: ReadMedium, A: Heap>(
 ) -> Result<usize, Error>
     requires some { 0 < length into.old }
     requires there { IsThereInMinis mini.old ids.now at }
-    ensures kept { IsStill mini.old mini.new }
-    ensures count { IfOk result (λ n. (0 < n) × (n ≤ length into.old)) }
-    ensures within { IfOk result (λ n. (j : ℕ) → j < n → IsThereInMinis mini.old ids.now (at + j)) }
-    ensures ok { IsTrue F.tells → IfOk result (λ n. (j : ℕ) → j < n → slice_index into.new j
-        ≡ slice_index (bytes_of mini.old) (mini_place_along mini.old ids.now (at + j))) }
-    ensures rest { IfOk result (λ n. drop n into.new ≡ drop n into.old) }
-    ensures len { length into.new ≡ length into.old }
+        ensures reads { OnlyReadsMinis F.tells F.read_faults mini.old mini.new result }
+        ensures part { ReadsInMinis F.tells at mini.old ids.now into.old into.new result }
     ensures err { IfErr result IsMediumError }
-    ensures same { IsTrue F.tells → OnOk result (mini.new ≡ mini.old) }
-    ensures bytes { IsTrue F.tells → bytes_of mini.new ≡ bytes_of mini.old }
-    ensures counts { IsTrue F.tells → CountsFailure F.read_faults result
-        (table_of mini.old).file.failures (table_of mini.new).file.failures }
 {
     let index = (at / MINI_SECTOR_LEN as u64) as usize;
     let offset = (at % MINI_SECTOR_LEN as u64) as usize;
@@ -126,16 +120,12 @@ pub fn fill_from_minis<F: ReadMedium, A: Heap>(
 ) -> Result<(), Error>
     requires bounded { at + length into.old < 2 ^ 64 }
     requires there { (k : ℕ) → k < length into.old → IsThereInMinis mini.old ids.now (at + k) }
-    ensures kept { IsStill mini.old mini.new }
+        ensures reads { OnlyReadsMinis F.tells F.read_faults mini.old mini.new result }
     ensures got { IsTrue F.tells
         → OnOk result ((k : ℕ) → k < length into.new → slice_index into.new k
         ≡ slice_index (bytes_of mini.old) (mini_place_along mini.old ids.now (at + k))) }
     ensures len { length into.new ≡ length into.old }
     ensures err { IfErr result IsMediumError }
-    ensures same { IsTrue F.tells → OnOk result (mini.new ≡ mini.old) }
-    ensures bytes { IsTrue F.tells → bytes_of mini.new ≡ bytes_of mini.old }
-    ensures counts { IsTrue F.tells → CountsFailure F.read_faults result
-        (table_of mini.old).file.failures (table_of mini.new).file.failures }
 {
     let mut done = 0;
     while done < into.len() {
@@ -152,16 +142,12 @@ pub fn get_from_minis<F: ReadMedium, A: Heap>(
     into: &mut [u8],
 ) -> Result<(), Error>
     requires there { (k : ℕ) → k < length into.old → IsThereInMinis mini.old ids.now k }
-    ensures kept { IsStill mini.old mini.new }
+        ensures reads { OnlyReadsMinis F.tells F.read_faults mini.old mini.new result }
     ensures got { IsTrue F.tells
         → OnOk result ((k : ℕ) → k < length into.new → slice_index into.new k
         ≡ slice_index (bytes_of mini.old) (mini_place_along mini.old ids.now k)) }
     ensures len { length into.new ≡ length into.old }
     ensures err { IfErr result IsMediumError }
-    ensures same { IsTrue F.tells → OnOk result (mini.new ≡ mini.old) }
-    ensures bytes { IsTrue F.tells → bytes_of mini.new ≡ bytes_of mini.old }
-    ensures counts { IsTrue F.tells → CountsFailure F.read_faults result
-        (table_of mini.old).file.failures (table_of mini.new).file.failures }
 {
     fill_from_minis(mini, ids, 0, into)
 }
@@ -176,24 +162,12 @@ pub fn put_in_minis<F: Medium, A: Heap>(
 ) -> Result<(), Error>
     requires placed { (k : ℕ) → k < length bytes.now → ((at + k) / mini_sector_len < length ids.now)
         × HasMiniSector mini.old (slice_index ids.now ((at + k) / mini_sector_len)) }
-    ensures kept { ChangesFileOnly mini.old mini.new }
+        ensures writes { WritesInMini F.tells mini.old mini.new result }
     ensures none { length bytes.now ≡ 0 → OnErr result ⊥ × (mini.new ≡ mini.old) }
-    ensures put { IsTrue F.tells → (validation : Validation) → HoldsMini validation mini.old
-        → IsDistinct nat_eq ids.now → OnOk result
-        (StandAlong (mini_place_along mini.old ids.now) at bytes.now (bytes_of mini.new)) }
-    ensures others { IsTrue F.tells
-        → ChangesOnlyPlaces (mini_place_along mini.old ids.now) at (length bytes.now)
-        (bytes_of mini.old) (bytes_of mini.new) }
-    ensures spares { IsTrue F.tells
-        → Spares (mini_stream_of mini.old) (table_of mini.old) (table_of mini.new) }
-    ensures mini_spares { IsTrue F.tells → (validation : Validation) → HoldsMini validation mini.old
-        → SparesMini ids.now mini.old mini.new }
-    ensures holds { IsTrue F.tells → (validation : Validation) → HoldsMini validation mini.old
-        → OnOk result (HoldsMini validation mini.new) }
+        ensures along { PutsInMinis F.tells F.write_faults at mini.old mini.new ids.now
+            (length bytes.now) bytes.now result }
     ensures begun { 0 < length bytes.now → (table_of mini.new).file.begun ≡ true }
     ensures err { IfErr result IsMediumError }
-    ensures counts { IsTrue F.tells → CountsFailure F.write_faults result
-        (table_of mini.old).file.failures (table_of mini.new).file.failures }
 {
     let mut index = (at / MINI_SECTOR_LEN as u64) as usize;
     let mut offset = (at % MINI_SECTOR_LEN as u64) as usize;
@@ -217,25 +191,12 @@ pub fn zero_in_minis<F: Medium, A: Heap>(
 ) -> Result<(), Error>
     requires placed { (k : ℕ) → from ≤ k → k < to → (k / mini_sector_len < length ids.now)
         × HasMiniSector mini.old (slice_index ids.now (k / mini_sector_len)) }
-    ensures kept { ChangesFileOnly mini.old mini.new }
+        ensures writes { WritesInMini F.tells mini.old mini.new result }
     ensures none { to ≤ from → OnErr result ⊥ × (mini.new ≡ mini.old) }
-    ensures put { IsTrue F.tells → (validation : Validation) → HoldsMini validation mini.old
-        → IsDistinct nat_eq ids.now
-        → OnOk result (StandAlong (mini_place_along mini.old ids.now) from
-        (replicate (to - from) 0) (bytes_of mini.new)) }
-    ensures others { IsTrue F.tells
-        → ChangesOnlyPlaces (mini_place_along mini.old ids.now) from (to - from)
-        (bytes_of mini.old) (bytes_of mini.new) }
-    ensures spares { IsTrue F.tells
-        → Spares (mini_stream_of mini.old) (table_of mini.old) (table_of mini.new) }
-    ensures mini_spares { IsTrue F.tells → (validation : Validation) → HoldsMini validation mini.old
-        → SparesMini ids.now mini.old mini.new }
-    ensures holds { IsTrue F.tells → (validation : Validation) → HoldsMini validation mini.old
-        → OnOk result (HoldsMini validation mini.new) }
+        ensures along { PutsInMinis F.tells F.write_faults from mini.old mini.new ids.now
+            (to - from) (replicate (to - from) 0) result }
     ensures begun { from < to → (table_of mini.new).file.begun ≡ true }
     ensures err { IfErr result IsMediumError }
-    ensures counts { IsTrue F.tells → CountsFailure F.write_faults result
-        (table_of mini.old).file.failures (table_of mini.new).file.failures }
 {
     let mut at = from;
     while at < to {

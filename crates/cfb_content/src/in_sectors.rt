@@ -1,5 +1,8 @@
 //! Contents that lie in sectors (MS-CFB 2.3), by the list of a chain's sectors.
 ghost use Rattle.std.specs.Prelude.{◌≡◌, ℕ, ◌+◌, ◌-◌, ◌*◌, ◌/◌, ◌^◌, ◌<◌, ◌≤◌, ◌⊎◌, List, length, max, min, take, drop, replicate, false, true, nat_eq, slice_index, IsTrue, IfOk, IfErr, OnOk, OnErr};
+ghost use Rattle.cfb_content.specs.Growing.{CanGrowWith, ListGrows, HoldsWhole, SparesAlong, GrowingRefused, GrowsWith};
+ghost use Rattle.cfb_content.specs.Filling.{WritesInSectors, PutsInSectors};
+ghost use Rattle.cfb_content.specs.cfb_alloc.Reading.{OnlyReadsFile};
 ghost use Rattle.std.specs.List.{IsDistinct};
 ghost use Rattle.cfb_format.specs.declared.validate.Validation.{Validation};
 ghost use Rattle.cfb_format.specs.Bytes.{max_regular_sector, sector_len, sector_start};
@@ -132,20 +135,12 @@ pub fn fill_from_sectors<F: ReadMedium, A: Heap>(
     requires bounded { at + length into.old < 2 ^ 64 }
     requires there { (k : ℕ) → k < length into.old
         → IsThereInSectors allocator.old.tables.version ids.now allocator.old.file.len (at + k) }
-    ensures tables { allocator.new.tables ≡ allocator.old.tables }
-    ensures kept { allocator.new.file ≡ record allocator.old.file {
-      bytes = allocator.new.file.bytes;
-      failures = allocator.new.file.failures;
-    } }
+        ensures reads { OnlyReadsFile F.tells F.read_faults allocator.old allocator.new result }
     ensures got { IsTrue F.tells → OnOk result ((k : ℕ) → k < length into.new
         → slice_index into.new k ≡ slice_index allocator.old.file.bytes
         (place_along allocator.old.tables.version ids.now (at + k))) }
     ensures len { length into.new ≡ length into.old }
     ensures err { IfErr result IsMediumError }
-    ensures same { IsTrue F.tells → OnOk result (allocator.new ≡ allocator.old) }
-    ensures bytes { IsTrue F.tells → allocator.new.file.bytes ≡ allocator.old.file.bytes }
-    ensures counts { IsTrue F.tells → CountsFailure F.read_faults result
-        allocator.old.file.failures allocator.new.file.failures }
 {
     read_along(allocator, ids, at, into)
 }
@@ -158,20 +153,12 @@ pub fn get_from_sectors<F: ReadMedium, A: Heap>(
 ) -> Result<(), Error>
     requires there { (k : ℕ) → k < length into.old
         → IsThereInSectors allocator.old.tables.version ids.now allocator.old.file.len k }
-    ensures tables { allocator.new.tables ≡ allocator.old.tables }
-    ensures kept { allocator.new.file ≡ record allocator.old.file {
-      bytes = allocator.new.file.bytes;
-      failures = allocator.new.file.failures;
-    } }
+        ensures reads { OnlyReadsFile F.tells F.read_faults allocator.old allocator.new result }
     ensures got { IsTrue F.tells → OnOk result ((k : ℕ) → k < length into.new
         → slice_index into.new k ≡ slice_index allocator.old.file.bytes
         (place_along allocator.old.tables.version ids.now k)) }
     ensures len { length into.new ≡ length into.old }
     ensures err { IfErr result IsMediumError }
-    ensures same { IsTrue F.tells → OnOk result (allocator.new ≡ allocator.old) }
-    ensures bytes { IsTrue F.tells → allocator.new.file.bytes ≡ allocator.old.file.bytes }
-    ensures counts { IsTrue F.tells → CountsFailure F.read_faults result
-        allocator.old.file.failures allocator.new.file.failures }
 {
     fill_from_sectors(allocator, ids, 0, into)
 }
@@ -187,29 +174,12 @@ pub fn put_in_sectors<F: Medium, A: Heap>(
         → ((at + k) / sector_len allocator.old.tables.version < length ids.now)
         × (slice_index ids.now ((at + k) / sector_len allocator.old.tables.version)
         < length allocator.old.tables.fat) }
-    ensures tables { allocator.new.tables ≡ allocator.old.tables }
-    ensures kept { allocator.new.file ≡ record allocator.old.file {
-      len = allocator.new.file.len;
-      bytes = allocator.new.file.bytes;
-      failures = allocator.new.file.failures;
-      begun = allocator.new.file.begun;
-    } }
+        ensures writes { WritesInSectors F.tells F.write_faults allocator.old allocator.new ids.now
+            result }
     ensures none { length bytes.now ≡ 0 → OnErr result ⊥ × (allocator.new ≡ allocator.old) }
-    ensures put { IsTrue F.tells → IsDistinct nat_eq ids.now
-        → OnOk result (StandAlong (place_along allocator.old.tables.version ids.now) at
-        bytes.now allocator.new.file.bytes) }
-    ensures others { IsTrue F.tells
-        → ChangesOnlyPlaces (place_along allocator.old.tables.version ids.now) at (length bytes.now)
-        allocator.old.file.bytes allocator.new.file.bytes }
-    ensures spares { IsTrue F.tells → Spares ids.now allocator.old allocator.new }
-    ensures holds { IsTrue F.tells
-        → (validation : Validation) → HoldsTables validation allocator.old
-        → AreDisjoint ids.now (table_sectors allocator.old.tables)
-        → OnOk result (HoldsTables validation allocator.new) }
+        ensures along { PutsInSectors F.tells at allocator.old allocator.new ids.now
+            (place_along allocator.old.tables.version ids.now) (length bytes.now) bytes.now result }
     ensures begun { 0 < length bytes.now → allocator.new.file.begun ≡ true }
-    ensures err { IfErr result IsMediumError }
-    ensures counts { IsTrue F.tells → CountsFailure F.write_faults result
-        allocator.old.file.failures allocator.new.file.failures }
 {
     write_along(allocator, ids, at, bytes)
 }
@@ -225,29 +195,13 @@ pub fn zero_in_sectors<F: Medium, A: Heap>(
         → (k / sector_len allocator.old.tables.version < length ids.now)
         × (slice_index ids.now (k / sector_len allocator.old.tables.version)
         < length allocator.old.tables.fat) }
-    ensures tables { allocator.new.tables ≡ allocator.old.tables }
-    ensures kept { allocator.new.file ≡ record allocator.old.file {
-      len = allocator.new.file.len;
-      bytes = allocator.new.file.bytes;
-      failures = allocator.new.file.failures;
-      begun = allocator.new.file.begun;
-    } }
+        ensures writes { WritesInSectors F.tells F.write_faults allocator.old allocator.new ids.now
+            result }
     ensures none { to ≤ from → OnErr result ⊥ × (allocator.new ≡ allocator.old) }
-    ensures put { IsTrue F.tells → IsDistinct nat_eq ids.now
-        → OnOk result (StandAlong (place_along allocator.old.tables.version ids.now) from
-        (replicate (to - from) 0) allocator.new.file.bytes) }
-    ensures others { IsTrue F.tells
-        → ChangesOnlyPlaces (place_along allocator.old.tables.version ids.now) from
-        (to - from) allocator.old.file.bytes allocator.new.file.bytes }
-    ensures spares { IsTrue F.tells → Spares ids.now allocator.old allocator.new }
-    ensures holds { IsTrue F.tells
-        → (validation : Validation) → HoldsTables validation allocator.old
-        → AreDisjoint ids.now (table_sectors allocator.old.tables)
-        → OnOk result (HoldsTables validation allocator.new) }
+        ensures along { PutsInSectors F.tells from allocator.old allocator.new ids.now
+            (place_along allocator.old.tables.version ids.now) (to - from) (replicate (to - from) 0)
+            result }
     ensures begun { from < to → allocator.new.file.begun ≡ true }
-    ensures err { IfErr result IsMediumError }
-    ensures counts { IsTrue F.tells → CountsFailure F.write_faults result
-        allocator.old.file.failures allocator.new.file.failures }
 {
     zero_along(allocator, ids, from, to)
 }
@@ -266,50 +220,16 @@ pub fn grow_listed_with<F: Medium, A: Heap>(
     at: u64,
     bytes: &[u8],
 ) -> Result<(), Error>
-    requires chain { IsChain allocator.old.tables.fat (first_or_end ids.old.items) ids.old.items }
-    requires behind { at ≤ length ids.old.items * sector_len allocator.old.tables.version }
-    requires bounded { at + length bytes.now < 2 ^ 64 }
-    requires fits { at + length bytes.now
-        ≤ (length ids.old.items + count) * sector_len allocator.old.tables.version }
-    ensures chain { IsChain allocator.new.tables.fat (first_or_end ids.new.items) ids.new.items }
-    ensures lengthened { OnOk result
-        (Lengthens count ids.old.items ids.new.items allocator.old.tables allocator.new.tables) }
-    ensures put { IsTrue F.tells → (validation : Validation) → HoldsTables validation allocator.old
-        → OnOk result (StandAlong (place_along allocator.old.tables.version ids.new.items) at
-        bytes.now allocator.new.file.bytes) }
-    ensures zeros { IsTrue F.tells
-        → (validation : Validation) → HoldsTables validation allocator.old
-        → OnOk result (AreZerosAlong (place_along allocator.old.tables.version ids.new.items) (max
-        (at + length bytes.now) (length ids.old.items * sector_len allocator.old.tables.version))
-        (length ids.new.items * sector_len allocator.old.tables.version) allocator.new.file.bytes) }
-    ensures kept { IsTrue F.tells → (validation : Validation) → HoldsTables validation allocator.old
-        → StaysAlong (place_along allocator.old.tables.version ids.old.items) at (length bytes.now)
-        (length ids.old.items * sector_len allocator.old.tables.version)
-        allocator.old.file.bytes allocator.new.file.bytes }
-    ensures holds { IsTrue F.tells
-        → (validation : Validation) → HoldsTables validation allocator.old
-        → OnOk result (HoldsTables validation allocator.new) }
-    ensures whole { IsTrue F.tells
-        → (validation : Validation) → HoldsTables validation allocator.old
-        → IsOfWholeSectors allocator.old → OnOk result (IsOfWholeSectors allocator.new) }
-    ensures sizes { OnOk result
-        (AreSizes allocator.new.tables.version (sizes_of allocator.new.tables)) }
-    ensures spares { IsTrue F.tells → Spares ids.old.items allocator.old allocator.new }
-    ensures header { IsTrue F.tells → (i : ℕ) → i < length allocator.old.file.bytes
-        → IsOtherHeaderByte allocator.old.tables.version i
-        → slice_index allocator.new.file.bytes i ≡ slice_index allocator.old.file.bytes i }
-    ensures version { allocator.new.tables.version ≡ allocator.old.tables.version }
-    ensures limit { allocator.new.tables.max_sectors ≡ allocator.old.tables.max_sectors }
-    ensures enough { OnOk result (IsTooFew allocator.old.tables count → ⊥) }
+        requires can_grow { CanGrowWith count at allocator.old ids.old.items bytes.now }
+        ensures longer { ListGrows count allocator.old allocator.new ids.old.items ids.new.items
+            result }
+        ensures put { GrowsWith F.tells at allocator.old allocator.new ids.old.items ids.new.items
+            bytes.now result }
+        ensures holds { HoldsWhole F.tells allocator.old allocator.new result }
+        ensures spares { SparesAlong F.tells F.write_faults allocator.old allocator.new
+            ids.old.items result }
+        ensures refused { GrowingRefused count allocator.old allocator.new result }
     ensures begun { 0 < length bytes.now → OnOk result (allocator.new.file.begun ≡ true) }
-    ensures refused { IfErr result
-        (AfterMedium (allocator.new.file.begun ≡ true) (allocator.new ≡ allocator.old)) }
-    ensures unwritten { IsTrue F.tells → allocator.new.file.begun ≡ false
-        → allocator.new.file.bytes ≡ allocator.old.file.bytes }
-    ensures err { IfErr result (ChangeRefused (IsUsable allocator.old.tables → ⊥) Unit
-        (IsTooFew allocator.old.tables count) Unit) }
-    ensures counts { IsTrue F.tells → CountsFailure F.write_faults result
-        allocator.old.file.failures allocator.new.file.failures }
 {
     let sector_len = allocator.sector_len() as u64;
     let have = (ids.len() as u64).saturating_mul(sector_len);

@@ -1,6 +1,7 @@
 //! What the definitions promise about each other. None of these functions does anything: each has a law
 //! as its contract.
 ghost use Rattle.cfb_content.specs.Laws.{AllUsedIsKept, ChangeableStartsAreUnnamed, ChangedIsChangeable, ChangedLosesNone, ContentMovesInTurn, EmptyIsSnug, EmptyOwnsNothing, EnoughIsNotTooLong, GrowthIsSnugMini, KeptIsReadable, KeptIsSnug, KeptIsSnugMini, KeptMiniIsSpared, LackIsTooLong, LargeIsReadByPlaces, LargeIsResized, LargeIsThere, LargeIsWritten, LargeOwnsItsChain, MovedIsOutline, MovedRootIsMoved, NoneIsLostInTurn, NothingIsMoved, OthersAreKeptInTurn, OthersAreReadable, OwnIsApart, OwnStays, RoomComesFree, SameEntriesAreMoved, SameIsSized, SizedIsSnug, SizedStaysSnug, SmallIsReadByPlaces, SmallIsResized, SmallIsThere, SmallIsWritten, SmallOwnsItsChain, SparedIsKept, SparedSectorsAreKept, StreamIsNoRoot, StreamOwnsItsOwn, StreamStartIsUnnamed, StreamStays};
+ghost use Rattle.cfb_content.specs.Turning.{UsesTurn};
 ghost use Rattle.cfb_content.specs.Uses.{GrowthStays, LargeBecomesSmall, LargeGoesOn, LargeIsCut, SameUse, SmallBecomesLarge, SmallGoesOn, SmallIsCut, UsedByOwners};
 
 /// Start and length of a stream's entry and of the root's are none of what the tree hangs on (MS-CFB 2.6).
@@ -67,13 +68,8 @@ pub fn chains_are_owned()
 pub fn uses_follow_the_content()
     ensures owners { UsedByOwners }
     ensures same { SameUse }
-    ensures large_longer { LargeGoesOn }
-    ensures large_shorter { LargeIsCut }
-    ensures small_longer { SmallGoesOn }
+        ensures turned { UsesTurn }
     ensures growth { GrowthStays }
-    ensures small_shorter { SmallIsCut }
-    ensures to_small { LargeBecomesSmall }
-    ensures to_large { SmallBecomesLarge }
 {}
 
 /// Where the tables are used in order, and the stream that changed has its chain and its bytes, the file can be changed again, and nothing

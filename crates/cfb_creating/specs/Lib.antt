@@ -9,3 +9,4 @@ pub use Rattle.cfb_mini_sectors.specs as cfb_mini_sectors
 pub use Rattle.cfb_agreement.specs.cfb_mini
 pub use Rattle.cfb_agreement.specs.cfb_content
 pub mod State
+pub mod Created

@@ -1,5 +1,6 @@
 //! An empty file on an empty medium (MS-CFB 2.2 to 2.6).
 ghost use Rattle.std.specs.Prelude.{◌≡◌, ℕ, [], min, false, true, IsTrue, IfOk, IfErr, ⊤};
+ghost use Rattle.cfb_creating.specs.Created.{IsMade, IsOfSetting, CreatingRefused};
 ghost use Rattle.cfb_format.specs.Bytes.{max_regular_sector};
 ghost use Rattle.cfb_format.specs.Created.{created_bytes};
 ghost use Rattle.cfb_format.specs.Refused.{HasReason, no_error};
@@ -30,23 +31,9 @@ pub fn create_file<F: Medium, A: Heap + Clone>(
     max_sectors: u32,
 ) -> Result<MiniAllocator<F, A>, Error>
     requires empty_medium { IsTrue F.tells → F.bytes medium ≡ [] }
-    ensures bytes { IsTrue F.tells → IfOk result (λ file. bytes_of file ≡ created_bytes version) }
-    ensures calm { IsTrue F.tells
-        → IfOk result (λ file. (table_of file).file.failures ≡ F.failures medium) }
-    ensures ended { IfOk result (λ file. (table_of file).file.begun ≡ false) }
-    ensures version { IfOk result (λ file. version_of file ≡ version) }
-    ensures letters { IfOk result (λ file. cases_of file ≡ letters) }
-    ensures limit { IfOk result (λ file. (tables_in file).max_sectors
-        ≡ min max_sectors max_regular_sector) }
-    ensures holds { IsTrue F.tells → IfOk result (λ file. (limit : ℕ)
-        → Holds (record { base = file; is_sound = true; buffer_limit = limit })) }
-    ensures made { IsTrue F.tells → IfOk result IsAsMade }
-    ensures err { IfErr result (HasReason (record no_error { medium = λ fault. ⊤; memory = ⊤ })) }
-    ensures fault { IsTrue F.tells → IfErr result (HasReason (record no_error {
-      medium = λ fault.
-          IsTrue (F.write_faults fault);
-      memory = ⊤;
-    })) }
+        ensures made { IsMade F.tells version (F.failures medium) result }
+        ensures setting { IsOfSetting version letters max_sectors result }
+        ensures error { CreatingRefused F.tells F.write_faults result }
 {
     laws::parts_are_unique();
     mini_laws::sound_mini_sectors_are_held();
@@ -67,12 +54,7 @@ fn write_file<F: Medium, A: Heap + Clone>(
         → IfOk result (λ written. F.bytes written ≡ created_bytes version) }
     ensures calm { IsTrue F.tells
         → IfOk result (λ written. F.failures written ≡ F.failures medium) }
-    ensures err { IfErr result (HasReason (record no_error { medium = λ fault. ⊤; memory = ⊤ })) }
-    ensures fault { IsTrue F.tells → IfErr result (HasReason (record no_error {
-      medium = λ fault.
-          IsTrue (F.write_faults fault);
-      memory = ⊤;
-    })) }
+        ensures error { CreatingRefused F.tells F.write_faults result }
 {
     let slots = EmptySlots::new(heap.clone()?)?;
     let mut sector = vec![in heap; 0; version.sector_len()]?;

@@ -14,3 +14,4 @@ pub mod Growing
 pub mod Inserting
 pub mod Lending
 pub mod NameLaws
+pub mod Changing

@@ -1,5 +1,6 @@
 //! How a directory changes one of its storages or entries: first in memory, then the slots of the entries that changed.
 ghost use Rattle.std.specs.Prelude.{◌≡◌, ◌⊎◌, ℕ, ◌%◌, ◌<◌, List, length, chars, true, IsTrue, IfErr, OnOk};
+ghost use Rattle.cfb_directory.specs.Changing.{RemovesSafely, ChangesDirectory, HoldsChanged, SetsEntryFields, FieldsHold};
 ghost use Rattle.cfb_format.specs.declared.validate.Validation.{Validation};
 ghost use Rattle.cfb_format.specs.Bytes.{no_stream};
 ghost use Rattle.cfb_format.specs.DirectoryEntry.{IsValidEntry};
@@ -48,36 +49,19 @@ pub(crate) fn remove_entry<F: Medium, A: Heap + Clone>(
     requires there { (list : List ℕ) → HasChildren entries.old.cases entries.old.entries parent list
         → (n : ℕ) × IsChildNamed entries.old.cases entries.old.entries (chars name.now) list n
         × ((entry_at entries.old.entries n).child ≡ no_stream) }
-    ensures removed { OnOk result (RemovesEntry entries.old.cases entries.old.entries
-        entries.new.entries parent (chars name.now)) }
-    ensures balanced { OnOk result (KeepsBalance entries.old.entries entries.new.entries parent) }
-    ensures red_apart { OnOk result (StaysRedApart (directory_of allocator.old
-        sectors.now entries.old) (directory_of allocator.new sectors.now entries.new) parent) }
+        ensures removes { RemovesSafely parent (chars name.now)
+            (directory_of allocator.old sectors.now entries.old)
+            (directory_of allocator.new sectors.now entries.new) result }
     ensures kept { allocator.new.tables ≡ allocator.old.tables }
-    ensures holds { IsTrue F.tells → (validation : Validation)
-        → HoldsDirectory validation (directory_of allocator.old sectors.now entries.old)
-        → OnOk result
-        (HoldsDirectory validation (directory_of allocator.new sectors.now entries.new)) }
-    ensures spares { IsTrue F.tells → Spares sectors.now allocator.old allocator.new }
-    ensures header { IsTrue F.tells
-        → KeepsWholeHeader (directory_of allocator.old sectors.now entries.old)
-        (directory_of allocator.new sectors.now entries.new) }
-    ensures others { IsTrue F.tells
-        → KeepsOtherSectors (directory_of allocator.old sectors.now entries.old)
-        (directory_of allocator.new sectors.now entries.new) }
+        ensures holds { HoldsChanged F.tells (directory_of allocator.old sectors.now entries.old)
+            (directory_of allocator.new sectors.now entries.new) result }
+        ensures changes { ChangesDirectory F.tells F.write_faults
+            (directory_of allocator.old sectors.now entries.old)
+            (directory_of allocator.new sectors.now entries.new) result }
     ensures slots { IsTrue F.tells → (validation : Validation)
         → HoldsDirectory validation (directory_of allocator.old sectors.now entries.old)
         → KeepsOtherSlots parent (directory_of allocator.old sectors.now entries.old)
         (directory_of allocator.new sectors.now entries.new) }
-    ensures limits { KeepsDirectoryLimits (directory_of allocator.old sectors.now entries.old)
-        (directory_of allocator.new sectors.now entries.new) }
-    ensures begun { OnOk result (allocator.new.file.begun ≡ true) }
-    ensures refused { IfErr result (DirectoryStopsShort (directory_of allocator.old
-        sectors.now entries.old) (directory_of allocator.new sectors.now entries.new)) }
-    ensures err { IfErr result (ChangeRefused
-        (IsDirectoryNotHeld (directory_of allocator.old sectors.now entries.old)) Unit ⊥ Unit) }
-    ensures counts { IsTrue F.tells → CountsFailure
-        F.write_faults result allocator.old.file.failures allocator.new.file.failures }
 {
     let count = entries.list().len();
     if !are_placed(allocator, sectors, above, count) {
@@ -102,41 +86,18 @@ pub(crate) fn change_fields<F: Medium, A: Heap, W: FnOnce(Fields) -> Fields>(
     requires callable { W.IsAlwaysCallable change }
     requires root_len { number ≡ 0 → (f : Fields)
         → W.post change (fields_in (entry_at entries.old.entries 0)) f → f.stream_len % 64 ≡ 0 }
-    ensures changed { OnOk result ((f : Fields)
-        × W.post change (fields_in (entry_at entries.old.entries number)) f
-        × (entries.new.entries ≡ entries_with_fields entries.old.entries number f)) }
-    ensures entries { (entries.new.entries ≡ entries.old.entries)
-        ⊎ ((f : Fields) × W.post change (fields_in (entry_at entries.old.entries number)) f
-        × (entries.new.entries ≡ entries_with_fields entries.old.entries number f)) }
+        ensures sets { SetsEntryFields F.tells number
+            (directory_of allocator.old sectors.now entries.old)
+            (directory_of allocator.new sectors.now entries.new)
+            (W.post change (fields_in (entry_at entries.old.entries number))) result }
     ensures kept { allocator.new.tables ≡ allocator.old.tables }
-    ensures holds { IsTrue F.tells → (validation : Validation)
-        → HoldsDirectory validation (directory_of allocator.old sectors.now entries.old)
-        → ((f : Fields) → W.post change (fields_in (entry_at entries.old.entries number)) f
-        → IsValidEntry allocator.old.tables.version
-        (entry_with_fields (entry_at entries.old.entries number) f)) → OnOk result
-        (HoldsDirectory validation (directory_of allocator.new sectors.now entries.new)) }
-    ensures spares { IsTrue F.tells → Spares sectors.now allocator.old allocator.new }
-    ensures header { IsTrue F.tells
-        → KeepsWholeHeader (directory_of allocator.old sectors.now entries.old)
-        (directory_of allocator.new sectors.now entries.new) }
-    ensures others { IsTrue F.tells
-        → KeepsOtherSectors (directory_of allocator.old sectors.now entries.old)
-        (directory_of allocator.new sectors.now entries.new) }
-    ensures slots { IsTrue F.tells → (validation : Validation)
-        → HoldsDirectory validation (directory_of allocator.old sectors.now entries.old)
-        → KeepsSlotsBut number (directory_of allocator.old sectors.now entries.old)
-        (directory_of allocator.new sectors.now entries.new) }
-    ensures limits { KeepsDirectoryLimits (directory_of allocator.old sectors.now entries.old)
-        (directory_of allocator.new sectors.now entries.new) }
-    ensures begun { OnOk result (allocator.new.file.begun ≡ true) }
-    ensures refused { IfErr result (DirectoryStopsShort (directory_of allocator.old
-        sectors.now entries.old) (directory_of allocator.new sectors.now entries.new)) }
-    ensures err { IfErr result (ChangeRefused
-        (IsDirectoryNotHeld (directory_of allocator.old sectors.now entries.old)) ⊥ ⊥ Unit) }
-    ensures placed { ArePlaced (directory_of allocator.old sectors.now entries.old)
-        → IfErr result IsMediumError }
-    ensures counts { IsTrue F.tells → CountsFailure
-        F.write_faults result allocator.old.file.failures allocator.new.file.failures }
+        ensures holds { FieldsHold F.tells number
+            (directory_of allocator.old sectors.now entries.old)
+            (directory_of allocator.new sectors.now entries.new)
+            (W.post change (fields_in (entry_at entries.old.entries number))) result }
+        ensures changes { ChangesDirectory F.tells F.write_faults
+            (directory_of allocator.old sectors.now entries.old)
+            (directory_of allocator.new sectors.now entries.new) result }
 {
     let count = entries.list().len();
     if !are_placed(allocator, sectors, above, count) {

@@ -1,5 +1,6 @@
 //! How a directory drops all that is in one of its storages: first in memory, then the slots of the entries that changed.
 ghost use Rattle.std.specs.Prelude.{◌≡◌, ◌∷◌, ℕ, List, true, IsTrue, IfErr, OnOk};
+ghost use Rattle.cfb_directory.specs.Changing.{ChangesDirectory, HoldsChanged};
 ghost use Rattle.cfb_format.specs.declared.validate.Validation.{Validation};
 ghost use Rattle.cfb_format.specs.Reading.{Outline, numbers};
 ghost use Rattle.cfb_format.specs.Refused.{CountsFailure};
@@ -37,30 +38,15 @@ pub(crate) fn clear_storage<F: Medium, A: Heap + Clone>(
     ensures cleared { OnOk result
         (HasCleared entries.old.entries entries.new.entries top inside.now) }
     ensures kept { allocator.new.tables ≡ allocator.old.tables }
-    ensures holds { IsTrue F.tells → (validation : Validation)
-        → HoldsDirectory validation (directory_of allocator.old sectors.now entries.old)
-        → OnOk result
-        (HoldsDirectory validation (directory_of allocator.new sectors.now entries.new)) }
-    ensures spares { IsTrue F.tells → Spares sectors.now allocator.old allocator.new }
-    ensures header { IsTrue F.tells
-        → KeepsWholeHeader (directory_of allocator.old sectors.now entries.old)
-        (directory_of allocator.new sectors.now entries.new) }
-    ensures others { IsTrue F.tells
-        → KeepsOtherSectors (directory_of allocator.old sectors.now entries.old)
-        (directory_of allocator.new sectors.now entries.new) }
+        ensures holds { HoldsChanged F.tells (directory_of allocator.old sectors.now entries.old)
+            (directory_of allocator.new sectors.now entries.new) result }
+        ensures changes { ChangesDirectory F.tells F.write_faults
+            (directory_of allocator.old sectors.now entries.old)
+            (directory_of allocator.new sectors.now entries.new) result }
     ensures slots { IsTrue F.tells → (validation : Validation)
         → HoldsDirectory validation (directory_of allocator.old sectors.now entries.old)
         → KeepsSlotsOutside (top ∷ inside.now) (directory_of allocator.old sectors.now entries.old)
         (directory_of allocator.new sectors.now entries.new) }
-    ensures limits { KeepsDirectoryLimits (directory_of allocator.old sectors.now entries.old)
-        (directory_of allocator.new sectors.now entries.new) }
-    ensures begun { OnOk result (allocator.new.file.begun ≡ true) }
-    ensures refused { IfErr result (DirectoryStopsShort (directory_of allocator.old
-        sectors.now entries.old) (directory_of allocator.new sectors.now entries.new)) }
-    ensures err { IfErr result (ChangeRefused
-        (IsDirectoryNotHeld (directory_of allocator.old sectors.now entries.old)) Unit ⊥ Unit) }
-    ensures counts { IsTrue F.tells → CountsFailure
-        F.write_faults result allocator.old.file.failures allocator.new.file.failures }
 {
     let count = entries.list().len();
     if !are_placed(allocator, sectors, above, count) {

@@ -1,5 +1,10 @@
 //! The directory of a file (MS-CFB 2.6): its entries in memory, and each change of them written into the slots of its sectors.
 ghost use Rattle.std.specs.Prelude.{◌≡◌, ◌≢◌, ◌↔◌, ◌⊎◌, ℕ, ◌*◌, ◌%◌, ◌<◌, ◌≤◌, ◌∷◌, List, [], length, map, min, chars, true, false, Contains, IsTrue, MatchOption, vec_len, IfOk, IfErr, IfSome, OnOk};
+ghost use Rattle.cfb_directory.specs.Changing.{RemovesSafely, ChangesDirectory, ChangesRoot, HoldsChanged, SetsEntryFields, FieldsHold, InsertsInDirectory};
+ghost use Rattle.cfb_alloc.specs.Writing.{FlushesFile};
+ghost use Rattle.cfb_alloc.specs.Freeing.{FreesTheChain};
+ghost use Rattle.cfb_alloc.specs.Taking.{TakesOneSector, BeginsChain, ExtendsChain};
+ghost use Rattle.cfb_directory.specs.cfb_tables.Taking.{TakesNumber};
 ghost use Rattle.cfb_format.specs.declared.objtype.ObjType.TheVariants.{Root};
 ghost use Rattle.cfb_directory.specs.Growing.{ArePlaced};
 ghost use Rattle.cfb_format.specs.declared.validate.Validation.{Validation};
@@ -347,17 +352,10 @@ impl<F: Medium, A: Heap + Clone> Directory<F, A> {
         moment: Timestamp,
     ) -> Result<u32, Error>
         requires { CanInsert self.old parent (chars name.now) kind }
-        ensures inserted { IfOk result (λ n.
-            InsertsObject self.old self.new parent n (chars name.now) kind moment) }
-        ensures kept { KeepsSectorsIfFree self.old self.new }
-        ensures written { IsTrue F.tells → OnOk result (WritesDirectory self.old self.new) }
-        ensures spared { IsTrue F.tells → SparesRest self.old self.new parent }
+        ensures inserts { InsertsInDirectory F.tells F.write_faults parent (chars name.now) kind
+            moment self.old self.new result }
         ensures limits { KeepsDirectoryLimits self.old self.new }
         ensures refused { IfErr result (DirectoryStopsShort self.old self.new) }
-        ensures err { IfErr result (ChangeRefused (IsDirectoryNotHeld self.old)
-            (IsFullForEntry self.old → ⊥) (IsFullForEntry self.old) Unit) }
-        ensures counts { IsTrue F.tells → CountsFailure
-            F.write_faults result self.old.table.file.failures self.new.table.file.failures }
     {
         insert_entry(
             &mut self.allocator,
@@ -385,26 +383,13 @@ impl<F: Medium, A: Heap + Clone> Directory<F, A> {
         requires there { (list : List ℕ) → HasChildren self.old.cases self.old.entries parent list
             → (n : ℕ) × IsChildNamed self.old.cases self.old.entries (chars name.now) list n
             × ((entry_at self.old.entries n).child ≡ no_stream) }
-        ensures removed { OnOk result (RemovesEntry self.old.cases self.old.entries self.new.entries
-            parent (chars name.now)) }
-        ensures balanced { OnOk result (KeepsBalance self.old.entries self.new.entries parent) }
-        ensures red_apart { OnOk result (StaysRedApart self.old self.new parent) }
+        ensures removes { RemovesSafely parent (chars name.now) self.old self.new result }
         ensures kept { (self.new.sectors ≡ self.old.sectors)
             × (directory_tables self.new ≡ directory_tables self.old) }
-        ensures holds { IsTrue F.tells
-            → (validation : Validation) → HoldsDirectory validation self.old
-            → OnOk result (HoldsDirectory validation self.new) }
-        ensures spares { IsTrue F.tells → Spares self.old.sectors self.old.table self.new.table }
-        ensures header { IsTrue F.tells → KeepsWholeHeader self.old self.new }
-        ensures others { IsTrue F.tells → KeepsOtherSectors self.old self.new }
+        ensures holds { HoldsChanged F.tells self.old self.new result }
+        ensures changes { ChangesDirectory F.tells F.write_faults self.old self.new result }
         ensures slots { IsTrue F.tells → (validation : Validation)
             → HoldsDirectory validation self.old → KeepsOtherSlots parent self.old self.new }
-        ensures limits { KeepsDirectoryLimits self.old self.new }
-        ensures begun { OnOk result (self.new.table.file.begun ≡ true) }
-        ensures refused { IfErr result (DirectoryStopsShort self.old self.new) }
-        ensures err { IfErr result (ChangeRefused (IsDirectoryNotHeld self.old) Unit ⊥ Unit) }
-        ensures counts { IsTrue F.tells → CountsFailure
-            F.write_faults result self.old.table.file.failures self.new.table.file.failures }
     {
         remove_entry(
             &mut self.allocator,
@@ -431,21 +416,11 @@ impl<F: Medium, A: Heap + Clone> Directory<F, A> {
             (HasCleared self.old.entries self.new.entries top inside.now) }
         ensures kept { (self.new.sectors ≡ self.old.sectors)
             × (directory_tables self.new ≡ directory_tables self.old) }
-        ensures holds { IsTrue F.tells
-            → (validation : Validation) → HoldsDirectory validation self.old
-            → OnOk result (HoldsDirectory validation self.new) }
-        ensures spares { IsTrue F.tells → Spares self.old.sectors self.old.table self.new.table }
-        ensures header { IsTrue F.tells → KeepsWholeHeader self.old self.new }
-        ensures others { IsTrue F.tells → KeepsOtherSectors self.old self.new }
+        ensures holds { HoldsChanged F.tells self.old self.new result }
+        ensures changes { ChangesDirectory F.tells F.write_faults self.old self.new result }
         ensures slots { IsTrue F.tells → (validation : Validation)
             → HoldsDirectory validation self.old
             → KeepsSlotsOutside (top ∷ inside.now) self.old self.new }
-        ensures limits { KeepsDirectoryLimits self.old self.new }
-        ensures begun { OnOk result (self.new.table.file.begun ≡ true) }
-        ensures refused { IfErr result (DirectoryStopsShort self.old self.new) }
-        ensures err { IfErr result (ChangeRefused (IsDirectoryNotHeld self.old) Unit ⊥ Unit) }
-        ensures counts { IsTrue F.tells → CountsFailure
-            F.write_faults result self.old.table.file.failures self.new.table.file.failures }
     {
         clear_storage(
             &mut self.allocator,
@@ -475,31 +450,13 @@ impl<F: Medium, A: Heap> Directory<F, A> {
         requires callable { W.IsAlwaysCallable change }
         requires root_len { number ≡ 0 → (f : Fields)
             → W.post change (fields_in (entry_at self.old.entries 0)) f → f.stream_len % 64 ≡ 0 }
-        ensures changed { OnOk result ((f : Fields)
-            × W.post change (fields_in (entry_at self.old.entries number)) f
-            × (self.new.entries ≡ entries_with_fields self.old.entries number f)) }
-        ensures entries { (self.new.entries ≡ self.old.entries)
-            ⊎ ((f : Fields) × W.post change (fields_in (entry_at self.old.entries number)) f
-            × (self.new.entries ≡ entries_with_fields self.old.entries number f)) }
+        ensures sets { SetsEntryFields F.tells number self.old self.new
+            (W.post change (fields_in (entry_at self.old.entries number))) result }
         ensures kept { (self.new.sectors ≡ self.old.sectors)
             × (directory_tables self.new ≡ directory_tables self.old) }
-        ensures holds { IsTrue F.tells
-            → (validation : Validation) → HoldsDirectory validation self.old → ((f : Fields)
-            → W.post change (fields_in (entry_at self.old.entries number)) f → IsValidEntry
-            (directory_version self.old) (entry_with_fields (entry_at self.old.entries number) f))
-            → OnOk result (HoldsDirectory validation self.new) }
-        ensures spares { IsTrue F.tells → Spares self.old.sectors self.old.table self.new.table }
-        ensures header { IsTrue F.tells → KeepsWholeHeader self.old self.new }
-        ensures others { IsTrue F.tells → KeepsOtherSectors self.old self.new }
-        ensures slots { IsTrue F.tells → (validation : Validation)
-            → HoldsDirectory validation self.old → KeepsSlotsBut number self.old self.new }
-        ensures limits { KeepsDirectoryLimits self.old self.new }
-        ensures begun { OnOk result (self.new.table.file.begun ≡ true) }
-        ensures refused { IfErr result (DirectoryStopsShort self.old self.new) }
-        ensures err { IfErr result (ChangeRefused (IsDirectoryNotHeld self.old) ⊥ ⊥ Unit) }
-        ensures placed { ArePlaced self.old → IfErr result IsMediumError }
-        ensures counts { IsTrue F.tells → CountsFailure
-            F.write_faults result self.old.table.file.failures self.new.table.file.failures }
+        ensures holds { FieldsHold F.tells number self.old self.new
+            (W.post change (fields_in (entry_at self.old.entries number))) result }
+        ensures changes { ChangesDirectory F.tells F.write_faults self.old self.new result }
     {
         change_fields(
             &mut self.allocator,
@@ -519,30 +476,13 @@ impl<F: Medium, A: Heap> Directory<F, A> {
         requires callable { W.IsAlwaysCallable change }
         requires root_len { (f : Fields)
             → W.post change (fields_in (entry_at self.old.entries 0)) f → f.stream_len % 64 ≡ 0 }
-        ensures changed { OnOk result ((f : Fields)
-            × W.post change (fields_in (entry_at self.old.entries 0)) f
-            × (self.new.entries ≡ entries_with_fields self.old.entries 0 f)) }
-        ensures entries { (self.new.entries ≡ self.old.entries)
-            ⊎ ((f : Fields) × W.post change (fields_in (entry_at self.old.entries 0)) f
-            × (self.new.entries ≡ entries_with_fields self.old.entries 0 f)) }
+        ensures sets { SetsEntryFields F.tells 0 self.old self.new
+            (W.post change (fields_in (entry_at self.old.entries 0))) result }
         ensures kept { (self.new.sectors ≡ self.old.sectors)
             × (directory_tables self.new ≡ directory_tables self.old) }
-        ensures holds { IsTrue F.tells
-            → (validation : Validation) → HoldsDirectory validation self.old → ((f : Fields)
-            → W.post change (fields_in (entry_at self.old.entries 0)) f → IsValidEntry
-            (directory_version self.old) (entry_with_fields (entry_at self.old.entries 0) f))
-            → OnOk result (HoldsDirectory validation self.new) }
-        ensures spares { IsTrue F.tells → Spares self.old.sectors self.old.table self.new.table }
-        ensures header { IsTrue F.tells → KeepsWholeHeader self.old self.new }
-        ensures slots { IsTrue F.tells → (validation : Validation)
-            → HoldsDirectory validation self.old → KeepsSlotsBut 0 self.old self.new }
-        ensures limits { KeepsDirectoryLimits self.old self.new }
-        ensures begun { OnOk result (self.new.table.file.begun ≡ true) }
-        ensures refused { IfErr result (DirectoryStopsShort self.old self.new) }
-        ensures err { IfErr result (ChangeRefused (IsDirectoryNotHeld self.old) ⊥ ⊥ Unit) }
-        ensures placed { ArePlaced self.old → IfErr result IsMediumError }
-        ensures counts { IsTrue F.tells → CountsFailure
-            F.write_faults result self.old.table.file.failures self.new.table.file.failures }
+        ensures holds { FieldsHold F.tells 0 self.old self.new
+            (W.post change (fields_in (entry_at self.old.entries 0))) result }
+        ensures changes { ChangesRoot F.tells F.write_faults self.old self.new result }
     {
         let _fact = self.root_dir_entry();
         self.with_dir_entry_mut(0, change)
@@ -556,45 +496,22 @@ impl<F: Medium, A: Heap> Directory<F, A> {
     /// fails, the tables in memory have the sector, and of the file's bytes no sector in use has changed but the table sectors. The
     /// directory itself stays in any case.
     pub fn begin_chain(&mut self, init: SectorInit) -> Result<u32, Error>
-        ensures taken { IfOk result (λ x.
-            HasTaken (directory_tables self.old) (directory_tables self.new) [] (x ∷ [])) }
-        ensures chain { IfOk result (λ x. IsChain (directory_tables self.new).fat x (x ∷ [])) }
+        ensures number { TakesNumber (directory_tables self.old) (directory_tables self.new) result
+            }
         ensures filled { IsTrue F.tells
             → (validation : Validation) → HoldsTables validation self.old.table → IfOk result (λ x.
             IsAsFilled (directory_version self.new) init (directory_bytes self.new) x) }
-        ensures holds { IsTrue F.tells
-            → (validation : Validation) → HoldsTables validation self.old.table
-            → OnOk result (HoldsTables validation self.new.table) }
-        ensures others { IsTrue F.tells → OthersStay self.old.table self.new.table }
-        ensures spares { IsTrue F.tells → Spares [] self.old.table self.new.table }
+        ensures takes { TakesOneSector F.tells F.write_faults self.old.table self.new.table result }
+        ensures begins { BeginsChain F.tells self.old.table self.new.table result }
         ensures rest { self.new ≡ record self.old { table = self.new.table } }
-        ensures enough { OnOk result (IsTooFew (directory_tables self.old) 1 → ⊥) }
-        ensures begun { OnOk result (self.new.table.file.begun ≡ true) }
-        ensures refused { IfErr result (BreaksOff (TakesFor []) self.old.table self.new.table) }
-        ensures err { IfErr result (ChangeRefused (IsUsable (directory_tables self.old)
-            → ⊥) (IsTooFew (directory_tables self.old) 1
-            → ⊥) (IsTooFew (directory_tables self.old) 1) Unit) }
-        ensures counts { IsTrue F.tells → CountsFailure
-            F.write_faults result self.old.table.file.failures self.new.table.file.failures }
     {
         self.allocator.begin_chain(init)
     }
 
     /// Has the medium hand on what was written. `Medium` where it fails. No byte changes, nor anything in memory.
     pub fn flush(&mut self) -> Result<(), Error>
-        ensures tables { directory_tables self.new ≡ directory_tables self.old }
-        ensures ok { IsTrue F.tells
-            → OnOk result (self.new.table.file ≡ record self.old.table.file { begun = true }) }
-        ensures kept { self.new.table.file ≡ record self.old.table.file {
-          bytes = self.new.table.file.bytes;
-          failures = self.new.table.file.failures;
-          begun = true;
-        } }
-        ensures bytes { IsTrue F.tells → directory_bytes self.new ≡ directory_bytes self.old }
+        ensures flushes { FlushesFile F.tells F.write_faults self.old.table self.new.table result }
         ensures rest { self.new ≡ record self.old { table = self.new.table } }
-        ensures err { IfErr result IsMediumError }
-        ensures counts { IsTrue F.tells → CountsFailure
-            F.write_faults result self.old.table.file.failures self.new.table.file.failures }
     {
         self.allocator.flush()
     }
@@ -606,28 +523,9 @@ impl<F: Medium, A: Heap + Clone> Directory<F, A> {
     /// `InvalidData` where there is no such chain, where it is empty, and where the FAT sectors do not cover the file; `Medium`,
     /// `Memory` and `Full` as in `begin_chain`. The directory itself stays in any case, so `start` is not to be that of its own chain.
     pub fn extend_chain(&mut self, start: u32, init: SectorInit) -> Result<u32, Error>
-        ensures extended { IfOk result (λ x.
-            Extended (directory_tables self.old) (directory_tables self.new) start (x ∷ [])) }
-        ensures filled { IsTrue F.tells
-            → (validation : Validation) → HoldsTables validation self.old.table → IfOk result (λ x.
-            IsAsFilled (directory_version self.new) init (directory_bytes self.new) x) }
-        ensures holds { IsTrue F.tells
-            → (validation : Validation) → HoldsTables validation self.old.table
-            → OnOk result (HoldsTables validation self.new.table) }
-        ensures others { IsTrue F.tells → OthersStay self.old.table self.new.table }
-        ensures spares { IsTrue F.tells
-            → (list : List ℕ) → IsChain (directory_tables self.old).fat start list
-            → Spares list self.old.table self.new.table }
+        ensures extends { ExtendsChain F.tells start init self.old.table self.new.table result }
+        ensures takes { TakesOneSector F.tells F.write_faults self.old.table self.new.table result }
         ensures rest { self.new ≡ record self.old { table = self.new.table } }
-        ensures enough { OnOk result (IsTooFew (directory_tables self.old) 1 → ⊥) }
-        ensures begun { OnOk result (self.new.table.file.begun ≡ true) }
-        ensures refused { IfErr result
-            (BreaksOff (ExtendsFrom start) self.old.table self.new.table) }
-        ensures err { IfErr result (ChangeRefused ((IsUsable (directory_tables self.old) → ⊥)
-            ⊎ NoLast (directory_tables self.old).fat start) (IsTooFew (directory_tables self.old) 1
-            → ⊥) (IsTooFew (directory_tables self.old) 1) Unit) }
-        ensures counts { IsTrue F.tells → CountsFailure
-            F.write_faults result self.old.table.file.failures self.new.table.file.failures }
     {
         self.allocator.extend_chain(start, init)
     }
@@ -639,27 +537,14 @@ impl<F: Medium, A: Heap + Clone> Directory<F, A> {
     /// file's bytes the FAT sectors alone have changed. The directory itself stays in any case, so `start` is not to be that of its own
     /// chain.
     pub fn free_chain(&mut self, start: u32) -> Result<(), Error>
-        ensures freed { OnOk result
-            (GivesBackChain [] start (directory_tables self.old) (directory_tables self.new)) }
+        ensures frees { FreesTheChain F.tells F.write_faults start self.old.table self.new.table
+            result }
         ensures none { start ≡ end_of_chain → self.new ≡ self.old }
         ensures holds { IsTrue F.tells
             → (validation : Validation) → HoldsTables validation self.old.table
             → IsUnnamed (directory_tables self.old).fat start
             → OnOk result (HoldsTables validation self.new.table) }
-        ensures changes { IsTrue F.tells → ChangesSectors (directory_tables self.old).fat_sectors
-            (directory_version self.old) (directory_bytes self.old) (directory_bytes self.new) }
-        ensures spares { IsTrue F.tells
-            → (list : List ℕ) → IsChain (directory_tables self.old).fat start list
-            → Spares list self.old.table self.new.table }
         ensures rest { self.new ≡ record self.old { table = self.new.table } }
-        ensures begun { OnOk result (IsRaised (start
-            ≢ end_of_chain) self.old.table.file self.new.table.file) }
-        ensures refused { IfErr result
-            (BreaksOff (GivesBackChain [] start) self.old.table self.new.table) }
-        ensures err { IfErr result (ChangeRefused ((IsUsable (directory_tables self.old) → ⊥)
-            ⊎ NoChain (directory_tables self.old).fat start) Unit ⊥ Unit) }
-        ensures counts { IsTrue F.tells → CountsFailure
-            F.write_faults result self.old.table.file.failures self.new.table.file.failures }
     {
         self.allocator.free_chain(start)
     }

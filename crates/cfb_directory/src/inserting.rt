@@ -1,5 +1,6 @@
 //! How a directory takes a new entry: all memory first, then a sector where no slot is free, then the entries in memory, then their slots.
 ghost use Rattle.std.specs.Prelude.{◌≡◌, ◌⊎◌, ◌≢◌, ℕ, [], ◌++◌, ◌+◌, ◌^◌, ◌<◌, ◌≤◌, true, false, length, chars, vec_len, vec_capacity, slice_index, Contains, IsTrue, IfOk, IfErr, OnOk, OnErr};
+ghost use Rattle.cfb_directory.specs.Changing.{InsertsInDirectory};
 ghost use Rattle.cfb_format.specs.declared.objtype.ObjType.TheVariants.{Storage, Stream};
 ghost use Rattle.cfb_format.specs.declared.validate.Validation.{Validation};
 ghost use Rattle.cfb_format.specs.declared.version.Version.TheVariants.{V3, V4};
@@ -23,7 +24,7 @@ ghost use Rattle.cfb_alloc.specs.ListedChain.{Lengthens};
 ghost use Rattle.cfb_format.specs.Full.{max_entries};
 ghost use Rattle.cfb_entries.specs.EntryList.{InsertsEntry, has_free};
 ghost use Rattle.cfb_entries.specs.Insertions.{IsInsertionOf, name_in};
-ghost use Rattle.cfb_directory.specs.Growing.{ArePlaced, AreSectorsOf, IsListedChain, KeepsBounds, KeepsSlots};
+ghost use Rattle.cfb_directory.specs.Growing.{ArePlaced, AreSectorsOf, IsListedChain, KeepsBounds, KeepsSlots, GrowsDirectory, StaysListedChain, CountsSectors, CountsSectorsIfGrown, GrowsByOne, MakesRoom, ListedStays, HoldsLengthened, LengtheningRefused, CountsInHeader, WritesHeaderBytes, CanPutEntry, KeepsShape, WritesEntries};
 ghost use Rattle.cfb_directory.specs.Inserting.{CanInsert, InsertsObject, KeepsSectorsIfFree, SparesRest, WritesDirectory};
 ghost use Rattle.cfb_slots.specs.Slots.{IsLeastAbove};
 ghost use Rattle.cfb_directory.specs.State.{HoldsDirectory, IsFullForEntry, KeepsDirectoryHeader, KeepsDirectoryLimits, directory_of, with_room};
@@ -103,32 +104,11 @@ fn lengthen<F: Medium, A: Heap + Clone>(
     ensures kept { OnErr result (sectors.new.items ≡ sectors.old.items) }
     ensures above { IsLeastAbove sectors.old.items above.old
         → IsLeastAbove sectors.new.items above.new }
-    ensures chain { IsListedChain allocator.old.tables sectors.old.items
-        → OnOk result (IsListedChain allocator.new.tables sectors.new.items) }
-    ensures within { AreSectorsOf allocator.old.tables sectors.old.items
-        → OnOk result (AreSectorsOf allocator.new.tables sectors.new.items) }
-    ensures sizes { OnOk result
-        (AreSizes allocator.new.tables.version (sizes_of allocator.new.tables)) }
-    ensures filled { IsTrue F.tells
-        → (validation : Validation) → HoldsTables validation allocator.old
-        → OnOk result ((i : ℕ) → Contains (gained sectors.old.items sectors.new.items) i
-        → IsAsFilled allocator.new.tables.version Dir allocator.new.file.bytes i) }
-    ensures holds { IsTrue F.tells
-        → (validation : Validation) → HoldsTables validation allocator.old
-        → OnOk result (HoldsTables validation allocator.new) }
-    ensures others { IsTrue F.tells → OthersStay allocator.old allocator.new }
-    ensures spares { IsTrue F.tells
-        → Spares (ends_of sectors.old.items) allocator.old allocator.new }
-    ensures bounds { KeepsBounds allocator.old.tables allocator.new.tables }
-    ensures begun { OnOk result (allocator.new.file.begun ≡ true) }
-    ensures refused { IfErr result (AfterMedium (allocator.new.file.begun
-        ≡ true) (allocator.new ≡ allocator.old)) }
-    ensures err { IfErr result (ChangeRefused ((IsUsable allocator.old.tables → ⊥)
-        ⊎ ((last_or_end sectors.old.items ≢ end_of_chain)
-        × (value allocator.old.tables.fat (last_or_end sectors.old.items)
-        ≢ end_of_chain))) Unit (IsTooFew allocator.old.tables 1) Unit) }
-    ensures counts { IsTrue F.tells → CountsFailure
-        F.write_faults result allocator.old.file.failures allocator.new.file.failures }
+        ensures listed { ListedStays allocator.old allocator.new sectors.old.items sectors.new.items
+            result }
+        ensures holds { HoldsLengthened F.tells F.write_faults allocator.old allocator.new
+            sectors.old.items sectors.new.items result }
+        ensures ends { LengtheningRefused allocator.old allocator.new sectors.old.items result }
 {
     let last = last_number(sectors);
     let more = match allocator.extend_chain_by(last, 1, SectorInit::Dir) {
@@ -148,23 +128,9 @@ fn count_sectors<F: Medium, A: Heap>(
     count: usize,
 ) -> Result<(), Error>
     requires few { count < 2 ^ 32 }
-    ensures tables { allocator.new.tables ≡ allocator.old.tables }
-    ensures same { allocator.old.tables.version ≡ V3
-        → (allocator.new ≡ allocator.old) × OnErr result ⊥ }
-    ensures begun { (allocator.old.file.begun ≡ true) → allocator.new.file.begun ≡ true }
-    ensures count { IsTrue F.tells → allocator.old.tables.version ≡ V4
-        → OnOk result (word_at allocator.new.file.bytes 40 ≡ count) }
-    ensures long { IsTrue F.tells
-        → allocator.old.tables.version ≡ V4 → OnOk result (44 ≤ length allocator.new.file.bytes) }
-    ensures holds { IsTrue F.tells
-        → (validation : Validation) → HoldsTables validation allocator.old
-        → OnOk result (HoldsTables validation allocator.new) }
-    ensures others { IsTrue F.tells
-        → ChangesOnlyBytes 40 4 allocator.old.file.bytes allocator.new.file.bytes }
-    ensures spares { IsTrue F.tells → Spares [] allocator.old allocator.new }
-    ensures err { IfErr result IsMediumError }
-    ensures counts { IsTrue F.tells → CountsFailure
-        F.write_faults result allocator.old.file.failures allocator.new.file.failures }
+        ensures counted { CountsInHeader F.tells count allocator.old allocator.new result }
+        ensures writes { WritesHeaderBytes F.tells F.write_faults allocator.old allocator.new 40 4
+            result }
 {
     match allocator.version() {
         Version::V3 => Ok(()),
@@ -185,41 +151,18 @@ fn grow<F: Medium, A: Heap + Clone>(
     requires few { length entries.old.entries + entries_per_sector allocator.old.tables.version
         ≤ max_entries }
     requires placed { ArePlaced (directory_of allocator.old sectors.old.items entries.old) }
-    ensures above { IsLeastAbove sectors.old.items above.old
-        → IsLeastAbove sectors.new.items above.new }
-    ensures entries { OnOk result (entries.new.entries
-        ≡ grown_by entries.old.entries (entries_per_sector allocator.old.tables.version)) }
-    ensures placed { OnOk result
-        (ArePlaced (directory_of allocator.new sectors.new.items entries.new)) }
-    ensures lengthened { OnOk result (Lengthens
-        1 sectors.old.items sectors.new.items allocator.old.tables allocator.new.tables) }
-    ensures chain { IsListedChain allocator.old.tables sectors.old.items
-        → OnOk result (IsListedChain allocator.new.tables sectors.new.items) }
-    ensures holds { IsTrue F.tells → (validation : Validation)
-        → HoldsDirectory validation (directory_of allocator.old sectors.old.items entries.old)
-        → OnOk result
-        (HoldsDirectory validation (directory_of allocator.new sectors.new.items entries.new)) }
-    ensures spares { IsTrue F.tells → Spares sectors.old.items allocator.old allocator.new }
-    ensures header { IsTrue F.tells
-        → KeepsDirectoryHeader (directory_of allocator.old sectors.old.items entries.old)
-        (directory_of allocator.new sectors.new.items entries.new) }
-    ensures count { IsTrue F.tells → allocator.old.tables.version ≡ V4
-        → OnOk result (word_at allocator.new.file.bytes 40 ≡ length sectors.new.items) }
-    ensures long { IsTrue F.tells
-        → allocator.old.tables.version ≡ V4 → OnOk result (44 ≤ length allocator.new.file.bytes) }
-    ensures slots { IsTrue F.tells → (validation : Validation)
-        → HoldsDirectory validation (directory_of allocator.old sectors.old.items entries.old)
-        → KeepsSlots (directory_of allocator.old sectors.old.items entries.old)
-        (directory_of allocator.new sectors.new.items entries.new) }
-    ensures limits { KeepsDirectoryLimits (directory_of allocator.old sectors.old.items entries.old)
-        (directory_of allocator.new sectors.new.items entries.new) }
-    ensures begun { OnOk result (allocator.new.file.begun ≡ true) }
-    ensures refused { IfErr result (DirectoryStopsShort (directory_of allocator.old
-        sectors.old.items entries.old) (directory_of allocator.new sectors.new.items entries.new)) }
+        ensures listed { StaysListedChain (directory_of allocator.new sectors.new.items entries.new)
+            sectors.old.items sectors.new.items above.old above.new allocator.old.tables
+            allocator.new.tables result }
+        ensures longer { GrowsByOne allocator.old allocator.new sectors.old.items sectors.new.items
+            entries.old.entries entries.new.entries result }
+        ensures grows { GrowsDirectory F.tells F.write_faults
+            (directory_of allocator.old sectors.old.items entries.old)
+            (directory_of allocator.new sectors.new.items entries.new) result }
+        ensures counted { CountsSectors F.tells allocator.old allocator.new sectors.new.items result
+            }
     ensures err { IfErr result (ChangeRefused (IsDirectoryNotHeld (directory_of
         allocator.old sectors.old.items entries.old)) Unit (IsTooFew allocator.old.tables 1) Unit) }
-    ensures counts { IsTrue F.tells → CountsFailure
-        F.write_faults result allocator.old.file.failures allocator.new.file.failures }
 {
     let per = allocator.version().dir_entries_per_sector();
     let fresh = fresh_entries(heap, per)?;
@@ -244,45 +187,21 @@ fn make_room<F: Medium, A: Heap + Clone>(
     requires placed { ArePlaced (directory_of allocator.old sectors.old.items entries.old) }
     requires enough { IsFullForEntry (directory_of allocator.old sectors.old.items entries.old)
         → ⊥ }
-    ensures above { IsLeastAbove sectors.old.items above.old
-        → IsLeastAbove sectors.new.items above.new }
+        ensures listed { StaysListedChain (directory_of allocator.new sectors.new.items entries.new)
+            sectors.old.items sectors.new.items above.old above.new allocator.old.tables
+            allocator.new.tables result }
     ensures entries { OnOk result (entries.new.entries
         ≡ with_room (directory_of allocator.old sectors.old.items entries.old)) }
-    ensures free { OnOk result (has_free entries.new.entries ≡ true) }
-    ensures placed { OnOk result
-        (ArePlaced (directory_of allocator.new sectors.new.items entries.new)) }
-    ensures kept { has_free entries.old.entries ≡ true
-        → (sectors.new.items ≡ sectors.old.items) × (allocator.new ≡ allocator.old) }
-    ensures lengthened { has_free entries.old.entries ≡ false → OnOk result (Lengthens
-        1 sectors.old.items sectors.new.items allocator.old.tables allocator.new.tables) }
-    ensures chain { IsListedChain allocator.old.tables sectors.old.items
-        → OnOk result (IsListedChain allocator.new.tables sectors.new.items) }
-    ensures holds { IsTrue F.tells → (validation : Validation)
-        → HoldsDirectory validation (directory_of allocator.old sectors.old.items entries.old)
-        → OnOk result
-        (HoldsDirectory validation (directory_of allocator.new sectors.new.items entries.new)) }
-    ensures spares { IsTrue F.tells → Spares sectors.old.items allocator.old allocator.new }
-    ensures header { IsTrue F.tells
-        → KeepsDirectoryHeader (directory_of allocator.old sectors.old.items entries.old)
-        (directory_of allocator.new sectors.new.items entries.new) }
-    ensures count { IsTrue F.tells
-        → allocator.old.tables.version ≡ V4 → has_free entries.old.entries ≡ false
-        → OnOk result (word_at allocator.new.file.bytes 40 ≡ length sectors.new.items) }
-    ensures long { IsTrue F.tells → allocator.old.tables.version ≡ V4 → has_free entries.old.entries
-        ≡ false → OnOk result (44 ≤ length allocator.new.file.bytes) }
-    ensures slots { IsTrue F.tells → (validation : Validation)
-        → HoldsDirectory validation (directory_of allocator.old sectors.old.items entries.old)
-        → KeepsSlots (directory_of allocator.old sectors.old.items entries.old)
-        (directory_of allocator.new sectors.new.items entries.new) }
-    ensures limits { KeepsDirectoryLimits (directory_of allocator.old sectors.old.items entries.old)
-        (directory_of allocator.new sectors.new.items entries.new) }
-    ensures refused { IfErr result (DirectoryStopsShort (directory_of allocator.old
-        sectors.old.items entries.old) (directory_of allocator.new sectors.new.items entries.new)) }
+        ensures room { MakesRoom allocator.old allocator.new sectors.old.items sectors.new.items
+            entries.old.entries entries.new.entries result }
+        ensures grows { GrowsDirectory F.tells F.write_faults
+            (directory_of allocator.old sectors.old.items entries.old)
+            (directory_of allocator.new sectors.new.items entries.new) result }
+        ensures counted { CountsSectorsIfGrown F.tells allocator.old allocator.new sectors.new.items
+            entries.old.entries result }
     ensures err { IfErr result (ChangeRefused
         (IsDirectoryNotHeld (directory_of allocator.old sectors.old.items entries.old)) Unit
         (IsFullForEntry (directory_of allocator.old sectors.old.items entries.old)) Unit) }
-    ensures counts { IsTrue F.tells → CountsFailure
-        F.write_faults result allocator.old.file.failures allocator.new.file.failures }
 {
     if !entries.is_full() {
         return Ok(());
@@ -300,35 +219,20 @@ fn put<F: Medium, A: Heap + Clone>(
     kind: ObjType,
     moment: Timestamp,
 ) -> Result<u32, Error>
-    requires placed { ArePlaced (directory_of allocator.old sectors.now entries.old) }
-    requires parent { IsReachedStorage entries.old.cases entries.old.entries parent }
+        requires can_put { CanPutEntry parent kind
+            (directory_of allocator.old sectors.now entries.old) }
     requires prepared { IsInsertionOf
         (name_in insertion) entries.old.cases entries.old.entries parent insertion }
     requires valid { IsTrue (is_valid_name (name_in insertion)) }
-    requires kind { (kind ≡ Storage) ⊎ (kind ≡ Stream) }
-    requires free { has_free entries.old.entries ≡ true }
     ensures cases { entries.new.cases ≡ entries.old.cases }
     ensures tables { allocator.new.tables ≡ allocator.old.tables }
     ensures inserted { IfOk result (λ n. InsertsEntry entries.old.cases entries.old.entries
         entries.new.entries parent n (new_entry (name_in insertion) kind moment)) }
-    ensures balanced { OnOk result (KeepsBalance entries.old.entries entries.new.entries parent) }
-    ensures red_apart { OnOk result (StaysRedApart (directory_of allocator.old
-        sectors.now entries.old) (directory_of allocator.new sectors.now entries.new) parent) }
-    ensures holds { IsTrue F.tells → (validation : Validation)
-        → HoldsDirectory validation (directory_of allocator.old sectors.now entries.old)
-        → OnOk result
-        (HoldsDirectory validation (directory_of allocator.new sectors.now entries.new)) }
-    ensures spares { IsTrue F.tells → Spares sectors.now allocator.old allocator.new }
-    ensures header { IsTrue F.tells → (i : ℕ) → i < 512 → i < length allocator.old.file.bytes
-        → slice_index allocator.new.file.bytes i ≡ slice_index allocator.old.file.bytes i }
-    ensures slots { IsTrue F.tells → (validation : Validation)
-        → HoldsDirectory validation (directory_of allocator.old sectors.now entries.old)
-        → KeepsOtherSlots parent (directory_of allocator.old sectors.now entries.old)
-        (directory_of allocator.new sectors.now entries.new) }
-    ensures begun { allocator.new.file.begun ≡ true }
-    ensures err { IfErr result IsMediumError }
-    ensures counts { IsTrue F.tells → CountsFailure
-        F.write_faults result allocator.old.file.failures allocator.new.file.failures }
+        ensures shape { KeepsShape parent (directory_of allocator.old sectors.now entries.old)
+            (directory_of allocator.new sectors.now entries.new) result }
+        ensures writes { WritesEntries F.tells F.write_faults parent
+            (directory_of allocator.old sectors.now entries.old)
+            (directory_of allocator.new sectors.now entries.new) result }
 {
     let _fact = moment.value();
     let (number, touched) = entries.insert(insertion, parent, kind, moment);
@@ -356,28 +260,13 @@ pub(crate) fn insert_entry<F: Medium, A: Heap + Clone>(
     requires possible { CanInsert (directory_of allocator.old sectors.old.items entries.old) parent
         (chars name.now) kind }
     ensures above { IsLeastAbove sectors.new.items above.new }
-    ensures inserted { IfOk result (λ n.
-        InsertsObject (directory_of allocator.old sectors.old.items entries.old)
-        (directory_of allocator.new sectors.new.items entries.new)
-        parent n (chars name.now) kind moment) }
-    ensures kept { KeepsSectorsIfFree (directory_of allocator.old sectors.old.items entries.old)
-        (directory_of allocator.new sectors.new.items entries.new) }
-    ensures written { IsTrue F.tells → OnOk result
-        (WritesDirectory (directory_of allocator.old sectors.old.items entries.old)
-        (directory_of allocator.new sectors.new.items entries.new)) }
-    ensures spared { IsTrue F.tells
-        → SparesRest (directory_of allocator.old sectors.old.items entries.old)
-        (directory_of allocator.new sectors.new.items entries.new) parent }
+        ensures inserts { InsertsInDirectory F.tells F.write_faults parent (chars name.now) kind
+            moment (directory_of allocator.old sectors.old.items entries.old)
+            (directory_of allocator.new sectors.new.items entries.new) result }
     ensures limits { KeepsDirectoryLimits (directory_of allocator.old sectors.old.items entries.old)
         (directory_of allocator.new sectors.new.items entries.new) }
     ensures refused { IfErr result (DirectoryStopsShort (directory_of allocator.old
         sectors.old.items entries.old) (directory_of allocator.new sectors.new.items entries.new)) }
-    ensures err { IfErr result (ChangeRefused
-        (IsDirectoryNotHeld (directory_of allocator.old sectors.old.items entries.old))
-        (IsFullForEntry (directory_of allocator.old sectors.old.items entries.old)
-        → ⊥) (IsFullForEntry (directory_of allocator.old sectors.old.items entries.old)) Unit) }
-    ensures counts { IsTrue F.tells → CountsFailure
-        F.write_faults result allocator.old.file.failures allocator.new.file.failures }
 {
     check_room(allocator, sectors, *above, entries)?;
     let insertion = entries.prepare(heap, parent, name)?;

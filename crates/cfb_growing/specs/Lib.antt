@@ -7,3 +7,5 @@ pub use Rattle.cfb_access.specs.cfb_content
 pub use Rattle.cfb_resizing.specs.cfb_tables
 pub use Rattle.cfb_resizing.specs as cfb_resizing
 pub mod Putting
+pub mod Appending
+pub mod Growing

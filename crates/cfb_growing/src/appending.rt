@@ -1,6 +1,8 @@
 //! Bytes behind the end of a stream that lies in sectors then (MS-CFB 2.3): its chain goes on, or begins as it leaves its mini sectors, and what
 //! comes holds them from the first write on.
 ghost use Rattle.std.specs.Prelude.{◌≡◌, ◌+◌, ◌<◌, ◌≤◌, ◌⊎◌, ◌||◌, length, take, true, IsTrue, IfOk, IfErr, OnOk, OnErr};
+ghost use Rattle.cfb_growing.specs.Appending.{AppendsAll, AppendsPart, AppendsLong, TooLongRefused, AppendRefused, AppendPartRefused, PutsBehindOwn, PutsAtEnd, PuttingBehindRefused, PuttingAtEndRefused, CanAppendUpTo};
+ghost use Rattle.cfb_growing.specs.cfb_content.Turning.{IsStreamWithin};
 ghost use Rattle.cfb_format.specs.declared.validate.Validation.{Validation};
 ghost use Rattle.cfb_format.specs.Bytes.{max_stream_len};
 ghost use Rattle.cfb_format.specs.Content.{mini_stream_cutoff};
@@ -16,7 +18,7 @@ ghost use Rattle.cfb_growing.specs.cfb_mini.MiniSectors.{IsStill};
 ghost use Rattle.cfb_growing.specs.cfb_content.Changed.{MovesAlone, SparesOthers, StaysTidy, WasChanged};
 ghost use Rattle.cfb_growing.specs.cfb_content.Contents.{IsNotChangeable, IsStreamOf, IsTooLongFor, len_of};
 ghost use Rattle.cfb_growing.specs.cfb_content.Laws.{LacksNumbersFor};
-ghost use Rattle.cfb_resizing.specs.Turning.{Appends, KeepsAround, KeepsTablesTight, LeavesNoMinis, PutsBehind, StopsOrBegun, StopsOrIsFull};
+ghost use Rattle.cfb_resizing.specs.Turning.{Appends, KeepsAround, KeepsTablesTight, LeavesNoMinis, PutsBehind, StopsOrBegun, StopsOrIsFull, ChangesContent, ExtendsContent};
 
 use crate::growing::{len_in_sectors, take_the_rest};
 use cfb_access::{MiniAllocator, content_in, grow_listed_with, open_whole_chain};
@@ -34,29 +36,14 @@ fn put_behind<F: Medium, A: Heap + Clone>(
     entry: u32,
     bytes: &[u8],
 ) -> Result<u32, Error>
-    requires stream { IsStreamOf mini.old entry }
-    requires limit { len_of mini.old entry + length bytes.now
-        ≤ max_stream_len (version_of mini.old) }
+        requires size_fits { IsStreamWithin entry (len_of mini.old entry + length bytes.now)
+            mini.old }
     requires large { mini_stream_cutoff ≤ len_of mini.old entry }
     requires some { 0 < length bytes.now }
-    ensures appended { IsTrue F.tells → (validation : Validation) → IsChangeable validation mini.old
-        → IfOk result (λ start. Appends mini.old mini.new entry bytes.now start) }
-    ensures holds { IsTrue F.tells → (validation : Validation) → IsChangeable validation mini.old
-        → OnOk result (HoldsMini validation mini.new) }
-    ensures spares { IsTrue F.tells → SparesOthers mini.old mini.new entry }
-    ensures around { KeepsAround mini.old mini.new }
-    ensures tight { OnOk result (KeepsTablesTight mini.old mini.new) }
-    ensures snug_mini { IsTrue F.tells
-        → (validation : Validation) → IsChangeable validation mini.old → IsSnugMini mini.old
-        → OnOk result (IsSnugMini mini.new) }
-    ensures tidy { IsTrue F.tells → (validation : Validation) → IsChangeable validation mini.old
-        → OnOk result (StaysTidy mini.old mini.new) }
-    ensures refused { IfErr result (StopsOrBegun mini.old mini.new) }
-    ensures err { IfErr result (ChangeRefused (IsNotChangeable mini.old) Unit
-        (LacksNumbersFor mini.old entry (len_of mini.old entry + length bytes.now)) Unit) }
-    ensures counts { IsTrue F.tells
-        → CountsFailure (λ f. F.read_faults f || F.write_faults f) result
-        (table_of mini.old).file.failures (table_of mini.new).file.failures }
+        ensures put { PutsBehindOwn F.tells entry mini.old mini.new bytes.now result }
+        ensures extends { ExtendsContent F.tells (λ f. F.read_faults f || F.write_faults f) entry
+            mini.old mini.new result }
+        ensures refused { PuttingBehindRefused entry mini.old mini.new bytes.now result }
 {
     let (start, len) = content_in(mini, entry);
     let size = len + bytes.len() as u64;
@@ -76,31 +63,14 @@ fn put_at_end<F: Medium, A: Heap + Clone>(
     entry: u32,
     bytes: &[u8],
 ) -> Result<u32, Error>
-    requires stream { IsStreamOf mini.old entry }
-    requires limit { len_of mini.old entry + length bytes.now
-        ≤ max_stream_len (version_of mini.old) }
+        requires size_fits { IsStreamWithin entry (len_of mini.old entry + length bytes.now)
+            mini.old }
     requires large { mini_stream_cutoff ≤ len_of mini.old entry + length bytes.now }
     requires some { 0 < length bytes.now }
-    ensures put { IsTrue F.tells → (validation : Validation) → IsChangeable validation mini.old
-        → IfOk result (λ start. PutsBehind mini.old mini.new entry bytes.now start) }
-    ensures holds { IsTrue F.tells → (validation : Validation) → IsChangeable validation mini.old
-        → OnOk result (HoldsMini validation mini.new) }
-    ensures spares { IsTrue F.tells → SparesOthers mini.old mini.new entry }
-    ensures around { KeepsAround mini.old mini.new }
-    ensures tight { OnOk result (KeepsTablesTight mini.old mini.new) }
-    ensures snug_mini { IsTrue F.tells
-        → (validation : Validation) → IsChangeable validation mini.old → IsSnugMini mini.old
-        → OnOk result (IsSnugMini mini.new) }
-    ensures tidy { IsTrue F.tells → (validation : Validation) → IsChangeable validation mini.old
-        → OnOk result (StaysTidy mini.old mini.new) }
-    ensures refused { IsTrue F.tells → IfErr result (StopsOrBegun mini.old mini.new) }
-    ensures still { OnErr result (IsStill mini.old mini.new
-        ⊎ ((table_of mini.new).file.begun ≡ true)) }
-    ensures err { IfErr result (ChangeRefused (IsTrue F.tells → IsNotChangeable mini.old) Unit
-        (LacksNumbersFor mini.old entry (len_of mini.old entry + length bytes.now)) Unit) }
-    ensures counts { IsTrue F.tells
-        → CountsFailure (λ f. F.read_faults f || F.write_faults f) result
-        (table_of mini.old).file.failures (table_of mini.new).file.failures }
+        ensures put { PutsAtEnd F.tells entry mini.old mini.new bytes.now result }
+        ensures extends { ExtendsContent F.tells (λ f. F.read_faults f || F.write_faults f) entry
+            mini.old mini.new result }
+        ensures refused { PuttingAtEndRefused F.tells entry mini.old mini.new bytes.now result }
 {
     let (_, len) = content_in(mini, entry);
     if len >= MINI_STREAM_CUTOFF as u64 {
@@ -115,38 +85,16 @@ fn append_in_sectors<F: Medium, A: Heap + Clone>(
     entry: u32,
     bytes: &[u8],
 ) -> Result<(), Error>
-    requires stream { IsStreamOf mini.old entry }
-    requires limit { len_of mini.old entry + length bytes.now
-        ≤ max_stream_len (version_of mini.old) }
+        requires size_fits { IsStreamWithin entry (len_of mini.old entry + length bytes.now)
+            mini.old }
     requires large { mini_stream_cutoff ≤ len_of mini.old entry + length bytes.now }
     requires some { 0 < length bytes.now }
     requires enough { LacksNumbersFor mini.old entry
         (len_of mini.old entry + length bytes.now) → ⊥ }
-    ensures len { OnOk result (len_of mini.new entry ≡ len_of mini.old entry + length bytes.now) }
-    ensures content { IsTrue F.tells → (validation : Validation) → IsChangeable validation mini.old
-        → OnOk result (content_of mini.new (entry_at (entries_of mini.new) entry)
-        ≡ written (content_of mini.old (entry_at (entries_of mini.old) entry))
-        (len_of mini.old entry) bytes.now) }
-    ensures moves { MovesAlone mini.old mini.new entry }
-    ensures spares { IsTrue F.tells → SparesOthers mini.old mini.new entry }
-    ensures changed { IsTrue F.tells → OnOk result (WasChanged mini.old mini.new entry) }
-    ensures tight { OnOk result (KeepsTablesTight mini.old mini.new) }
-    ensures stays_full { IsTrue F.tells
-        → (validation : Validation) → IsChangeable validation mini.old
-        → LeavesNoMinis mini.old entry (len_of mini.old entry + length bytes.now)
-        → NoneFree (tables_in mini.old).fat → OnOk result (NoneFree (tables_in mini.new).fat) }
-    ensures minis_full { IsTrue F.tells
-        → (validation : Validation) → IsChangeable validation mini.old
-        → LeavesNoMinis mini.old entry (len_of mini.old entry + length bytes.now)
-        → free_count mini.old.minifat ≡ 0 → OnOk result (free_count mini.new.minifat ≡ 0) }
-    ensures refused { IsTrue F.tells → IfErr result (StopsOrBegun mini.old mini.new) }
-    ensures still { OnErr result (IsStill mini.old mini.new
-        ⊎ ((table_of mini.new).file.begun ≡ true)) }
-    ensures err { IfErr result
-        (ChangeRefused (IsTrue F.tells → IsNotChangeable mini.old) Unit ⊥ Unit) }
-    ensures counts { IsTrue F.tells
-        → CountsFailure (λ f. F.read_faults f || F.write_faults f) result
-        (table_of mini.old).file.failures (table_of mini.new).file.failures }
+        ensures appends { AppendsAll F.tells entry mini.old mini.new bytes.now result }
+        ensures changes { ChangesContent F.tells (λ f. F.read_faults f || F.write_faults f) entry
+            mini.old mini.new result }
+        ensures refused { AppendRefused F.tells mini.old mini.new result }
 {
     let (_, len) = content_in(mini, entry);
     if !mini.directory().is_placed() {
@@ -164,35 +112,13 @@ pub(crate) fn append_up_to<F: Medium, A: Heap + Clone>(
     bytes: &[u8],
     size: u64,
 ) -> Result<usize, Error>
-    requires stream { IsStreamOf mini.old entry }
-    requires longer { len_of mini.old entry < size }
-    requires within { size ≤ len_of mini.old entry + length bytes.now }
-    requires large { mini_stream_cutoff ≤ size }
-    requires limit { len_of mini.old entry + length bytes.now
-        ≤ max_stream_len (version_of mini.old) }
-    requires enough { LacksNumbersFor mini.old entry size → ⊥ }
-    ensures count { IfOk result (λ n. (0 < n) × (n ≤ length bytes.now)) }
-    ensures len { IfOk result (λ n. len_of mini.new entry ≡ len_of mini.old entry + n) }
-    ensures content { IsTrue F.tells → (validation : Validation) → IsChangeable validation mini.old
-        → IfOk result (λ n. content_of mini.new (entry_at (entries_of mini.new) entry)
-        ≡ written (content_of mini.old (entry_at (entries_of mini.old) entry))
-        (len_of mini.old entry) (take n bytes.now)) }
-    ensures moves { MovesAlone mini.old mini.new entry }
-    ensures spares { IsTrue F.tells → SparesOthers mini.old mini.new entry }
-    ensures changed { IsTrue F.tells → OnOk result (WasChanged mini.old mini.new entry) }
-    ensures tight { OnOk result (KeepsTablesTight mini.old mini.new) }
-    ensures stays_full { IsTrue F.tells
-        → (validation : Validation) → IsChangeable validation mini.old
-        → LeavesNoMinis mini.old entry (len_of mini.old entry + length bytes.now)
-        → NoneFree (tables_in mini.old).fat → OnOk result (NoneFree (tables_in mini.new).fat) }
-    ensures refused { IsTrue F.tells → IfErr result (StopsOrIsFull mini.old mini.new) }
-    ensures still { OnErr result (IsStill mini.old mini.new
-        ⊎ ((table_of mini.new).file.begun ≡ true)) }
-    ensures err { IfErr result
-        (ChangeRefused (IsTrue F.tells → IsNotChangeable mini.old) Unit ⊥ Unit) }
-    ensures counts { IsTrue F.tells
-        → CountsFailure (λ f. F.read_faults f || F.write_faults f) result
-        (table_of mini.old).file.failures (table_of mini.new).file.failures }
+        requires size_fits { IsStreamWithin entry (len_of mini.old entry + length bytes.now)
+            mini.old }
+        requires can_append { CanAppendUpTo entry size mini.old bytes.now }
+        ensures appends { AppendsPart F.tells entry mini.old mini.new bytes.now result }
+        ensures changes { ChangesContent F.tells (λ f. F.read_faults f || F.write_faults f) entry
+            mini.old mini.new result }
+        ensures refused { AppendPartRefused F.tells mini.old mini.new result }
 {
     let (_, len) = content_in(mini, entry);
     let count = (size - len) as usize;
@@ -207,34 +133,15 @@ pub(crate) fn append_long<F: Medium, A: Heap + Clone>(
     entry: u32,
     bytes: &[u8],
 ) -> Result<usize, Error>
-    requires stream { IsStreamOf mini.old entry }
+        requires size_fits { IsStreamWithin entry (len_of mini.old entry + length bytes.now)
+            mini.old }
     requires some { 0 < length bytes.now }
     requires large { mini_stream_cutoff ≤ len_of mini.old entry }
-    requires limit { len_of mini.old entry + length bytes.now
-        ≤ max_stream_len (version_of mini.old) }
-    ensures count { IfOk result (λ n. (0 < n) × (n ≤ length bytes.now)) }
-    ensures len { IfOk result (λ n. len_of mini.new entry ≡ len_of mini.old entry + n) }
-    ensures content { IsTrue F.tells → (validation : Validation) → IsChangeable validation mini.old
-        → IfOk result (λ n. content_of mini.new (entry_at (entries_of mini.new) entry)
-        ≡ written (content_of mini.old (entry_at (entries_of mini.old) entry))
-        (len_of mini.old entry) (take n bytes.now)) }
-    ensures moves { MovesAlone mini.old mini.new entry }
-    ensures spares { IsTrue F.tells → SparesOthers mini.old mini.new entry }
-    ensures changed { IsTrue F.tells → OnOk result (WasChanged mini.old mini.new entry) }
-    ensures tight { OnOk result (KeepsTablesTight mini.old mini.new) }
-    ensures stays_full { IsTrue F.tells
-        → (validation : Validation) → IsChangeable validation mini.old
-        → NoneFree (tables_in mini.old).fat → OnOk result (NoneFree (tables_in mini.new).fat) }
-    ensures refused { IsTrue F.tells → (validation : Validation) → HoldsMini validation mini.old
-        → IfErr result (StopsOrIsFull mini.old mini.new) }
-    ensures still { OnErr result (IsStill mini.old mini.new
-        ⊎ ((table_of mini.new).file.begun ≡ true)) }
-    ensures err { IfErr result (ChangeRefused (IsTrue F.tells → IsNotChangeable mini.old) Unit
-        ((validation : Validation) → HoldsMini validation mini.old
-        → IsTooLongFor mini.old entry (len_of mini.old entry + 1)) Unit) }
-    ensures counts { IsTrue F.tells
-        → CountsFailure (λ f. F.read_faults f || F.write_faults f) result
-        (table_of mini.old).file.failures (table_of mini.new).file.failures }
+        ensures appends { AppendsLong F.tells entry mini.old mini.new bytes.now result }
+        ensures changes { ChangesContent F.tells (λ f. F.read_faults f || F.write_faults f) entry
+            mini.old mini.new result }
+        ensures refused { TooLongRefused F.tells entry mini.old mini.new (len_of mini.old entry + 1)
+            result }
 {
     let (_, len) = content_in(mini, entry);
     let wanted = len + bytes.len() as u64;
@@ -253,38 +160,15 @@ pub(crate) fn append_long_all<F: Medium, A: Heap + Clone>(
     entry: u32,
     bytes: &[u8],
 ) -> Result<(), Error>
-    requires stream { IsStreamOf mini.old entry }
+        requires size_fits { IsStreamWithin entry (len_of mini.old entry + length bytes.now)
+            mini.old }
     requires some { 0 < length bytes.now }
     requires large { mini_stream_cutoff ≤ len_of mini.old entry + length bytes.now }
-    requires limit { len_of mini.old entry + length bytes.now
-        ≤ max_stream_len (version_of mini.old) }
-    ensures len { OnOk result (len_of mini.new entry ≡ len_of mini.old entry + length bytes.now) }
-    ensures content { IsTrue F.tells → (validation : Validation) → IsChangeable validation mini.old
-        → OnOk result (content_of mini.new (entry_at (entries_of mini.new) entry)
-        ≡ written (content_of mini.old (entry_at (entries_of mini.old) entry))
-        (len_of mini.old entry) bytes.now) }
-    ensures moves { MovesAlone mini.old mini.new entry }
-    ensures spares { IsTrue F.tells → SparesOthers mini.old mini.new entry }
-    ensures changed { IsTrue F.tells → OnOk result (WasChanged mini.old mini.new entry) }
-    ensures tight { OnOk result (KeepsTablesTight mini.old mini.new) }
-    ensures stays_full { IsTrue F.tells
-        → (validation : Validation) → IsChangeable validation mini.old
-        → LeavesNoMinis mini.old entry (len_of mini.old entry + length bytes.now)
-        → NoneFree (tables_in mini.old).fat → OnOk result (NoneFree (tables_in mini.new).fat) }
-    ensures minis_full { IsTrue F.tells
-        → (validation : Validation) → IsChangeable validation mini.old
-        → LeavesNoMinis mini.old entry (len_of mini.old entry + length bytes.now)
-        → free_count mini.old.minifat ≡ 0 → OnOk result (free_count mini.new.minifat ≡ 0) }
-    ensures refused { IsTrue F.tells → (validation : Validation) → HoldsMini validation mini.old
-        → IfErr result (StopsOrIsFull mini.old mini.new) }
-    ensures still { OnErr result (IsStill mini.old mini.new
-        ⊎ ((table_of mini.new).file.begun ≡ true)) }
-    ensures err { IfErr result (ChangeRefused (IsTrue F.tells → IsNotChangeable mini.old) Unit
-        ((validation : Validation) → HoldsMini validation mini.old
-        → IsTooLongFor mini.old entry (len_of mini.old entry + length bytes.now)) Unit) }
-    ensures counts { IsTrue F.tells
-        → CountsFailure (λ f. F.read_faults f || F.write_faults f) result
-        (table_of mini.old).file.failures (table_of mini.new).file.failures }
+        ensures appends { AppendsAll F.tells entry mini.old mini.new bytes.now result }
+        ensures changes { ChangesContent F.tells (λ f. F.read_faults f || F.write_faults f) entry
+            mini.old mini.new result }
+        ensures refused { TooLongRefused F.tells entry mini.old mini.new
+            (len_of mini.old entry + length bytes.now) result }
 {
     let (_, len) = content_in(mini, entry);
     let wanted = len + bytes.len() as u64;

@@ -1,5 +1,8 @@
 //! How far a stream can grow with the numbers that are left, and its growth as far as that.
 ghost use Rattle.std.specs.Prelude.{◌≡◌, ◌+◌, ◌-◌, ◌<◌, ◌≤◌, ◌⊎◌, ◌||◌, ℕ, length, true, IsTrue, IfOk, IfErr, OnOk, OnErr};
+ghost use Rattle.cfb_growing.specs.Growing.{TakesTheRest, GrowsTo, GrowsToAll};
+ghost use Rattle.cfb_growing.specs.Appending.{TooLongRefused};
+ghost use Rattle.cfb_growing.specs.cfb_content.Turning.{IsStreamWithin};
 ghost use Rattle.cfb_format.specs.declared.validate.Validation.{Validation};
 ghost use Rattle.cfb_format.specs.Bytes.{max_stream_len, sector_len};
 ghost use Rattle.cfb_format.specs.Content.{mini_stream_cutoff};
@@ -13,7 +16,7 @@ ghost use Rattle.cfb_growing.specs.cfb_mini.MiniSectors.{IsStill};
 ghost use Rattle.cfb_growing.specs.cfb_content.Changed.{MovesAlone, SparesOthers, WasChanged};
 ghost use Rattle.cfb_growing.specs.cfb_content.Contents.{IsNotChangeable, IsStreamOf, IsTooLongFor, len_of};
 ghost use Rattle.cfb_growing.specs.cfb_content.Laws.{LacksNumbersFor};
-ghost use Rattle.cfb_resizing.specs.Turning.{KeepsAround, KeepsTablesTight, ResizesContent, StopsOrIsFull};
+ghost use Rattle.cfb_resizing.specs.Turning.{KeepsAround, KeepsTablesTight, ResizesContent, StopsOrIsFull, ChangesContent};
 
 use cfb_access::{MiniAllocator, content_in, whole_chain_len, whole_mini_chain};
 use cfb_format::consts::{END_OF_CHAIN, FREE_SECTOR, MINI_SECTOR_LEN, MINI_STREAM_CUTOFF};
@@ -161,17 +164,8 @@ fn take_minis_left<F: Medium, A: Heap + Clone>(
     requires stream { IsStreamOf mini.old entry }
     requires some { 0 < count }
     requires few { IsTooFewFor mini.old count }
-    ensures spares { IsTrue F.tells → SparesOthers mini.old mini.new entry }
-    ensures around { KeepsAround mini.old mini.new }
+        ensures takes { TakesTheRest F.tells F.write_faults entry mini.old mini.new result }
     ensures full { OnOk result (IsFullOfMiniSectors (parts_of mini.new)) }
-    ensures begun { OnOk result ((mini.new ≡ mini.old) ⊎ ((table_of mini.new).file.begun ≡ true)) }
-    ensures refused { (validation : Validation) → HoldsMini validation mini.old
-        → IfErr result (StopsOrIsFull mini.old mini.new) }
-    ensures still { OnErr result (IsStill mini.old mini.new
-        ⊎ ((table_of mini.new).file.begun ≡ true)) }
-    ensures err { IfErr result (ChangeRefused (IsNotChangeable mini.old) Unit Unit Unit) }
-    ensures counts { IsTrue F.tells → CountsFailure F.write_faults result
-        (table_of mini.old).file.failures (table_of mini.new).file.failures }
 {
     let left = minis_left(mini);
     if left == 0 {
@@ -189,17 +183,8 @@ fn take_sectors_left<F: Medium, A: Heap + Clone>(
 ) -> Result<(), Error>
     requires stream { IsStreamOf mini.old entry }
     requires few { IsTooFew (tables_in mini.old) needed }
-    ensures spares { IsTrue F.tells → SparesOthers mini.old mini.new entry }
-    ensures around { KeepsAround mini.old mini.new }
+        ensures takes { TakesTheRest F.tells F.write_faults entry mini.old mini.new result }
     ensures full { OnOk result (AreFullTables (tables_in mini.new)) }
-    ensures begun { OnOk result ((mini.new ≡ mini.old) ⊎ ((table_of mini.new).file.begun ≡ true)) }
-    ensures refused { (validation : Validation) → HoldsMini validation mini.old
-        → IfErr result (StopsOrIsFull mini.old mini.new) }
-    ensures still { OnErr result (IsStill mini.old mini.new
-        ⊎ ((table_of mini.new).file.begun ≡ true)) }
-    ensures err { IfErr result (ChangeRefused (IsNotChangeable mini.old) Unit Unit Unit) }
-    ensures counts { IsTrue F.tells → CountsFailure F.write_faults result
-        (table_of mini.old).file.failures (table_of mini.new).file.failures }
 {
     let allocator = mini.allocator_mut();
     let rest = allocator.takable(needed);
@@ -216,18 +201,9 @@ pub(crate) fn take_the_rest<F: Medium, A: Heap + Clone>(
     requires stream { IsStreamOf mini.old entry }
     requires longer { len_of mini.old entry < wanted }
     requires stuck { LacksNumbersFor mini.old entry wanted }
-    ensures spares { IsTrue F.tells → SparesOthers mini.old mini.new entry }
-    ensures around { KeepsAround mini.old mini.new }
+        ensures takes { TakesTheRest F.tells F.write_faults entry mini.old mini.new result }
     ensures full { OnOk result (IsFullOfMiniSectors (parts_of mini.new)
         ⊎ AreFullTables (tables_in mini.new)) }
-    ensures begun { OnOk result ((mini.new ≡ mini.old) ⊎ ((table_of mini.new).file.begun ≡ true)) }
-    ensures refused { (validation : Validation) → HoldsMini validation mini.old
-        → IfErr result (StopsOrIsFull mini.old mini.new) }
-    ensures still { OnErr result (IsStill mini.old mini.new
-        ⊎ ((table_of mini.new).file.begun ≡ true)) }
-    ensures err { IfErr result (ChangeRefused (IsNotChangeable mini.old) Unit Unit Unit) }
-    ensures counts { IsTrue F.tells → CountsFailure F.write_faults result
-        (table_of mini.old).file.failures (table_of mini.new).file.failures }
 {
     if wanted < MINI_STREAM_CUTOFF as u64 {
         let count = wanted.div_ceil(MINI_SECTOR_LEN as u64) as usize;
@@ -248,28 +224,13 @@ pub fn grow_content<F: Medium, A: Heap + Clone>(
     entry: u32,
     wanted: u64,
 ) -> Result<u64, Error>
-    requires stream { IsStreamOf mini.old entry }
+        requires size_fits { IsStreamWithin entry wanted mini.old }
     requires longer { len_of mini.old entry < wanted }
-    requires limit { wanted ≤ max_stream_len (version_of mini.old) }
-    ensures len { IfOk result (λ len.
-        (len_of mini.new entry ≡ len) × (len_of mini.old entry < len) × (len ≤ wanted)) }
-    ensures content { IsTrue F.tells
-        → OnOk result (ResizesContent mini.old mini.new entry (len_of mini.new entry)) }
-    ensures moves { MovesAlone mini.old mini.new entry }
-    ensures spares { IsTrue F.tells → SparesOthers mini.old mini.new entry }
-    ensures changed { IsTrue F.tells → OnOk result (WasChanged mini.old mini.new entry) }
-    ensures tight { OnOk result (KeepsTablesTight mini.old mini.new) }
-    ensures begun { OnOk result ((table_of mini.new).file.begun ≡ true) }
-    ensures refused { IsTrue F.tells → (validation : Validation) → HoldsMini validation mini.old
-        → IfErr result (StopsOrIsFull mini.old mini.new) }
-    ensures still { OnErr result (IsStill mini.old mini.new
-        ⊎ ((table_of mini.new).file.begun ≡ true)) }
-    ensures err { IfErr result (ChangeRefused (IsTrue F.tells → IsNotChangeable mini.old) Unit
-        ((validation : Validation) → HoldsMini validation mini.old
-        → IsTooLongFor mini.old entry (len_of mini.old entry + 1)) Unit) }
-    ensures counts { IsTrue F.tells
-        → CountsFailure (λ f. F.read_faults f || F.write_faults f) result
-        (table_of mini.old).file.failures (table_of mini.new).file.failures }
+        ensures grown { GrowsTo F.tells entry wanted mini.old mini.new result }
+        ensures changes { ChangesContent F.tells (λ f. F.read_faults f || F.write_faults f) entry
+            mini.old mini.new result }
+        ensures refused { TooLongRefused F.tells entry mini.old mini.new (len_of mini.old entry + 1)
+            result }
 {
     let (_, len) = content_in(mini, entry);
     if !mini.directory().is_placed() {
@@ -296,26 +257,12 @@ pub(crate) fn grow_to<F: Medium, A: Heap + Clone>(
     entry: u32,
     wanted: u64,
 ) -> Result<(), Error>
-    requires stream { IsStreamOf mini.old entry }
+        requires size_fits { IsStreamWithin entry wanted mini.old }
     requires longer { len_of mini.old entry < wanted }
-    requires limit { wanted ≤ max_stream_len (version_of mini.old) }
-    ensures len { OnOk result (len_of mini.new entry ≡ wanted) }
-    ensures content { IsTrue F.tells → OnOk result (ResizesContent mini.old mini.new entry wanted) }
-    ensures moves { MovesAlone mini.old mini.new entry }
-    ensures spares { IsTrue F.tells → SparesOthers mini.old mini.new entry }
-    ensures changed { IsTrue F.tells → OnOk result (WasChanged mini.old mini.new entry) }
-    ensures tight { OnOk result (KeepsTablesTight mini.old mini.new) }
-    ensures begun { OnOk result ((table_of mini.new).file.begun ≡ true) }
-    ensures refused { IsTrue F.tells → (validation : Validation) → HoldsMini validation mini.old
-        → IfErr result (StopsOrIsFull mini.old mini.new) }
-    ensures still { OnErr result (IsStill mini.old mini.new
-        ⊎ ((table_of mini.new).file.begun ≡ true)) }
-    ensures err { IfErr result (ChangeRefused (IsTrue F.tells → IsNotChangeable mini.old) Unit
-        ((validation : Validation) → HoldsMini validation mini.old
-        → IsTooLongFor mini.old entry wanted) Unit) }
-    ensures counts { IsTrue F.tells
-        → CountsFailure (λ f. F.read_faults f || F.write_faults f) result
-        (table_of mini.old).file.failures (table_of mini.new).file.failures }
+        ensures grown { GrowsToAll F.tells entry wanted mini.old mini.new result }
+        ensures changes { ChangesContent F.tells (λ f. F.read_faults f || F.write_faults f) entry
+            mini.old mini.new result }
+        ensures refused { TooLongRefused F.tells entry mini.old mini.new wanted result }
 {
     if !mini.directory().is_placed() {
         return Err(unplaced(entry));

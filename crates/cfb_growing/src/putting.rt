@@ -1,5 +1,7 @@
 //! Bytes that are put into a stream inside its length, or behind its end, where it grows as far as there are numbers.
 ghost use Rattle.std.specs.Prelude.{◌≡◌, ◌+◌, ◌<◌, ◌≤◌, ◌⊎◌, ◌||◌, length, max, take, true, IsTrue, IfOk, IfErr, OnOk, OnErr};
+ghost use Rattle.cfb_growing.specs.Appending.{AppendsAll, AppendsPart, TooLongRefused, PutsSome, PutsContent, PuttingRefused};
+ghost use Rattle.cfb_growing.specs.cfb_content.Turning.{IsStreamWithin};
 ghost use Rattle.cfb_format.specs.declared.validate.Validation.{Validation};
 ghost use Rattle.cfb_format.specs.Bytes.{max_stream_len};
 ghost use Rattle.cfb_format.specs.Full.{free_count};
@@ -12,7 +14,7 @@ ghost use Rattle.cfb_growing.specs.cfb_mini_sectors.State.{HoldsMini, IsChangeab
 ghost use Rattle.cfb_growing.specs.cfb_mini.MiniSectors.{IsStill};
 ghost use Rattle.cfb_growing.specs.cfb_content.Changed.{MovesAlone, SparesOthers, WasChanged};
 ghost use Rattle.cfb_growing.specs.cfb_content.Contents.{IsNotChangeable, IsStreamOf, IsTooLongFor, len_of};
-ghost use Rattle.cfb_resizing.specs.Turning.{KeepsTablesTight, LeavesNoMinis, StopsOrIsFull};
+ghost use Rattle.cfb_resizing.specs.Turning.{KeepsTablesTight, LeavesNoMinis, StopsOrIsFull, ChangesContent};
 ghost use Rattle.cfb_growing.specs.Putting.{ChangesFileAlone};
 
 use crate::appending::{append_long, append_long_all, append_up_to};
@@ -41,34 +43,14 @@ fn append_content<F: Medium, A: Heap + Clone>(
     entry: u32,
     bytes: &[u8],
 ) -> Result<usize, Error>
-    requires stream { IsStreamOf mini.old entry }
+        requires size_fits { IsStreamWithin entry (len_of mini.old entry + length bytes.now)
+            mini.old }
     requires some { 0 < length bytes.now }
-    requires limit { len_of mini.old entry + length bytes.now
-        ≤ max_stream_len (version_of mini.old) }
-    ensures count { IfOk result (λ n. (0 < n) × (n ≤ length bytes.now)) }
-    ensures len { IfOk result (λ n. len_of mini.new entry ≡ len_of mini.old entry + n) }
-    ensures content { IsTrue F.tells → (validation : Validation) → IsChangeable validation mini.old
-        → IfOk result (λ n. content_of mini.new (entry_at (entries_of mini.new) entry)
-        ≡ written (content_of mini.old (entry_at (entries_of mini.old) entry))
-        (len_of mini.old entry) (take n bytes.now)) }
-    ensures moves { MovesAlone mini.old mini.new entry }
-    ensures spares { IsTrue F.tells → SparesOthers mini.old mini.new entry }
-    ensures changed { IsTrue F.tells → OnOk result (WasChanged mini.old mini.new entry) }
-    ensures tight { OnOk result (KeepsTablesTight mini.old mini.new) }
-    ensures stays_full { IsTrue F.tells
-        → (validation : Validation) → IsChangeable validation mini.old
-        → LeavesNoMinis mini.old entry (len_of mini.old entry + length bytes.now)
-        → NoneFree (tables_in mini.old).fat → OnOk result (NoneFree (tables_in mini.new).fat) }
-    ensures refused { IsTrue F.tells → (validation : Validation) → HoldsMini validation mini.old
-        → IfErr result (StopsOrIsFull mini.old mini.new) }
-    ensures still { OnErr result (IsStill mini.old mini.new
-        ⊎ ((table_of mini.new).file.begun ≡ true)) }
-    ensures err { IfErr result (ChangeRefused (IsTrue F.tells → IsNotChangeable mini.old) Unit
-        ((validation : Validation) → HoldsMini validation mini.old
-        → IsTooLongFor mini.old entry (len_of mini.old entry + 1)) Unit) }
-    ensures counts { IsTrue F.tells
-        → CountsFailure (λ f. F.read_faults f || F.write_faults f) result
-        (table_of mini.old).file.failures (table_of mini.new).file.failures }
+        ensures appends { AppendsPart F.tells entry mini.old mini.new bytes.now result }
+        ensures changes { ChangesContent F.tells (λ f. F.read_faults f || F.write_faults f) entry
+            mini.old mini.new result }
+        ensures refused { TooLongRefused F.tells entry mini.old mini.new (len_of mini.old entry + 1)
+            result }
 {
     let (_, len) = content_in(mini, entry);
     if len >= MINI_STREAM_CUTOFF as u64 {
@@ -101,35 +83,13 @@ pub fn put_content<F: Medium, A: Heap + Clone>(
     at: u64,
     bytes: &[u8],
 ) -> Result<usize, Error>
-    requires stream { IsStreamOf mini.old entry }
+        requires size_fits { IsStreamWithin entry (at + length bytes.now) mini.old }
     requires inside { at ≤ len_of mini.old entry }
-    requires limit { at + length bytes.now ≤ max_stream_len (version_of mini.old) }
-    ensures count { IfOk result (λ n. n ≤ length bytes.now) }
-    ensures some { 0 < length bytes.now → IfOk result (λ n. 0 < n) }
-    ensures none { length bytes.now ≡ 0 → OnErr result ⊥ × (mini.new ≡ mini.old) }
-    ensures len { IfOk result (λ n. len_of mini.new entry ≡ max (len_of mini.old entry) (at + n)) }
-    ensures content { IsTrue F.tells → (validation : Validation) → IsChangeable validation mini.old
-        → IfOk result (λ n. content_of mini.new (entry_at (entries_of mini.new) entry) ≡ written
-        (content_of mini.old (entry_at (entries_of mini.old) entry)) at (take n bytes.now)) }
-    ensures moves { MovesAlone mini.old mini.new entry }
-    ensures spares { IsTrue F.tells → SparesOthers mini.old mini.new entry }
-    ensures changed { IsTrue F.tells → OnOk result (WasChanged mini.old mini.new entry) }
-    ensures tight { OnOk result (KeepsTablesTight mini.old mini.new) }
-    ensures stays_full { IsTrue F.tells → (validation : Validation)
-        → IsChangeable validation mini.old → LeavesNoMinis mini.old entry (at + length bytes.now)
-        → NoneFree (tables_in mini.old).fat → OnOk result (NoneFree (tables_in mini.new).fat) }
-    ensures within { (at < len_of mini.old entry) ⊎ (length bytes.now ≡ 0)
-        → ChangesFileAlone mini.old mini.new }
-    ensures refused { IsTrue F.tells → (validation : Validation) → HoldsMini validation mini.old
-        → IfErr result (StopsOrIsFull mini.old mini.new) }
-    ensures still { OnErr result (IsStill mini.old mini.new
-        ⊎ ((table_of mini.new).file.begun ≡ true)) }
-    ensures err { IfErr result (ChangeRefused (IsTrue F.tells → IsNotChangeable mini.old) Unit
-        ((len_of mini.old entry ≤ at) × ((validation : Validation) → HoldsMini validation mini.old
-        → IsTooLongFor mini.old entry (len_of mini.old entry + 1))) Unit) }
-    ensures counts { IsTrue F.tells
-        → CountsFailure (λ f. F.read_faults f || F.write_faults f) result
-        (table_of mini.old).file.failures (table_of mini.new).file.failures }
+        ensures some { PutsSome mini.old mini.new bytes.now result }
+        ensures put { PutsContent F.tells entry at mini.old mini.new bytes.now result }
+        ensures changes { ChangesContent F.tells (λ f. F.read_faults f || F.write_faults f) entry
+            mini.old mini.new result }
+        ensures refused { PuttingRefused F.tells entry at mini.old mini.new result }
 {
     if bytes.is_empty() {
         return Ok(0);
@@ -152,37 +112,14 @@ pub fn append_all<F: Medium, A: Heap + Clone>(
     entry: u32,
     bytes: &[u8],
 ) -> Result<(), Error>
-    requires stream { IsStreamOf mini.old entry }
-    requires limit { len_of mini.old entry + length bytes.now
-        ≤ max_stream_len (version_of mini.old) }
-    ensures len { OnOk result (len_of mini.new entry ≡ len_of mini.old entry + length bytes.now) }
+        requires size_fits { IsStreamWithin entry (len_of mini.old entry + length bytes.now)
+            mini.old }
+        ensures appends { AppendsAll F.tells entry mini.old mini.new bytes.now result }
     ensures none { length bytes.now ≡ 0 → OnErr result ⊥ × (mini.new ≡ mini.old) }
-    ensures content { IsTrue F.tells → (validation : Validation) → IsChangeable validation mini.old
-        → OnOk result (content_of mini.new (entry_at (entries_of mini.new) entry)
-        ≡ written (content_of mini.old (entry_at (entries_of mini.old) entry))
-        (len_of mini.old entry) bytes.now) }
-    ensures moves { MovesAlone mini.old mini.new entry }
-    ensures spares { IsTrue F.tells → SparesOthers mini.old mini.new entry }
-    ensures changed { IsTrue F.tells → OnOk result (WasChanged mini.old mini.new entry) }
-    ensures tight { OnOk result (KeepsTablesTight mini.old mini.new) }
-    ensures stays_full { IsTrue F.tells
-        → (validation : Validation) → IsChangeable validation mini.old
-        → LeavesNoMinis mini.old entry (len_of mini.old entry + length bytes.now)
-        → NoneFree (tables_in mini.old).fat → OnOk result (NoneFree (tables_in mini.new).fat) }
-    ensures minis_full { IsTrue F.tells
-        → (validation : Validation) → IsChangeable validation mini.old
-        → LeavesNoMinis mini.old entry (len_of mini.old entry + length bytes.now)
-        → free_count mini.old.minifat ≡ 0 → OnOk result (free_count mini.new.minifat ≡ 0) }
-    ensures refused { IsTrue F.tells → (validation : Validation) → HoldsMini validation mini.old
-        → IfErr result (StopsOrIsFull mini.old mini.new) }
-    ensures still { OnErr result (IsStill mini.old mini.new
-        ⊎ ((table_of mini.new).file.begun ≡ true)) }
-    ensures err { IfErr result (ChangeRefused (IsTrue F.tells → IsNotChangeable mini.old) Unit
-        ((validation : Validation) → HoldsMini validation mini.old
-        → IsTooLongFor mini.old entry (len_of mini.old entry + length bytes.now)) Unit) }
-    ensures counts { IsTrue F.tells
-        → CountsFailure (λ f. F.read_faults f || F.write_faults f) result
-        (table_of mini.old).file.failures (table_of mini.new).file.failures }
+        ensures changes { ChangesContent F.tells (λ f. F.read_faults f || F.write_faults f) entry
+            mini.old mini.new result }
+        ensures refused { TooLongRefused F.tells entry mini.old mini.new
+            (len_of mini.old entry + length bytes.now) result }
 {
     if bytes.is_empty() {
         return Ok(());

@@ -16,3 +16,5 @@ pub use Rattle.cfb_mini_changes.specs.MiniSectors
 pub use Rattle.cfb_mini_changes.specs.Changing
 pub mod MiniRuns
 pub mod Lending
+pub mod Reading
+pub mod Changing

@@ -1,6 +1,16 @@
 //! The allocator of mini sectors (MS-CFB 2.4): mini chains are begun, extended, cut and freed, in the MiniFAT, in the mini stream and in
 //! the root's entry.
 ghost use Rattle.std.specs.Prelude.{◌≡◌, ◌≢◌, ◌↔◌, ◌⊎◌, ℕ, ◌+◌, ◌-◌, ◌/◌, ◌%◌, ◌^◌, ◌<◌, ◌≤◌, ◌∷◌, ◌++◌, List, [], Option, length, map, max, min, chars, take, drop, true, false, Contains, IsTrue, MatchOption, vec_len, option_map, unwrap_or, IfOk, IfErr, IfSome, IsErrAnd, OnOk, OnErr};
+ghost use Rattle.cfb_mini.specs.Changing.{WritesInMini, MiniWriteRefused, ChangesEntries, HoldsMiniChanged, TakesLonger, GrowsIfAny, TakesMiniChain, GrowsChainIfAny, HoldsMiniChain, ChainTakingRefused, GivesBackIfAny, FreesMinis, HoldsMinisFreed, GivesChainRoom, FreesMinisAfter, HoldsMinisFreedAfter};
+ghost use Rattle.cfb_mini.specs.Reading.{OnlyReadsMinis, MiniReadRefused};
+ghost use Rattle.cfb_mini_changes.specs.Settling.{ChangesMiniStream, HoldsLonger, TakingRefused, CutsMinis, HoldsShorter, CuttingRefused};
+ghost use Rattle.cfb_mini.specs.cfb_directory.Changing.{RemovesSafely, SetsEntryFields, FieldsRefused, InsertsInDirectory};
+ghost use Rattle.cfb_mini.specs.cfb_alloc.Writing.{FlushesFile};
+ghost use Rattle.cfb_mini.specs.cfb_alloc.Freeing.{FreesTheChain};
+ghost use Rattle.cfb_mini.specs.cfb_alloc.Taking.{TakesOneForMini, BeginsChain, ExtendsChain};
+ghost use Rattle.cfb_mini.specs.cfb_tables.Taking.{TakesNumber};
+ghost use Rattle.cfb_sectors.specs.Writing.{PutsBytes};
+ghost use Rattle.cfb_sectors.specs.Reading.{ReadsBytesFrom};
 ghost use Rattle.cfb_format.specs.declared.objtype.ObjType.TheVariants.{Root};
 ghost use Rattle.cfb_format.specs.declared.validate.Validation.{Validation};
 ghost use Rattle.cfb_format.specs.Bytes.{end_of_chain, max_regular_sector, no_stream, sector_len, word_at};
@@ -443,22 +453,16 @@ impl<F: ReadMedium, A: Heap> MiniAllocator<F, A> {
     /// mini stream has no such mini sector or the file ends before the byte, and `Medium` where the medium fails.
     pub fn read_mini(&mut self, mini: u32, offset: usize, into: &mut [u8]) -> Result<usize, Error>
         requires { offset ≤ mini_sector_len }
-        ensures kept { IsStill self.old self.new }
-        ensures count { IfOk result (λ n. n ≡ min (min (length into.old) (mini_sector_len
-            - offset)) ((table_of self.old).file.len - (mini_place self.old mini + offset))) }
-        ensures ok { IsTrue F.tells → IfOk result (λ n. take n into.new
-            ≡ part (bytes_of self.old) (mini_place self.old mini + offset) n) }
-        ensures rest { IfOk result (λ n. drop n into.new ≡ drop n into.old) }
-        ensures there { IfOk result (λ n. 0 < n → HasMiniByte self.old mini offset) }
-        ensures cut { 0 < min (length into.old) (mini_sector_len - offset)
-            → (HasMiniByte self.old mini offset → ⊥) → IsErrAnd result IsInvalidData }
-        ensures none { min (length into.old) (mini_sector_len - offset) ≡ 0
-            → OnErr result ⊥ × (self.new ≡ self.old) }
-        ensures err { HasMiniByte self.old mini offset → IfErr result IsMediumError }
-        ensures same { IsTrue F.tells → OnOk result (self.new ≡ self.old) }
-        ensures bytes { IsTrue F.tells → bytes_of self.new ≡ bytes_of self.old }
-        ensures counts { IsTrue F.tells → CountsFailure F.read_faults result
-            (table_of self.old).file.failures (table_of self.new).file.failures }
+        ensures reads { OnlyReadsMinis F.tells F.read_faults self.old self.new result }
+        ensures part { ReadsBytesFrom F.tells
+            (mini_start self.old.directory.table.tables.version (mini_stream_of self.old) mini +
+            offset) into.old into.new (bytes_of self.old)
+            (min (min (length into.old) (mini_sector_len - offset))
+            (self.old.directory.table.file.len - (mini_start
+            self.old.directory.table.tables.version (mini_stream_of self.old) mini + offset)))
+            result }
+        ensures error { MiniReadRefused mini offset self.old self.new
+            (min (length into.old) (mini_sector_len - offset)) result }
     {
         let len = into.len().min(MINI_SECTOR_LEN - offset);
         if len == 0 {
@@ -484,31 +488,16 @@ impl<F: Medium, A: Heap> MiniAllocator<F, A> {
     pub fn write_mini(&mut self, mini: u32, offset: usize, from: &[u8]) -> Result<(), Error>
         requires some { 0 < length from.now }
         requires within { offset + length from.now ≤ mini_sector_len }
-        ensures kept { ChangesFileOnly self.old self.new }
-        ensures ok { IsTrue F.tells → OnOk result ((table_of self.new).file ≡ record
-            (table_of self.old).file {
-              bytes = written (bytes_of self.old) (mini_place self.old mini
-                  + offset) from.now;
-              len = max (table_of self.old).file.len (mini_place self.old mini
-                  + offset + length from.now);
-              begun = true;
-            }) }
-        ensures there { OnOk result (HasMiniSector self.old mini) }
-        ensures cut { (HasMiniSector self.old mini → ⊥)
-            → IsErrAnd result IsInvalidData × (self.new ≡ self.old) }
-        ensures err { HasMiniSector self.old mini
-            → IfErr result IsMediumError × ((table_of self.new).file.begun ≡ true) }
-        ensures others { IsTrue F.tells → ChangesOnlyBytes (mini_place self.old mini
-            + offset) (length from.now) (bytes_of self.old) (bytes_of self.new) }
-        ensures spares { IsTrue F.tells
-            → Spares (mini_stream_of self.old) (table_of self.old) (table_of self.new) }
+        ensures writes { WritesInMini F.tells self.old self.new result }
+        ensures put { PutsBytes F.tells F.write_faults
+            (mini_start self.old.directory.table.tables.version (mini_stream_of self.old) mini +
+            offset) from.now (table_of self.old).file (table_of self.new).file
+            (mini_start self.old.directory.table.tables.version (mini_stream_of self.old) mini +
+            offset + length from.now) (length from.now) result }
+        ensures error { MiniWriteRefused mini self.old self.new result }
         ensures mini_spares { IsTrue F.tells → (validation : Validation)
             → HoldsMini validation self.old → SparesMini (mini ∷ []) self.old self.new }
-        ensures holds { IsTrue F.tells → (validation : Validation)
-            → HoldsMini validation self.old → OnOk result (HoldsMini validation self.new) }
         ensures refused { IfErr result (StopsShort self.old self.new) }
-        ensures counts { IsTrue F.tells → CountsFailure F.write_faults result
-            (table_of self.old).file.failures (table_of self.new).file.failures }
     {
         let Some(stream) = &self.mini_stream else {
             return Err(no_mini_stream());
@@ -527,52 +516,11 @@ impl<F: Medium, A: Heap> MiniAllocator<F, A> {
     /// file's bytes no other mini sector in use has changed, and no sector in use but those of the directory, of the MiniFAT, of the mini
     /// stream and of the tables.
     pub fn extend_mini_listed(&mut self, ids: &mut Vec<u32, A>, count: usize) -> Result<(), Error>
-        ensures listed { ids.new.items ≡ ids.old.items ++ gained ids.old.items ids.new.items }
-        ensures count { OnOk result (length (gained ids.old.items ids.new.items) ≡ count) }
-        ensures taken { 0 < count
-            → OnOk result (TakesMini self.old.max_mini_sectors self.old.minifat self.new.minifat
-            (ends_of ids.old.items) (gained ids.old.items ids.new.items)) }
-        ensures added { 0 < count
-            → OnOk result (IsChain self.new.minifat (first_or_end (ends_of ids.old.items
-            ++ gained ids.old.items ids.new.items)) (ends_of ids.old.items
-            ++ gained ids.old.items ids.new.items)) }
-        ensures chain { IsChain self.old.minifat (first_or_end ids.old.items) ids.old.items
-            → IsChain self.new.minifat (first_or_end ids.new.items) ids.new.items }
-        ensures none { count ≡ 0
-            → OnErr result ⊥ × (self.new ≡ self.old) × (ids.new.items ≡ ids.old.items) }
-        ensures grown { 0 < count → OnOk result (GrowsFor count self.old self.new) }
-        ensures measured { 0 < count → OnOk result (IsMeasuredMini self.new) }
-        ensures directory { self.new.directory.sectors ≡ self.old.directory.sectors }
-        ensures goes_on { mini_stream_of self.new ≡ mini_stream_of self.old
-            ++ gained (mini_stream_of self.old) (mini_stream_of self.new) }
-        ensures entries { MovesRoot self.old self.new }
-        ensures holds { IsTrue F.tells → (validation : Validation)
-            → HoldsMini validation self.old → OnOk result (HoldsMini validation self.new) }
-        ensures filled { IsTrue F.tells
-            → (validation : Validation) → HoldsMini validation self.old → OnOk result ((m : ℕ)
-            → Contains (gained ids.old.items ids.new.items) m → IsZeroMini self.new m) }
-        ensures room { 0 < count
-            → OnOk result ((m : ℕ) → m < length self.new.minifat → HasMiniSector self.new m) }
-        ensures whole { IsTrue F.tells → (validation : Validation) → HoldsMini validation self.old
-            → IsOfWholeSectors (table_of self.old)
-            → OnOk result (IsOfWholeSectors (table_of self.new)) }
-        ensures spares { IsTrue F.tells
-            → Spares (system_sectors self.old) (table_of self.old) (table_of self.new) }
-        ensures mini_spares { IsTrue F.tells → (validation : Validation)
-            → HoldsMini validation self.old → SparesMini (ends_of ids.old.items) self.old self.new }
-        ensures bytes { IsTrue F.tells → (validation : Validation)
-            → HoldsMini validation self.old → KeepsMiniBytesBut [] self.old self.new }
-        ensures header { IsTrue F.tells → KeepsHeader self.old self.new }
-        ensures limits { KeepsLimits self.old self.new }
-        ensures enough { 0 < count → OnOk result (IsTooFewFor self.old count → ⊥) }
-        ensures begun { OnOk result (IsRaised (0
-            < count) (table_of self.old).file (table_of self.new).file) }
-        ensures refused { IfErr result (StopsShortOrFull count self.old self.new) }
-        ensures kept { IfErr result (AfterMedium Unit (ids.new.items ≡ ids.old.items)) }
-        ensures err { IfErr result (ChangeRefused (IsNotHeld self.old
-            ⊎ EndsNoChain self.old.minifat ids.old.items) Unit (IsTooFewFor self.old count) Unit) }
-        ensures counts { IsTrue F.tells → CountsFailure F.write_faults result
-            (table_of self.old).file.failures (table_of self.new).file.failures }
+        ensures longer { TakesLonger count self.old self.new ids.old.items ids.new.items result }
+        ensures grows { GrowsIfAny count self.old self.new result }
+        ensures changes { ChangesMiniStream F.tells F.write_faults self.old self.new result }
+        ensures holds { HoldsLonger F.tells ids.old.items ids.new.items self.old self.new result }
+        ensures ends { TakingRefused count ids.old.items ids.new.items self.old self.new result }
     {
         if count == 0 {
             return Ok(());
@@ -601,52 +549,14 @@ impl<F: Medium, A: Heap> MiniAllocator<F, A> {
     /// MiniFAT, of the mini stream and of the FAT.
     pub fn cut_mini_listed(&mut self, ids: &mut Vec<u32, A>, left: usize) -> Result<(), Error>
         requires chain { IsChain self.old.minifat (first_or_end ids.old.items) ids.old.items }
-        ensures chain { IsChain self.new.minifat (first_or_end ids.new.items) ids.new.items }
-        ensures listed { OnOk result (ids.new.items ≡ take left ids.old.items) }
-        ensures shorter { length ids.new.items ≤ length ids.old.items }
+        ensures cuts { CutsMinis left self.old.minifat self.new.minifat ids.old.items ids.new.items
+            result }
         ensures none { length ids.old.items ≤ left
             → OnErr result ⊥ × (self.new ≡ self.old) × (ids.new.items ≡ ids.old.items) }
-        ensures given_back { OnOk result (MiniGivesBack (ends_of (take left ids.old.items))
-            (drop left ids.old.items) self.old.minifat self.new.minifat) }
-        ensures directory { self.new.directory.sectors ≡ self.old.directory.sectors }
-        ensures sizes { KeepsSizes (tables_in self.old) (tables_in self.new) }
-        ensures stays { BeginsSystem self.old self.new }
-        ensures room { left < length ids.old.items
-            → CanGiveRoomBack self.old → OnOk result (GivesRoomBack self.old self.new) }
-        ensures measured { left < length ids.old.items → OnOk result (IsMeasuredMini self.new) }
-        ensures snug { left < length ids.old.items
-            → (validation : Validation) → HoldsMini validation self.old
-            → OnOk result (IsSnugMini self.new) }
-        ensures counted { IsTrue F.tells → left < length ids.old.items
-            → (validation : Validation) → HoldsMini validation self.old → OnOk result
-            (word_at (bytes_of self.new) 64 ≡ length self.new.minifat_sectors) }
-        ensures entries { MovesRoot self.old self.new }
-        ensures holds { IsTrue F.tells → (validation : Validation)
-            → HoldsMini validation self.old
-            → (self.new.minifat ≡ [] → AreStartsUnnamed self.old)
-            → (left ≡ 0 → IsUnnamed self.old.minifat (first_or_end ids.old.items))
-            → OnOk result (HoldsMini validation self.new) }
-        ensures wiped { IsTrue F.tells → (validation : Validation) → HoldsMini validation self.old
-            → OnOk result ((m : ℕ) → Contains (drop left ids.old.items) m
-            → IsInMiniStream self.new m → IsZeroMini self.new m) }
-        ensures erased { IsTrue F.tells → (validation : Validation) → HoldsMini validation self.old
-            → OnOk result ((m : ℕ) → Contains (drop left ids.old.items) m
-            → AreZeros (bytes_of self.new) (mini_place self.old m)) }
-        ensures spares { IsTrue F.tells
-            → Spares (system_sectors self.old) (table_of self.old) (table_of self.new) }
-        ensures mini_spares { IsTrue F.tells → (validation : Validation)
-            → HoldsMini validation self.old → SparesMini ids.old.items self.old self.new }
-        ensures bytes { IsTrue F.tells → (validation : Validation) → HoldsMini validation self.old
-            → KeepsMiniBytesBut (drop left ids.old.items) self.old self.new }
-        ensures header { IsTrue F.tells → KeepsHeader self.old self.new }
-        ensures limits { KeepsLimits self.old self.new }
-        ensures begun { OnOk result (IsRaised (left
-            < length ids.old.items) (table_of self.old).file (table_of self.new).file) }
-        ensures refused { IfErr result (StopsShort self.old self.new) }
-        ensures kept { IfErr result (AfterMedium Unit (ids.new.items ≡ ids.old.items)) }
-        ensures err { IfErr result (ChangeRefused (IsNotHeld self.old) ⊥ ⊥ Unit) }
-        ensures counts { IsTrue F.tells → CountsFailure F.write_faults result
-            (table_of self.old).file.failures (table_of self.new).file.failures }
+        ensures changes { ChangesMiniStream F.tells F.write_faults self.old self.new result }
+        ensures ends { CuttingRefused left ids.old.items ids.new.items self.old self.new result }
+        ensures room { GivesBackIfAny F.tells left self.old self.new ids.old.items result }
+        ensures holds { HoldsShorter F.tells left ids.old.items self.old self.new result }
     {
         if left >= ids.len() {
             return Ok(());
@@ -673,40 +583,11 @@ impl<F: Medium, A: Heap + Clone> MiniAllocator<F, A> {
     /// `InvalidData` where `last` is neither END nor a mini sector that ends a chain, and where the bytes do not hold the mini sectors;
     /// `Memory`, `Full` and `Medium` as in `extend_mini_listed`.
     pub fn extend_mini_chain_by(&mut self, last: u32, count: usize) -> Result<Vec<u32, A>, Error>
-        ensures count { IfOk result (λ list. vec_len list ≡ count) }
-        ensures taken { 0 < count → IfOk result (λ list. TakesMini
-            self.old.max_mini_sectors self.old.minifat self.new.minifat (ending last) list.items) }
-        ensures added { 0 < count
-            → IfOk result (λ list. IsChain self.new.minifat (first_or_end (ending last
-            ++ list.items)) (ending last ++ list.items)) }
-        ensures none { count ≡ 0 → self.new ≡ self.old }
-        ensures grown { 0 < count → OnOk result (GrowsFor count self.old self.new) }
-        ensures measured { 0 < count → OnOk result (IsMeasuredMini self.new) }
-        ensures directory { self.new.directory.sectors ≡ self.old.directory.sectors }
-        ensures goes_on { mini_stream_of self.new ≡ mini_stream_of self.old
-            ++ gained (mini_stream_of self.old) (mini_stream_of self.new) }
-        ensures entries { MovesRoot self.old self.new }
-        ensures holds { IsTrue F.tells → (validation : Validation)
-            → HoldsMini validation self.old → OnOk result (HoldsMini validation self.new) }
-        ensures filled { IsTrue F.tells → (validation : Validation) → HoldsMini validation self.old
-            → IfOk result (λ list. (m : ℕ) → Contains list.items m → IsZeroMini self.new m) }
-        ensures spares { IsTrue F.tells
-            → Spares (system_sectors self.old) (table_of self.old) (table_of self.new) }
-        ensures mini_spares { IsTrue F.tells → (validation : Validation)
-            → HoldsMini validation self.old → SparesMini (ending last) self.old self.new }
-        ensures bytes { IsTrue F.tells → (validation : Validation)
-            → HoldsMini validation self.old → KeepsMiniBytesBut [] self.old self.new }
-        ensures header { IsTrue F.tells → KeepsHeader self.old self.new }
-        ensures limits { KeepsLimits self.old self.new }
-        ensures enough { 0 < count → OnOk result (IsTooFewFor self.old count → ⊥) }
-        ensures begun { OnOk result (IsRaised (0
-            < count) (table_of self.old).file (table_of self.new).file) }
-        ensures refused { IfErr result (StopsShortOrFull count self.old self.new) }
-        ensures err { IfErr result (ChangeRefused (IsNotHeld self.old
-            ⊎ ((last ≢ end_of_chain) × (value self.old.minifat last
-            ≢ end_of_chain))) Unit (IsTooFewFor self.old count) Unit) }
-        ensures counts { IsTrue F.tells → CountsFailure F.write_faults result
-            (table_of self.old).file.failures (table_of self.new).file.failures }
+        ensures takes { TakesMiniChain last count self.old self.new result }
+        ensures grows { GrowsChainIfAny count self.old self.new result }
+        ensures changes { ChangesMiniStream F.tells F.write_faults self.old self.new result }
+        ensures holds { HoldsMiniChain F.tells last self.old self.new result }
+        ensures ends { ChainTakingRefused last count self.old self.new result }
     {
         let mut ids = listed_end(&self.heap, last)?;
         let had = ids.len();
@@ -720,50 +601,10 @@ impl<F: Medium, A: Heap + Clone> MiniAllocator<F, A> {
     /// `InvalidData` where there is no such chain, and where the bytes do not hold the mini sectors; and `Memory`: then nothing has
     /// changed. `Medium` as in `cut_mini_listed`.
     pub fn free_mini_chain(&mut self, start: u32) -> Result<(), Error>
-        ensures freed { OnOk result ((list : List ℕ) × IsChain self.old.minifat start list
-            × MiniGivesBack [] list self.old.minifat self.new.minifat) }
-        ensures none { start ≡ end_of_chain → OnErr result ⊥ × (self.new ≡ self.old) }
-        ensures directory { self.new.directory.sectors ≡ self.old.directory.sectors }
-        ensures sizes { KeepsSizes (tables_in self.old) (tables_in self.new) }
-        ensures stays { BeginsSystem self.old self.new }
-        ensures room { start ≢ end_of_chain
-            → CanGiveRoomBack self.old → OnOk result (GivesRoomBack self.old self.new) }
-        ensures measured { start ≢ end_of_chain → OnOk result (IsMeasuredMini self.new) }
-        ensures snug { start ≢ end_of_chain → (validation : Validation)
-            → HoldsMini validation self.old → OnOk result (IsSnugMini self.new) }
-        ensures counted { IsTrue F.tells → start ≢ end_of_chain
-            → (validation : Validation) → HoldsMini validation self.old → OnOk result
-            (word_at (bytes_of self.new) 64 ≡ length self.new.minifat_sectors) }
-        ensures entries { MovesRoot self.old self.new }
-        ensures holds { IsTrue F.tells → (validation : Validation)
-            → HoldsMini validation self.old
-            → (self.new.minifat ≡ [] → AreStartsUnnamed self.old)
-            → IsUnnamed self.old.minifat start → OnOk result (HoldsMini validation self.new) }
-        ensures wiped { IsTrue F.tells → (validation : Validation)
-            → HoldsMini validation self.old → (list : List ℕ) → IsChain self.old.minifat start list
-            → OnOk result ((m : ℕ) → Contains list m
-            → IsInMiniStream self.new m → IsZeroMini self.new m) }
-        ensures erased { IsTrue F.tells → (validation : Validation)
-            → HoldsMini validation self.old → (list : List ℕ) → IsChain self.old.minifat start list
-            → OnOk result ((m : ℕ) → Contains list m
-            → AreZeros (bytes_of self.new) (mini_place self.old m)) }
-        ensures spares { IsTrue F.tells
-            → Spares (system_sectors self.old) (table_of self.old) (table_of self.new) }
-        ensures mini_spares { IsTrue F.tells
-            → (validation : Validation) → HoldsMini validation self.old → (list : List ℕ)
-            → IsChain self.old.minifat start list → SparesMini list self.old self.new }
-        ensures bytes { IsTrue F.tells
-            → (validation : Validation) → HoldsMini validation self.old → (list : List ℕ)
-            → IsChain self.old.minifat start list → KeepsMiniBytesBut list self.old self.new }
-        ensures header { IsTrue F.tells → KeepsHeader self.old self.new }
-        ensures limits { KeepsLimits self.old self.new }
-        ensures begun { OnOk result (IsRaised (start
-            ≢ end_of_chain) (table_of self.old).file (table_of self.new).file) }
-        ensures refused { IfErr result (StopsShort self.old self.new) }
-        ensures err { IfErr result (ChangeRefused (IsNotHeld self.old
-            ⊎ NoChain self.old.minifat start) Unit ⊥ Unit) }
-        ensures counts { IsTrue F.tells → CountsFailure F.write_faults result
-            (table_of self.old).file.failures (table_of self.new).file.failures }
+        ensures frees { FreesMinis start self.old self.new result }
+        ensures changes { ChangesMiniStream F.tells F.write_faults self.old self.new result }
+        ensures room { GivesChainRoom F.tells start self.old self.new result }
+        ensures holds { HoldsMinisFreed F.tells start self.old self.new result }
     {
         if start == END_OF_CHAIN {
             return Ok(());
@@ -778,49 +619,11 @@ impl<F: Medium, A: Heap + Clone> MiniAllocator<F, A> {
     /// `InvalidData` where no mini chain goes on from the mini sector or ends there, and where the bytes do not hold the mini sectors; and
     /// `Memory`: then nothing has changed. `Medium` as in `cut_mini_listed`.
     pub fn free_mini_chain_after(&mut self, mini: u32) -> Result<(), Error>
-        ensures cut { OnOk result ((list : List ℕ) × IsChain self.old.minifat mini (mini ∷ list)
-            × MiniGivesBack (mini ∷ []) list self.old.minifat self.new.minifat) }
-        ensures none { value self.old.minifat mini ≡ end_of_chain → self.new ≡ self.old }
-        ensures directory { self.new.directory.sectors ≡ self.old.directory.sectors }
-        ensures sizes { KeepsSizes (tables_in self.old) (tables_in self.new) }
-        ensures stays { BeginsSystem self.old self.new }
-        ensures room { value self.old.minifat mini ≢ end_of_chain
-            → CanGiveRoomBack self.old → OnOk result (GivesRoomBack self.old self.new) }
-        ensures measured { value self.old.minifat mini ≢ end_of_chain
-            → OnOk result (IsMeasuredMini self.new) }
-        ensures snug { value self.old.minifat mini ≢ end_of_chain → (validation : Validation)
-            → HoldsMini validation self.old → OnOk result (IsSnugMini self.new) }
-        ensures counted { IsTrue F.tells → value self.old.minifat mini ≢ end_of_chain
-            → (validation : Validation) → HoldsMini validation self.old → OnOk result
-            (word_at (bytes_of self.new) 64 ≡ length self.new.minifat_sectors) }
-        ensures entries { MovesRoot self.old self.new }
-        ensures holds { IsTrue F.tells → (validation : Validation)
-            → HoldsMini validation self.old → OnOk result (HoldsMini validation self.new) }
-        ensures wiped { IsTrue F.tells → (validation : Validation) → HoldsMini validation self.old
-            → (list : List ℕ) → IsChain self.old.minifat mini (mini ∷ list)
-            → OnOk result ((m : ℕ) → Contains list m
-            → IsInMiniStream self.new m → IsZeroMini self.new m) }
-        ensures erased { IsTrue F.tells → (validation : Validation) → HoldsMini validation self.old
-            → (list : List ℕ) → IsChain self.old.minifat mini (mini ∷ list)
-            → OnOk result ((m : ℕ) → Contains list m
-            → AreZeros (bytes_of self.new) (mini_place self.old m)) }
-        ensures spares { IsTrue F.tells
-            → Spares (system_sectors self.old) (table_of self.old) (table_of self.new) }
-        ensures mini_spares { IsTrue F.tells → (validation : Validation)
-            → HoldsMini validation self.old → (list : List ℕ) → IsChain self.old.minifat mini (mini
-            ∷ list) → SparesMini (mini ∷ list) self.old self.new }
-        ensures bytes { IsTrue F.tells → (validation : Validation) → HoldsMini validation self.old
-            → (list : List ℕ) → IsChain self.old.minifat mini (mini ∷ list)
-            → KeepsMiniBytesBut list self.old self.new }
-        ensures header { IsTrue F.tells → KeepsHeader self.old self.new }
-        ensures limits { KeepsLimits self.old self.new }
-        ensures begun { OnOk result (IsRaised (value self.old.minifat mini
-            ≢ end_of_chain) (table_of self.old).file (table_of self.new).file) }
-        ensures refused { IfErr result (StopsShort self.old self.new) }
-        ensures err { IfErr result (ChangeRefused (IsNotHeld self.old
-            ⊎ NoLast self.old.minifat mini) Unit ⊥ Unit) }
-        ensures counts { IsTrue F.tells → CountsFailure F.write_faults result
-            (table_of self.old).file.failures (table_of self.new).file.failures }
+        ensures frees { FreesMinisAfter mini self.old self.new result }
+        ensures changes { ChangesMiniStream F.tells F.write_faults self.old self.new result }
+        ensures room { GivesChainRoom F.tells (value self.old.minifat mini) self.old self.new result
+            }
+        ensures holds { HoldsMinisFreedAfter F.tells mini self.old self.new result }
     {
         if mini == END_OF_CHAIN {
             return Err(no_mini_chain(mini));
@@ -846,22 +649,13 @@ impl<F: Medium, A: Heap + Clone> MiniAllocator<F, A> {
         moment: Timestamp,
     ) -> Result<u32, Error>
         requires { CanInsert self.old.directory parent (chars name.now) kind }
-        ensures inserted { IfOk result (λ n. InsertsObject self.old.directory self.new.directory
-            parent n (chars name.now) kind moment) }
-        ensures kept { KeepsSectorsIfFree self.old.directory self.new.directory }
-        ensures written { IsTrue F.tells
-            → OnOk result (WritesDirectory self.old.directory self.new.directory) }
+        ensures inserts { InsertsInDirectory F.tells F.write_faults parent (chars name.now) kind
+            moment self.old.directory self.new.directory result }
         ensures holds { IsTrue F.tells → (validation : Validation)
             → HoldsMini validation self.old → OnOk result (HoldsMini validation self.new) }
-        ensures spared { IsTrue F.tells
-            → SparesRest self.old.directory self.new.directory parent }
         ensures limits { KeepsLimits self.old self.new }
         ensures mini { KeepsMini self.old self.new }
         ensures refused { IfErr result (StopsShort self.old self.new) }
-        ensures err { IfErr result (ChangeRefused (IsDirectoryNotHeld self.old.directory)
-            (IsFullForEntry self.old.directory → ⊥) (IsFullForEntry self.old.directory) Unit) }
-        ensures counts { IsTrue F.tells → CountsFailure F.write_faults result
-            (table_of self.old).file.failures (table_of self.new).file.failures }
     {
         self.directory.insert_dir_entry(parent, name, kind, moment)
     }
@@ -879,32 +673,13 @@ impl<F: Medium, A: Heap + Clone> MiniAllocator<F, A> {
             → HasChildren self.old.directory.cases self.old.directory.entries parent list
             → (n : ℕ) × IsChildNamed self.old.directory.cases self.old.directory.entries
             (chars name.now) list n × ((entry_at self.old.directory.entries n).child ≡ no_stream) }
-        ensures removed { OnOk result (RemovesEntry self.old.directory.cases
-            self.old.directory.entries self.new.directory.entries parent (chars name.now)) }
-        ensures balanced { OnOk result
-            (KeepsBalance self.old.directory.entries self.new.directory.entries parent) }
-        ensures red_apart { OnOk result
-            (StaysRedApart self.old.directory self.new.directory parent) }
-        ensures kept { (self.new.directory.sectors ≡ self.old.directory.sectors)
-            × (tables_in self.new ≡ tables_in self.old) }
-        ensures holds { IsTrue F.tells → (validation : Validation)
-            → HoldsMini validation self.old → OnOk result (HoldsMini validation self.new) }
-        ensures spares { IsTrue F.tells
-            → Spares self.old.directory.sectors (table_of self.old) (table_of self.new) }
-        ensures header { IsTrue F.tells → KeepsWholeHeader self.old.directory self.new.directory }
-        ensures others { IsTrue F.tells
-            → KeepsOtherSectors self.old.directory self.new.directory }
+        ensures removes { RemovesSafely parent (chars name.now) self.old.directory
+            self.new.directory result }
+        ensures changes { ChangesEntries F.tells F.write_faults self.old self.new result }
+        ensures holds { HoldsMiniChanged F.tells self.old self.new result }
         ensures slots { IsTrue F.tells
             → (validation : Validation) → HoldsDirectory validation self.old.directory
             → KeepsOtherSlots parent self.old.directory self.new.directory }
-        ensures limits { KeepsLimits self.old self.new }
-        ensures mini { KeepsMini self.old self.new }
-        ensures begun { OnOk result ((table_of self.new).file.begun ≡ true) }
-        ensures refused { IfErr result (StopsShort self.old self.new) }
-        ensures err { IfErr result
-            (ChangeRefused (IsDirectoryNotHeld self.old.directory) Unit ⊥ Unit) }
-        ensures counts { IsTrue F.tells → CountsFailure F.write_faults result
-            (table_of self.old).file.failures (table_of self.new).file.failures }
     {
         self.directory.remove_dir_entry(parent, name)
     }
@@ -914,29 +689,15 @@ impl<F: Medium, A: Heap + Clone> MiniAllocator<F, A> {
     /// `InvalidData` where there is no such chain, where it is empty, and where the FAT sectors do not cover the file; `Medium`,
     /// `Memory` and `Full` as in `begin_chain`. The directory itself stays in any case, so `start` is not to be that of its own chain.
     pub fn extend_chain(&mut self, start: u32, init: SectorInit) -> Result<u32, Error>
-        ensures extended { IfOk result (λ x.
-            Extended (tables_in self.old) (tables_in self.new) start (x ∷ [])) }
-        ensures filled { IsTrue F.tells
-            → (validation : Validation) → HoldsTables validation (table_of self.old)
-            → IfOk result (λ x. IsAsFilled (version_of self.new) init (bytes_of self.new) x) }
+        ensures extends { ExtendsChain F.tells start init (table_of self.old) (table_of self.new)
+            result }
         ensures holds { IsTrue F.tells → (validation : Validation) → HoldsMini validation self.old
             → (list : List ℕ) → IsChain (tables_in self.old).fat start list
             → AreDisjoint (system_sectors self.old) list
             → OnOk result (HoldsMini validation self.new) }
-        ensures others { IsTrue F.tells → OthersStay (table_of self.old) (table_of self.new) }
-        ensures spares { IsTrue F.tells
-            → (list : List ℕ) → IsChain (tables_in self.old).fat start list
-            → Spares list (table_of self.old) (table_of self.new) }
+        ensures takes { TakesOneForMini F.tells F.write_faults (table_of self.old)
+            (table_of self.new) result }
         ensures rest { self.new ≡ with_table self.old (table_of self.new) }
-        ensures enough { OnOk result (IsTooFew (tables_in self.old) 1 → ⊥) }
-        ensures begun { OnOk result ((table_of self.new).file.begun ≡ true) }
-        ensures refused { IfErr result
-            (BreaksOff (ExtendsFrom start) (table_of self.old) (table_of self.new)) }
-        ensures err { IfErr result (ChangeRefused ((IsUsable (tables_in self.old) → ⊥)
-            ⊎ NoLast (tables_in self.old).fat start) (IsTooFew (tables_in self.old) 1
-            → ⊥) (IsTooFew (tables_in self.old) 1) Unit) }
-        ensures counts { IsTrue F.tells → CountsFailure F.write_faults result
-            (table_of self.old).file.failures (table_of self.new).file.failures }
     {
         let extended = self.directory.extend_chain(start, init);
         let _fact = self.directory.allocator().file_len();
@@ -950,27 +711,14 @@ impl<F: Medium, A: Heap + Clone> MiniAllocator<F, A> {
     /// file's bytes the FAT sectors alone have changed. The directory itself stays in any case, so `start` is not to be that of its own
     /// chain.
     pub fn free_chain(&mut self, start: u32) -> Result<(), Error>
-        ensures freed { OnOk result
-            (GivesBackChain [] start (tables_in self.old) (tables_in self.new)) }
+        ensures frees { FreesTheChain F.tells F.write_faults start (table_of self.old)
+            (table_of self.new) result }
         ensures none { start ≡ end_of_chain → self.new ≡ self.old }
         ensures holds { IsTrue F.tells → (validation : Validation) → HoldsMini validation self.old
             → (list : List ℕ) → IsChain (tables_in self.old).fat start list
             → AreDisjoint (system_sectors self.old) list → IsUnnamed (tables_in self.old).fat start
             → OnOk result (HoldsMini validation self.new) }
-        ensures changes { IsTrue F.tells → ChangesSectors (tables_in self.old).fat_sectors
-            (version_of self.old) (bytes_of self.old) (bytes_of self.new) }
-        ensures spares { IsTrue F.tells
-            → (list : List ℕ) → IsChain (tables_in self.old).fat start list
-            → Spares list (table_of self.old) (table_of self.new) }
         ensures rest { self.new ≡ with_table self.old (table_of self.new) }
-        ensures begun { OnOk result (IsRaised (start
-            ≢ end_of_chain) (table_of self.old).file (table_of self.new).file) }
-        ensures refused { IfErr result
-            (BreaksOff (GivesBackChain [] start) (table_of self.old) (table_of self.new)) }
-        ensures err { IfErr result (ChangeRefused ((IsUsable (tables_in self.old) → ⊥)
-            ⊎ NoChain (tables_in self.old).fat start) Unit ⊥ Unit) }
-        ensures counts { IsTrue F.tells → CountsFailure F.write_faults result
-            (table_of self.old).file.failures (table_of self.new).file.failures }
     {
         let freed = self.directory.free_chain(start);
         let _fact = self.directory.allocator().file_len();
@@ -995,16 +743,9 @@ impl<F: Medium, A: Heap> MiniAllocator<F, A> {
         requires root_len { number ≡ 0
             → (f : Fields) → W.post change (fields_in (entry_at self.old.directory.entries 0)) f
             → f.stream_len % 64 ≡ 0 }
-        ensures changed { OnOk result ((f : Fields)
-            × W.post change (fields_in (entry_at self.old.directory.entries number)) f
-            × (self.new.directory.entries
-            ≡ entries_with_fields self.old.directory.entries number f)) }
-        ensures entries { (self.new.directory.entries ≡ self.old.directory.entries) ⊎ ((f : Fields)
-            × W.post change (fields_in (entry_at self.old.directory.entries number)) f
-            × (self.new.directory.entries
-            ≡ entries_with_fields self.old.directory.entries number f)) }
-        ensures kept { (self.new.directory.sectors ≡ self.old.directory.sectors)
-            × (tables_in self.new ≡ tables_in self.old) }
+        ensures sets { SetsEntryFields F.tells number self.old.directory self.new.directory
+            (W.post change (fields_in (entry_at self.old.directory.entries number))) result }
+        ensures changes { ChangesEntries F.tells F.write_faults self.old self.new result }
         ensures holds { IsTrue F.tells
             → (validation : Validation) → HoldsMini validation self.old → ((f : Fields)
             → W.post change (fields_in (entry_at self.old.directory.entries number)) f
@@ -1013,23 +754,8 @@ impl<F: Medium, A: Heap> MiniAllocator<F, A> {
             → (f : Fields) → W.post change (fields_in (entry_at self.old.directory.entries 0)) f
             → (f.start_sector ≡ (entry_at self.old.directory.entries 0).start_sector)
             × (f.stream_len ≡ root_len_of self.old)) → OnOk result (HoldsMini validation self.new) }
-        ensures spares { IsTrue F.tells
-            → Spares self.old.directory.sectors (table_of self.old) (table_of self.new) }
-        ensures header { IsTrue F.tells → KeepsWholeHeader self.old.directory self.new.directory }
-        ensures others { IsTrue F.tells
-            → KeepsOtherSectors self.old.directory self.new.directory }
-        ensures slots { IsTrue F.tells
-            → (validation : Validation) → HoldsDirectory validation self.old.directory
-            → KeepsSlotsBut number self.old.directory self.new.directory }
         ensures limits { KeepsLimits self.old self.new }
-        ensures mini { KeepsMini self.old self.new }
-        ensures begun { OnOk result ((table_of self.new).file.begun ≡ true) }
-        ensures refused { IfErr result (StopsShort self.old self.new) }
-        ensures err { IfErr result
-            (ChangeRefused (IsDirectoryNotHeld self.old.directory) ⊥ ⊥ Unit) }
-        ensures placed { ArePlaced self.old.directory → IfErr result IsMediumError }
-        ensures counts { IsTrue F.tells → CountsFailure F.write_faults result
-            (table_of self.old).file.failures (table_of self.new).file.failures }
+        ensures error { FieldsRefused self.old.directory result }
     {
         self.directory.with_dir_entry_mut(number, change)
     }
@@ -1040,25 +766,16 @@ impl<F: Medium, A: Heap> MiniAllocator<F, A> {
     /// fails, the tables in memory have the sector, and of the file's bytes no sector in use has changed but the table sectors. The
     /// directory itself stays in any case.
     pub fn begin_chain(&mut self, init: SectorInit) -> Result<u32, Error>
-        ensures taken { IfOk result (λ x.
-            HasTaken (tables_in self.old) (tables_in self.new) [] (x ∷ [])) }
-        ensures chain { IfOk result (λ x. IsChain (tables_in self.new).fat x (x ∷ [])) }
+        ensures number { TakesNumber (tables_in self.old) (tables_in self.new) result }
         ensures filled { IsTrue F.tells
             → (validation : Validation) → HoldsTables validation (table_of self.old)
             → IfOk result (λ x. IsAsFilled (version_of self.new) init (bytes_of self.new) x) }
         ensures holds { IsTrue F.tells → (validation : Validation)
             → HoldsMini validation self.old → OnOk result (HoldsMini validation self.new) }
-        ensures others { IsTrue F.tells → OthersStay (table_of self.old) (table_of self.new) }
-        ensures spares { IsTrue F.tells → Spares [] (table_of self.old) (table_of self.new) }
+        ensures takes { TakesOneForMini F.tells F.write_faults (table_of self.old)
+            (table_of self.new) result }
+        ensures begins { BeginsChain F.tells (table_of self.old) (table_of self.new) result }
         ensures rest { self.new ≡ with_table self.old (table_of self.new) }
-        ensures enough { OnOk result (IsTooFew (tables_in self.old) 1 → ⊥) }
-        ensures begun { OnOk result ((table_of self.new).file.begun ≡ true) }
-        ensures refused { IfErr result
-            (BreaksOff (TakesFor []) (table_of self.old) (table_of self.new)) }
-        ensures err { IfErr result (ChangeRefused (IsUsable (tables_in self.old)
-            → ⊥) (IsTooFew (tables_in self.old) 1 → ⊥) (IsTooFew (tables_in self.old) 1) Unit) }
-        ensures counts { IsTrue F.tells → CountsFailure F.write_faults result
-            (table_of self.old).file.failures (table_of self.new).file.failures }
     {
         let begun = self.directory.begin_chain(init);
         let _fact = self.directory.allocator().file_len();
@@ -1067,19 +784,9 @@ impl<F: Medium, A: Heap> MiniAllocator<F, A> {
 
     /// Has the medium hand on what was written. `Medium` where it fails. No byte changes, nor anything in memory.
     pub fn flush(&mut self) -> Result<(), Error>
-        ensures tables { tables_in self.new ≡ tables_in self.old }
-        ensures ok { IsTrue F.tells → OnOk result ((table_of self.new).file
-            ≡ record (table_of self.old).file { begun = true }) }
-        ensures kept { (table_of self.new).file ≡ record (table_of self.old).file {
-          bytes = (table_of self.new).file.bytes;
-          failures = (table_of self.new).file.failures;
-          begun = true;
-        } }
-        ensures bytes { IsTrue F.tells → bytes_of self.new ≡ bytes_of self.old }
+        ensures flushes { FlushesFile F.tells F.write_faults (table_of self.old) (table_of self.new)
+            result }
         ensures rest { self.new ≡ with_table self.old (table_of self.new) }
-        ensures err { IfErr result IsMediumError }
-        ensures counts { IsTrue F.tells → CountsFailure F.write_faults result
-            (table_of self.old).file.failures (table_of self.new).file.failures }
     {
         self.directory.flush()
     }

@@ -4,3 +4,6 @@ pub use Rattle.cfb_mini_sectors.specs.cfb_mini_table
 pub use Rattle.cfb_mini.specs.cfb_alloc
 pub mod MiniRunsAlong
 pub mod LentMiniChain
+pub mod Reading
+pub mod Listing
+pub mod Writing

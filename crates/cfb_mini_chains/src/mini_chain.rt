@@ -1,5 +1,9 @@
 //! A mini chain as one list of bytes with a position (MS-CFB 2.4).
 ghost use Rattle.std.specs.Prelude.{◌≡◌, ◌≢◌, ℕ, List, [], ◌∷◌, ◌++◌, ◌+◌, ◌-◌, ◌*◌, ◌/◌, ◌%◌, ◌<◌, ◌≤◌, max, min, length, replicate, true, take, drop, slice_index, ◌⊎◌, Contains, Some, IsTrue, IfOk, IfErr, IsErrAnd, OnOk, OnErr, MatchResult, vec_len};
+ghost use Rattle.cfb_mini_chains.specs.Listing.{ReadsTogether, ByteRefused, ChangesMinis, ListsMore, HoldsMore, TakingRefused, HoldsLess, CutRefused, LongerList, WritesTogether, BeginsTogether, SectorRefused, MiniSectorRefused, BeginsMiniWrite};
+ghost use Rattle.cfb_mini.specs.Changing.{WritesInMini};
+ghost use Rattle.cfb_mini.specs.Reading.{OnlyReadsMinis};
+ghost use Rattle.cfb_mini_chains.specs.cfb_sectors.Writing.{PutsBytes};
 ghost use Rattle.cfb_format.specs.declared.validate.Validation.{Validation};
 ghost use Rattle.cfb_format.specs.Bytes.{max_regular_sector, word_at};
 ghost use Rattle.cfb_format.specs.Chain.{IsChain, chain_from};
@@ -70,6 +74,7 @@ impl<'a, F: ReadMedium, A: Heap + Clone> MiniChain<'a, F, A> {
 
 impl<'a, F: ReadMedium, A: Heap> MiniChain<'a, F, A> {
     ghost use Rattle.cfb_mini_chains.specs.LentMiniChain.{minialloc_of, state_of, start_sector_of, ids_of, len_of, left_of, position_of, mini_sector_at, file_bytes_of, HasByteAt};
+    ghost use Rattle.cfb_mini_chains.specs.Reading.{MovesAlong, SameChain, ReadsMiniChain, ReadsHere, ChainReadRefused, ReadHereRefused};
 
     /// The number of its first mini sector, or END where it has none.
     pub fn start_sector_id(&self) -> u32
@@ -110,11 +115,8 @@ impl<'a, F: ReadMedium, A: Heap> MiniChain<'a, F, A> {
 
     /// Goes to a byte, or to the end. `InvalidInput` exactly past the end: then nothing has changed.
     pub fn seek(&mut self, position: u64) -> Result<(), Error>
-        ensures same_minialloc { (minialloc_of self.new).ghost_name
-            ≡ (minialloc_of self.old).ghost_name }
+        ensures stays { SameChain self.old self.new }
         ensures minialloc { state_of self.new ≡ state_of self.old }
-        ensures chain { (ids_of self.new ≡ ids_of self.old)
-            × (start_sector_of self.new ≡ start_sector_of self.old) }
         ensures inside { position ≤ len_of self.old
             → OnOk result (position_of self.new ≡ position) × OnErr result ⊥ }
         ensures past { len_of self.old < position
@@ -142,32 +144,11 @@ impl<'a, F: ReadMedium, A: Heap> MiniChain<'a, F, A> {
     /// `InvalidData` exactly where the byte at the position is not there: the mini stream has no such mini sector, or the file ends
     /// before it; and `Medium` where the medium fails. The position then stays.
     pub fn read(&mut self, into: &mut [u8]) -> Result<usize, Error>
-        ensures same_minialloc { (minialloc_of self.new).ghost_name
-            ≡ (minialloc_of self.old).ghost_name }
-        ensures kept { IsStill (state_of self.old) (state_of self.new) }
-        ensures chain { (ids_of self.new ≡ ids_of self.old)
-            × (start_sector_of self.new ≡ start_sector_of self.old) }
-        ensures count { IfOk result (λ n. n ≤ min (length into.old) (left_of self.old)) }
-        ensures some { IfOk result (λ n. 0 < min (length into.old) (left_of self.old) → 0 < n) }
-        ensures within { IfOk result (λ n. (j : ℕ)
-            → j < n → HasByteAt self.old (position_of self.old + j)) }
-        ensures position { MatchResult result (λ n. position_of self.new
-            ≡ position_of self.old + n) (λ _. position_of self.new ≡ position_of self.old) }
-        ensures ok { IsTrue F.tells → IfOk result (λ n. take n into.new
-            ≡ placed_from (file_bytes_of self.old) (place_in_mini_sectors
-            (state_of self.old) (ids_of self.old)) (position_of self.old) n) }
-        ensures rest { IfOk result (λ n. drop n into.new ≡ drop n into.old) }
-        ensures cut { 0 < min (length into.old) (left_of self.old)
-            → (HasByteAt self.old (position_of self.old) → ⊥) → IsErrAnd result IsInvalidData }
-        ensures none { min (length into.old) (left_of self.old) ≡ 0
-            → OnErr result ⊥ × (state_of self.new ≡ state_of self.old) }
-        ensures err { IfErr result (ChangeRefused (HasByteAt self.old (position_of self.old)
-            → ⊥) ⊥ ⊥ Unit) }
-        ensures same { IsTrue F.tells → OnOk result (state_of self.new ≡ state_of self.old) }
-        ensures bytes { IsTrue F.tells → file_bytes_of self.new ≡ file_bytes_of self.old }
-        ensures counts { IsTrue F.tells
-            → CountsFailure F.read_faults result (table_of (state_of self.old)).file.failures
-            (table_of (state_of self.new)).file.failures }
+        ensures moves { MovesAlong self.old self.new result }
+        ensures reads { OnlyReadsMinis F.tells F.read_faults (state_of self.old) (state_of self.new)
+            result }
+        ensures part { ReadsMiniChain F.tells into.old into.new self.old result }
+        ensures error { ChainReadRefused into.old self.old self.new result }
     {
         if into.is_empty() || self.position >= self.len() {
             return Ok(0);
@@ -179,30 +160,11 @@ impl<'a, F: ReadMedium, A: Heap> MiniChain<'a, F, A> {
     fn read_here(&mut self, into: &mut [u8]) -> Result<usize, Error>
         requires some { 0 < length into.old }
         requires inside { position_of self.old < len_of self.old }
-        ensures same_minialloc { (minialloc_of self.new).ghost_name
-            ≡ (minialloc_of self.old).ghost_name }
-        ensures kept { IsStill (state_of self.old) (state_of self.new) }
-        ensures chain { (ids_of self.new ≡ ids_of self.old)
-            × (start_sector_of self.new ≡ start_sector_of self.old) }
-        ensures count { IfOk result (λ n. n ≤ min (length into.old) (left_of self.old)) }
-        ensures some { IfOk result (λ n. 0 < n) }
-        ensures within { IfOk result (λ n. (j : ℕ)
-            → j < n → HasByteAt self.old (position_of self.old + j)) }
-        ensures position { MatchResult result (λ n. position_of self.new
-            ≡ position_of self.old + n) (λ _. position_of self.new ≡ position_of self.old) }
-        ensures ok { IsTrue F.tells → IfOk result (λ n. take n into.new
-            ≡ placed_from (file_bytes_of self.old) (place_in_mini_sectors
-            (state_of self.old) (ids_of self.old)) (position_of self.old) n) }
-        ensures rest { IfOk result (λ n. drop n into.new ≡ drop n into.old) }
-        ensures cut { (HasByteAt self.old (position_of self.old) → ⊥)
-            → IsErrAnd result IsInvalidData }
-        ensures err { IfErr result (ChangeRefused (HasByteAt self.old (position_of self.old)
-            → ⊥) ⊥ ⊥ Unit) }
-        ensures same { IsTrue F.tells → OnOk result (state_of self.new ≡ state_of self.old) }
-        ensures bytes { IsTrue F.tells → file_bytes_of self.new ≡ file_bytes_of self.old }
-        ensures counts { IsTrue F.tells
-            → CountsFailure F.read_faults result (table_of (state_of self.old)).file.failures
-            (table_of (state_of self.new)).file.failures }
+        ensures moves { MovesAlong self.old self.new result }
+        ensures reads { OnlyReadsMinis F.tells F.read_faults (state_of self.old) (state_of self.new)
+            result }
+        ensures part { ReadsHere F.tells into.old into.new self.old result }
+        ensures error { ReadHereRefused self.old result }
     {
         let count = read_minis(self.minialloc, self.ids.numbers(), self.position, into)?;
         self.position += count as u64;
@@ -224,56 +186,19 @@ impl<'a, F: ReadMedium, A: Heap> MiniChain<'a, F, A> {
 
 impl<'a, F: Medium, A: Heap> MiniChain<'a, F, A> {
     ghost use Rattle.cfb_mini_chains.specs.LentMiniChain.{minialloc_of, state_of, start_sector_of, ids_of, len_of, position_of, left_of, mini_sector_at, file_bytes_of, place_at, place_of, HasMiniSectorAt, ChangesOnlyWanted, OtherMiniSectorsStay, HasWritten};
+    ghost use Rattle.cfb_mini_chains.specs.Reading.{MovesAlong, SameChain};
+    ghost use Rattle.cfb_mini_chains.specs.Writing.{WritesMiniPart, WritesHere, PartRefused, HereRefused, TailRefused, SparesWanted, SparesTogether, ZeroesMiniTail, SparesTail};
 
     /// Writes a beginning of `from` over what the mini chain has from the position on, by one call of the medium, goes on behind it, and
     /// answers how many bytes that is: as many as follow each other in the file, none exactly where `from` is empty or the end is
     /// reached. `InvalidData` exactly where the mini stream has no mini sector for the byte at the position: nothing has changed then.
     /// `Medium` where the medium fails: the position then stays, and no byte of the file has changed but where `from` was to stand.
     pub fn write_within(&mut self, from: &[u8]) -> Result<usize, Error>
-        ensures same_minialloc { (minialloc_of self.new).ghost_name
-            ≡ (minialloc_of self.old).ghost_name }
-        ensures kept { ChangesFileOnly (state_of self.old) (state_of self.new) }
-        ensures chain { (ids_of self.new ≡ ids_of self.old)
-            × (start_sector_of self.new ≡ start_sector_of self.old) }
-        ensures count { IfOk result (λ n. n ≤ min (length from.now) (left_of self.old)) }
-        ensures some { IfOk result (λ n. 0 < min (length from.now) (left_of self.old) → 0 < n) }
-        ensures none { min (length from.now) (left_of self.old) ≡ 0
-            → OnErr result ⊥ × (state_of self.new ≡ state_of self.old) }
-        ensures position { MatchResult result (λ n. position_of self.new
-            ≡ position_of self.old + n) (λ _. position_of self.new ≡ position_of self.old) }
-        ensures ok { IsTrue F.tells → IfOk result (λ n. 0 < n
-            → (table_of (state_of self.new)).file ≡ record (table_of (state_of self.old)).file {
-              bytes = written (file_bytes_of self.old) (place_of self.old) (take n from.now);
-              len = max (table_of (state_of self.old)).file.len (place_of self.old + n);
-              begun = true;
-            }) }
-        ensures there { IfOk result (λ n. 0 < n → HasMiniSectorAt self.old (position_of self.old)) }
-        ensures cut { 0 < min (length from.now) (left_of self.old)
-            → (HasMiniSectorAt self.old (position_of self.old) → ⊥)
-            → IsErrAnd result IsInvalidData }
-        ensures err { IfErr result (ChangeRefused (HasMiniSectorAt self.old (position_of self.old)
-            → ⊥) ⊥ ⊥ Unit) }
-        ensures places { IsTrue F.tells
-            → (validation : Validation) → HoldsMini validation (state_of self.old)
-            → IfOk result (λ n. HasWritten n from.now self.old self.new) }
-        ensures holds { IsTrue F.tells
-            → (validation : Validation) → HoldsMini validation (state_of self.old)
-            → OnOk result (HoldsMini validation (state_of self.new)) }
-        ensures others { IsTrue F.tells → ChangesOnlyWanted (length from.now) self.old self.new }
-        ensures other_mini { IsTrue F.tells
-            → (validation : Validation) → HoldsMini validation (state_of self.old)
-            → OtherMiniSectorsStay (length from.now) self.old self.new }
-        ensures spares { IsTrue F.tells → Spares (mini_stream_of (state_of self.old))
-            (table_of (state_of self.old)) (table_of (state_of self.new)) }
-        ensures mini_spares { IsTrue F.tells
-            → (validation : Validation) → HoldsMini validation (state_of self.old)
-            → SparesMini (ids_of self.old) (state_of self.old) (state_of self.new) }
-        ensures begun { 0 < length from.now
-            → IfOk result (λ n. 0 < n → (table_of (state_of self.new)).file.begun ≡ true) }
-        ensures refused { IfErr result (StopsShort (state_of self.old) (state_of self.new)) }
-        ensures counts { IsTrue F.tells
-            → CountsFailure F.write_faults result (table_of (state_of self.old)).file.failures
-            (table_of (state_of self.new)).file.failures }
+        ensures moves { MovesAlong self.old self.new result }
+        ensures writes { WritesInMini F.tells (state_of self.old) (state_of self.new) result }
+        ensures part { WritesMiniPart F.tells from.now self.old self.new result }
+        ensures error { PartRefused from.now self.old self.new result }
+        ensures there { SparesWanted F.tells F.write_faults from.now self.old self.new result }
     {
         let room = (from.len() as u64).min(self.len() - self.position);
         if room == 0 {
@@ -286,44 +211,11 @@ impl<'a, F: Medium, A: Heap> MiniChain<'a, F, A> {
     fn write_here(&mut self, from: &[u8]) -> Result<usize, Error>
         requires some { 0 < length from.now }
         requires inside { position_of self.old < len_of self.old }
-        ensures same_minialloc { (minialloc_of self.new).ghost_name
-            ≡ (minialloc_of self.old).ghost_name }
-        ensures kept { ChangesFileOnly (state_of self.old) (state_of self.new) }
-        ensures chain { (ids_of self.new ≡ ids_of self.old)
-            × (start_sector_of self.new ≡ start_sector_of self.old) }
-        ensures count { IfOk result (λ n. n ≤ min (length from.now) (left_of self.old)) }
-        ensures some { IfOk result (λ n. 0 < n) }
-        ensures position { MatchResult result (λ n. position_of self.new
-            ≡ position_of self.old + n) (λ _. position_of self.new ≡ position_of self.old) }
-        ensures together { IfOk result
-            (StandTogether (state_of self.old) (ids_of self.old) (position_of self.old)) }
-        ensures ok { IsTrue F.tells
-            → IfOk result (λ n. (table_of (state_of self.new)).file
-            ≡ record (table_of (state_of self.old)).file {
-              bytes = written (file_bytes_of self.old) (place_of self.old) (take n from.now);
-              len = max (table_of (state_of self.old)).file.len (place_of self.old + n);
-              begun = true;
-            }) }
-        ensures there { OnOk result (HasMiniSectorAt self.old (position_of self.old)) }
-        ensures cut { (HasMiniSectorAt self.old (position_of self.old) → ⊥)
-            → IsErrAnd result IsInvalidData }
-        ensures err { IfErr result (ChangeRefused (HasMiniSectorAt self.old (position_of self.old)
-            → ⊥) ⊥ ⊥ Unit) }
-        ensures holds { IsTrue F.tells
-            → (validation : Validation) → HoldsMini validation (state_of self.old)
-            → OnOk result (HoldsMini validation (state_of self.new)) }
-        ensures others { IsTrue F.tells → ChangesTogether (ids_of self.old)
-            (position_of self.old) (length from.now) (state_of self.old) (state_of self.new) }
-        ensures spares { IsTrue F.tells → Spares (mini_stream_of (state_of self.old))
-            (table_of (state_of self.old)) (table_of (state_of self.new)) }
-        ensures mini_spares { IsTrue F.tells → (validation : Validation)
-            → HoldsMini validation (state_of self.old) → SparesMini (minis_along (ids_of self.old)
-            (position_of self.old) (length from.now)) (state_of self.old) (state_of self.new) }
-        ensures begun { OnOk result ((table_of (state_of self.new)).file.begun ≡ true) }
-        ensures refused { IfErr result (StopsShort (state_of self.old) (state_of self.new)) }
-        ensures counts { IsTrue F.tells
-            → CountsFailure F.write_faults result (table_of (state_of self.old)).file.failures
-            (table_of (state_of self.new)).file.failures }
+        ensures moves { MovesAlong self.old self.new result }
+        ensures writes { WritesInMini F.tells (state_of self.old) (state_of self.new) result }
+        ensures part { WritesHere F.tells from.now self.old self.new result }
+        ensures error { HereRefused self.old self.new result }
+        ensures there { SparesTogether F.tells F.write_faults from.now self.old self.new result }
     {
         let count = write_minis(self.minialloc, self.ids.numbers(), self.position, from)?;
         self.position += count as u64;
@@ -335,43 +227,12 @@ impl<'a, F: Medium, A: Heap> MiniChain<'a, F, A> {
     /// in use that one alone has changed then.
     pub fn zero_tail(&mut self, offset: u64) -> Result<(), Error>
         requires { offset ≤ len_of self.old }
-        ensures same_minialloc { (minialloc_of self.new).ghost_name
-            ≡ (minialloc_of self.old).ghost_name }
-        ensures kept { ChangesFileOnly (state_of self.old) (state_of self.new) }
-        ensures chain { (ids_of self.new ≡ ids_of self.old)
-            × (start_sector_of self.new ≡ start_sector_of self.old) }
+        ensures stays { SameChain self.old self.new }
+        ensures writes { WritesInMini F.tells (state_of self.old) (state_of self.new) result }
         ensures position { position_of self.new ≡ position_of self.old }
-        ensures none { offset % mini_sector_len ≡ 0
-            → OnErr result ⊥ × (state_of self.new ≡ state_of self.old) }
-        ensures ok { IsTrue F.tells → 0 < offset % mini_sector_len
-            → OnOk result ((table_of (state_of self.new)).file
-            ≡ record (table_of (state_of self.old)).file {
-              bytes = written (file_bytes_of self.old) (place_at self.old offset)
-                  (replicate (mini_sector_len - offset % mini_sector_len) 0);
-              len = max (table_of (state_of self.old)).file.len
-                  (place_at self.old offset + (mini_sector_len - offset % mini_sector_len));
-              begun = true;
-            }) }
-        ensures cut { 0 < offset % mini_sector_len
-            → (HasMiniSectorAt self.old offset → ⊥) → IsErrAnd result IsInvalidData }
-        ensures err { IfErr result (ChangeRefused (HasMiniSectorAt self.old offset → ⊥) ⊥ ⊥ Unit) }
-        ensures holds { IsTrue F.tells
-            → (validation : Validation) → HoldsMini validation (state_of self.old)
-            → OnOk result (HoldsMini validation (state_of self.new)) }
-        ensures others { IsTrue F.tells
-            → ChangesOnlyBytes (place_at self.old offset) (mini_sector_len
-            - offset % mini_sector_len) (file_bytes_of self.old) (file_bytes_of self.new) }
-        ensures spares { IsTrue F.tells → Spares (mini_stream_of (state_of self.old))
-            (table_of (state_of self.old)) (table_of (state_of self.new)) }
-        ensures mini_spares { IsTrue F.tells → (validation : Validation)
-            → HoldsMini validation (state_of self.old) → SparesMini (mini_sector_at self.old offset
-            ∷ []) (state_of self.old) (state_of self.new) }
-        ensures begun { 0 < offset % mini_sector_len
-            → OnOk result ((table_of (state_of self.new)).file.begun ≡ true) }
-        ensures refused { IfErr result (StopsShort (state_of self.old) (state_of self.new)) }
-        ensures counts { IsTrue F.tells
-            → CountsFailure F.write_faults result (table_of (state_of self.old)).file.failures
-            (table_of (state_of self.new)).file.failures }
+        ensures zeroes { ZeroesMiniTail F.tells offset self.old self.new result }
+        ensures error { TailRefused offset self.old self.new result }
+        ensures there { SparesTail F.tells F.write_faults offset self.old self.new result }
     {
         let rest = (offset % MINI_SECTOR_LEN as u64) as usize;
         if rest == 0 {
@@ -386,6 +247,7 @@ impl<'a, F: Medium, A: Heap> MiniChain<'a, F, A> {
 
 impl<'a, F: Medium, A: Heap> MiniChain<'a, F, A> {
     ghost use Rattle.cfb_mini_chains.specs.LentMiniChain.{minialloc_of, state_of, start_sector_of, ids_of, len_of, position_of, missing_of, mini_sector_at, HasGained, HasKept, IsAsBefore, HasMiniSectorAt, OtherMiniSectorsStay, HasWritten, HasResized, file_bytes_of};
+    ghost use Rattle.cfb_mini_chains.specs.Writing.{FreesAll, HoldsFreed, FreeingRefused, CutsTo, CuttingRefused, WritesOn, HoldsWritten, WriteRefused, HasLen, HoldsResized, ResizeRefused};
 
     /// Frees its mini sectors: then it has none. Where they stood the file has zeros, also where the mini stream ends before; the sectors of
     /// the MiniFAT and of the mini stream that are not needed then are given back. Where it had none nothing changes.
@@ -395,43 +257,11 @@ impl<'a, F: Medium, A: Heap> MiniChain<'a, F, A> {
     pub fn free(&mut self) -> Result<(), Error>
         ensures same_minialloc { (minialloc_of self.new).ghost_name
             ≡ (minialloc_of self.old).ghost_name }
-        ensures ids { OnOk result (ids_of self.new ≡ []) }
-        ensures position { position_of self.new ≡ min (position_of self.old) (len_of self.new) }
-        ensures none { ids_of self.old ≡ [] → OnErr result ⊥ × IsAsBefore self.old self.new }
-        ensures freed { OnOk result (ShortensMini 0
-            (ids_of self.old) (ids_of self.new) (state_of self.old) (state_of self.new)) }
-        ensures directory { KeepsDirectory (state_of self.old) (state_of self.new) }
-        ensures holds { IsTrue F.tells
-            → (validation : Validation) → HoldsMini validation (state_of self.old)
-            → ((state_of self.new).minifat ≡ [] → AreStartsUnnamed (state_of self.old))
-            → IsUnnamed (state_of self.old).minifat (start_sector_of self.old)
-            → OnOk result (HoldsMini validation (state_of self.new)) }
-        ensures counted { IsTrue F.tells → 0 < length (ids_of self.old)
-            → (validation : Validation) → HoldsMini validation (state_of self.old) → OnOk result
-            (word_at (bytes_of (state_of self.new)) 64
-            ≡ length (state_of self.new).minifat_sectors) }
-        ensures wiped { IsTrue F.tells → (validation : Validation)
-            → HoldsMini validation (state_of self.old) → OnOk result ((m : ℕ)
-            → Contains (ids_of self.old) m → IsInMiniStream (state_of self.new) m
-            → IsZeroMini (state_of self.new) m) }
-        ensures erased { IsTrue F.tells → (validation : Validation)
-            → HoldsMini validation (state_of self.old) → OnOk result ((m : ℕ)
-            → Contains (ids_of self.old) m
-            → AreZeros (file_bytes_of self.new) (mini_place (state_of self.old) m)) }
-        ensures spares { IsTrue F.tells → Spares (system_sectors (state_of self.old))
-            (table_of (state_of self.old)) (table_of (state_of self.new)) }
-        ensures mini_spares { IsTrue F.tells
-            → (validation : Validation) → HoldsMini validation (state_of self.old)
-            → SparesMini (ids_of self.old) (state_of self.old) (state_of self.new) }
-        ensures header { IsTrue F.tells → KeepsHeader (state_of self.old) (state_of self.new) }
-        ensures refused { IfErr result (StopsShort (state_of self.old) (state_of self.new)) }
-        ensures kept { IfErr result (AfterMedium Unit (IsAsBefore self.old self.new)) }
-        ensures err { IfErr result (ChangeRefused (IsNotHeld (state_of self.old)) ⊥ ⊥ Unit) }
-        ensures begun { OnOk result (IsRaised (0 < length (ids_of self.old))
-            (table_of (state_of self.old)).file (table_of (state_of self.new)).file) }
-        ensures counts { IsTrue F.tells
-            → CountsFailure F.write_faults result (table_of (state_of self.old)).file.failures
-            (table_of (state_of self.new)).file.failures }
+        ensures frees { FreesAll self.old self.new result }
+        ensures changes { ChangesMinis F.tells F.write_faults (state_of self.old)
+            (state_of self.new) (ids_of self.old) result }
+        ensures holds { HoldsFreed F.tells self.old self.new result }
+        ensures ends { FreeingRefused self.old self.new result }
     {
         self.cut(0)
     }
@@ -448,50 +278,11 @@ impl<'a, F: Medium, A: Heap> MiniChain<'a, F, A> {
     pub fn write(&mut self, from: &[u8]) -> Result<usize, Error>
         ensures same_minialloc { (minialloc_of self.new).ghost_name
             ≡ (minialloc_of self.old).ghost_name }
-        ensures count { IfOk result (λ n. n ≤ length from.now) }
-        ensures some { IfOk result (λ n. 0 < length from.now → 0 < n) }
-        ensures position { MatchResult result (λ n. position_of self.new
-            ≡ position_of self.old + n) (λ _. position_of self.new ≡ position_of self.old) }
-        ensures none { length from.now ≡ 0 → OnErr result ⊥ × IsAsBefore self.old self.new }
-        ensures ids { ids_of self.new
-            ≡ ids_of self.old ++ gained (ids_of self.old) (ids_of self.new) }
-        ensures start { 0 < length (ids_of self.old)
-            → start_sector_of self.new ≡ start_sector_of self.old }
-        ensures within { missing_of self.old (length from.now) ≡ 0
-            → ChangesFileOnly (state_of self.old) (state_of self.new)
-            × (ids_of self.new ≡ ids_of self.old) }
-        ensures grown { 0 < missing_of self.old (length from.now)
-            → OnOk result (LengthensMini (missing_of self.old (length from.now))
-            (ids_of self.old) (ids_of self.new) (state_of self.old) (state_of self.new)) }
-        ensures directory { KeepsDirectory (state_of self.old) (state_of self.new) }
-        ensures holds { IsTrue F.tells
-            → (validation : Validation) → HoldsMini validation (state_of self.old)
-            → OnOk result (HoldsMini validation (state_of self.new)) }
-        ensures places { IsTrue F.tells
-            → (validation : Validation) → HoldsMini validation (state_of self.old)
-            → IfOk result (λ n. HasWritten n from.now self.old self.new) }
-        ensures others { IsTrue F.tells
-            → (validation : Validation) → HoldsMini validation (state_of self.old)
-            → OtherMiniSectorsStay (length from.now) self.old self.new }
-        ensures spares { IsTrue F.tells → Spares (system_sectors (state_of self.old))
-            (table_of (state_of self.old)) (table_of (state_of self.new)) }
-        ensures mini_spares { IsTrue F.tells
-            → (validation : Validation) → HoldsMini validation (state_of self.old)
-            → SparesMini (ids_of self.old) (state_of self.old) (state_of self.new) }
-        ensures header { IsTrue F.tells → KeepsHeader (state_of self.old) (state_of self.new) }
-        ensures begun { 0 < length from.now
-            → OnOk result ((table_of (state_of self.new)).file.begun ≡ true) }
-        ensures refused { IfErr result (StopsShortOrFull
-            (missing_of self.old (length from.now)) (state_of self.old) (state_of self.new)) }
-        ensures kept { IfErr result (AfterMedium Unit ((ids_of self.new ≡ ids_of self.old)
-            × (start_sector_of self.new ≡ start_sector_of self.old))) }
-        ensures err { IfErr result (ChangeRefused (IsNotHeld (state_of self.old)) Unit
-            (IsTooFewFor (state_of self.old) (missing_of self.old (length from.now))) Unit) }
-        ensures needed { missing_of self.old (length from.now) ≡ 0 → IfErr result
-            (ChangeRefused (HasMiniSectorAt self.old (position_of self.old) → ⊥) ⊥ ⊥ Unit) }
-        ensures counts { IsTrue F.tells
-            → CountsFailure F.write_faults result (table_of (state_of self.old)).file.failures
-            (table_of (state_of self.new)).file.failures }
+        ensures written { WritesOn from.now self.old self.new result }
+        ensures holds { HoldsWritten F.tells from.now self.old self.new result }
+        ensures changes { ChangesMinis F.tells F.write_faults (state_of self.old)
+            (state_of self.new) (ids_of self.old) result }
+        ensures ends { WriteRefused from.now self.old self.new result }
     {
         let missing = self.missing(from.len());
         if missing == 0 {
@@ -510,68 +301,11 @@ impl<'a, F: Medium, A: Heap> MiniChain<'a, F, A> {
     pub fn set_len(&mut self, len: u64) -> Result<(), Error>
         ensures same_minialloc { (minialloc_of self.new).ghost_name
             ≡ (minialloc_of self.old).ghost_name }
-        ensures none { len ≡ len_of self.old → OnErr result ⊥ × IsAsBefore self.old self.new }
-        ensures position { position_of self.new ≡ min (position_of self.old) (len_of self.new) }
-        ensures start { 0 < len → 0 < length (ids_of self.old)
-            → OnOk result (start_sector_of self.new ≡ start_sector_of self.old) }
-        ensures listed { length (ids_of self.old) < rounded_up len mini_sector_len
-            → ids_of self.new ≡ ids_of self.old ++ gained (ids_of self.old) (ids_of self.new) }
-        ensures grown { length (ids_of self.old) < rounded_up len mini_sector_len
-            → OnOk result (LengthensMini (rounded_up len mini_sector_len - length (ids_of self.old))
-            (ids_of self.old) (ids_of self.new) (state_of self.old) (state_of self.new)) }
-        ensures cut { rounded_up len mini_sector_len ≤ length (ids_of self.old)
-            → OnOk result (ShortensMini (rounded_up len mini_sector_len)
-            (ids_of self.old) (ids_of self.new) (state_of self.old) (state_of self.new)) }
-        ensures within { rounded_up len mini_sector_len ≡ length (ids_of self.old)
-            → ChangesFileOnly (state_of self.old) (state_of self.new)
-            × (ids_of self.new ≡ ids_of self.old) }
-        ensures directory { KeepsDirectory (state_of self.old) (state_of self.new) }
-        ensures holds { IsTrue F.tells
-            → (validation : Validation) → HoldsMini validation (state_of self.old)
-            → ((state_of self.new).minifat ≡ [] → AreStartsUnnamed (state_of self.old))
-            → (len ≡ 0 → IsUnnamed (state_of self.old).minifat (start_sector_of self.old))
-            → OnOk result (HoldsMini validation (state_of self.new)) }
-        ensures places { IsTrue F.tells
-            → (validation : Validation) → HoldsMini validation (state_of self.old)
-            → OnOk result (HasResized len self.old self.new) }
-        ensures bytes { IsTrue F.tells
-            → (validation : Validation) → HoldsMini validation (state_of self.old)
-            → KeepsMiniBytesBut (drop (len / mini_sector_len) (ids_of self.old))
-            (state_of self.old) (state_of self.new) }
-        ensures counted { IsTrue F.tells → rounded_up len mini_sector_len < length (ids_of self.old)
-            → (validation : Validation) → HoldsMini validation (state_of self.old) → OnOk result
-            (word_at (bytes_of (state_of self.new)) 64
-            ≡ length (state_of self.new).minifat_sectors) }
-        ensures wiped { IsTrue F.tells → (validation : Validation)
-            → HoldsMini validation (state_of self.old) → OnOk result ((m : ℕ)
-            → Contains (drop (rounded_up len mini_sector_len) (ids_of self.old)) m
-            → IsInMiniStream (state_of self.new) m → IsZeroMini (state_of self.new) m) }
-        ensures erased { IsTrue F.tells → (validation : Validation)
-            → HoldsMini validation (state_of self.old) → OnOk result ((m : ℕ)
-            → Contains (drop (rounded_up len mini_sector_len) (ids_of self.old)) m
-            → AreZeros (file_bytes_of self.new) (mini_place (state_of self.old) m)) }
-        ensures spares { IsTrue F.tells → Spares (system_sectors (state_of self.old))
-            (table_of (state_of self.old)) (table_of (state_of self.new)) }
-        ensures mini_spares { IsTrue F.tells
-            → (validation : Validation) → HoldsMini validation (state_of self.old)
-            → SparesMini (ids_of self.old) (state_of self.old) (state_of self.new) }
-        ensures header { IsTrue F.tells → KeepsHeader (state_of self.old) (state_of self.new) }
-        ensures refused { IfErr result (StopsShortOrFull (rounded_up len mini_sector_len
-            - length (ids_of self.old)) (state_of self.old) (state_of self.new)) }
-        ensures kept { IfErr result (AfterMedium Unit ((ids_of self.new ≡ ids_of self.old)
-            × (start_sector_of self.new ≡ start_sector_of self.old))) }
-        ensures err { IfErr result (ChangeRefused (IsNotHeld (state_of self.old))
-            (length (ids_of self.old) < rounded_up len mini_sector_len) ((length (ids_of self.old)
-            < rounded_up len mini_sector_len)
-            × IsTooFewFor (state_of self.old) (rounded_up len mini_sector_len
-            - length (ids_of self.old))) Unit) }
-        ensures needed { rounded_up len mini_sector_len ≡ length (ids_of self.old)
-            → IfErr result (ChangeRefused (HasMiniSectorAt self.old len → ⊥) ⊥ ⊥ Unit) }
-        ensures begun { OnOk result (IsRaised (len ≢ len_of self.old)
-            (table_of (state_of self.old)).file (table_of (state_of self.new)).file) }
-        ensures counts { IsTrue F.tells
-            → CountsFailure F.write_faults result (table_of (state_of self.old)).file.failures
-            (table_of (state_of self.new)).file.failures }
+        ensures sized { HasLen len self.old self.new result }
+        ensures changes { ChangesMinis F.tells F.write_faults (state_of self.old)
+            (state_of self.new) (ids_of self.old) result }
+        ensures holds { HoldsResized F.tells len self.old self.new result }
+        ensures ends { ResizeRefused len self.old self.new result }
     {
         let mini_sectors = len.div_ceil(MINI_SECTOR_LEN as u64) as usize;
         let have = self.num_mini_sectors();
@@ -603,45 +337,14 @@ impl<'a, F: Medium, A: Heap> MiniChain<'a, F, A> {
         ensures same_minialloc { (minialloc_of self.new).ghost_name
             ≡ (minialloc_of self.old).ghost_name }
         ensures position { position_of self.new ≡ position_of self.old }
-        ensures ids { ids_of self.new
-            ≡ ids_of self.old ++ gained (ids_of self.old) (ids_of self.new) }
-        ensures start { 0 < length (ids_of self.old)
-            → start_sector_of self.new ≡ start_sector_of self.old }
-        ensures grown { OnOk result (LengthensMini count
-            (ids_of self.old) (ids_of self.new) (state_of self.old) (state_of self.new)) }
-        ensures room { OnOk result ((m : ℕ)
-            → m < length (state_of self.new).minifat → HasMiniSector (state_of self.new) m) }
-        ensures goes_on { mini_stream_of (state_of self.new)
-            ≡ mini_stream_of (state_of self.old) ++ gained (mini_stream_of
-            (state_of self.old)) (mini_stream_of (state_of self.new)) }
-        ensures directory { KeepsDirectory (state_of self.old) (state_of self.new) }
-        ensures holds { IsTrue F.tells
-            → (validation : Validation) → HoldsMini validation (state_of self.old)
-            → OnOk result (HoldsMini validation (state_of self.new)) }
-        ensures filled { IsTrue F.tells
-            → (validation : Validation) → HoldsMini validation (state_of self.old)
-            → OnOk result ((m : ℕ) → Contains (gained (ids_of self.old) (ids_of self.new)) m
-            → IsZeroMini (state_of self.new) m) }
-        ensures spares { IsTrue F.tells → Spares (system_sectors (state_of self.old))
-            (table_of (state_of self.old)) (table_of (state_of self.new)) }
-        ensures mini_spares { IsTrue F.tells
-            → (validation : Validation) → HoldsMini validation (state_of self.old)
-            → SparesMini (ids_of self.old) (state_of self.old) (state_of self.new) }
-        ensures bytes { IsTrue F.tells
-            → (validation : Validation) → HoldsMini validation (state_of self.old)
-            → KeepsMiniBytesBut [] (state_of self.old) (state_of self.new) }
-        ensures header { IsTrue F.tells → KeepsHeader (state_of self.old) (state_of self.new) }
-        ensures refused { IfErr result
-            (StopsShortOrFull count (state_of self.old) (state_of self.new)) }
-        ensures kept { IfErr result (AfterMedium Unit ((ids_of self.new ≡ ids_of self.old)
-            × (start_sector_of self.new ≡ start_sector_of self.old))) }
-        ensures err { IfErr result (ChangeRefused
-            (IsNotHeld (state_of self.old)) Unit (IsTooFewFor (state_of self.old) count) Unit) }
-        ensures begun { OnOk result (IsRaised (0
-            < count) (table_of (state_of self.old)).file (table_of (state_of self.new)).file) }
-        ensures counts { IsTrue F.tells
-            → CountsFailure F.write_faults result (table_of (state_of self.old)).file.failures
-            (table_of (state_of self.new)).file.failures }
+        ensures grows { ListsMore count (state_of self.old) (state_of self.new) (ids_of self.old)
+            (ids_of self.new) (start_sector_of self.old) (start_sector_of self.new) result }
+        ensures changes { ChangesMinis F.tells F.write_faults (state_of self.old)
+            (state_of self.new) (ids_of self.old) result }
+        ensures holds { HoldsMore F.tells (state_of self.old) (state_of self.new) (ids_of self.old)
+            (ids_of self.new) result }
+        ensures ends { TakingRefused count (state_of self.old) (state_of self.new) (ids_of self.old)
+            (ids_of self.new) (start_sector_of self.old) (start_sector_of self.new) result }
     {
         extend_list(self.minialloc, &mut self.ids, &mut self.start, count)
     }
@@ -650,46 +353,12 @@ impl<'a, F: Medium, A: Heap> MiniChain<'a, F, A> {
     fn cut(&mut self, count: usize) -> Result<(), Error>
         ensures same_minialloc { (minialloc_of self.new).ghost_name
             ≡ (minialloc_of self.old).ghost_name }
-        ensures position { position_of self.new ≡ min (position_of self.old) (len_of self.new) }
-        ensures none { length (ids_of self.old) ≤ count
-            → OnErr result ⊥ × IsAsBefore self.old self.new }
-        ensures cut { OnOk result (ShortensMini count
-            (ids_of self.old) (ids_of self.new) (state_of self.old) (state_of self.new)) }
-        ensures directory { KeepsDirectory (state_of self.old) (state_of self.new) }
-        ensures holds { IsTrue F.tells
-            → (validation : Validation) → HoldsMini validation (state_of self.old)
-            → ((state_of self.new).minifat ≡ [] → AreStartsUnnamed (state_of self.old))
-            → (count ≡ 0 → IsUnnamed (state_of self.old).minifat (start_sector_of self.old))
-            → OnOk result (HoldsMini validation (state_of self.new)) }
-        ensures counted { IsTrue F.tells → count < length (ids_of self.old)
-            → (validation : Validation) → HoldsMini validation (state_of self.old) → OnOk result
-            (word_at (bytes_of (state_of self.new)) 64
-            ≡ length (state_of self.new).minifat_sectors) }
-        ensures wiped { IsTrue F.tells → (validation : Validation)
-            → HoldsMini validation (state_of self.old) → OnOk result ((m : ℕ)
-            → Contains (drop count (ids_of self.old)) m
-            → IsInMiniStream (state_of self.new) m → IsZeroMini (state_of self.new) m) }
-        ensures erased { IsTrue F.tells → (validation : Validation)
-            → HoldsMini validation (state_of self.old) → OnOk result ((m : ℕ)
-            → Contains (drop count (ids_of self.old)) m
-            → AreZeros (file_bytes_of self.new) (mini_place (state_of self.old) m)) }
-        ensures spares { IsTrue F.tells → Spares (system_sectors (state_of self.old))
-            (table_of (state_of self.old)) (table_of (state_of self.new)) }
-        ensures mini_spares { IsTrue F.tells
-            → (validation : Validation) → HoldsMini validation (state_of self.old)
-            → SparesMini (ids_of self.old) (state_of self.old) (state_of self.new) }
-        ensures bytes { IsTrue F.tells → (validation : Validation)
-            → HoldsMini validation (state_of self.old) → KeepsMiniBytesBut
-            (drop count (ids_of self.old)) (state_of self.old) (state_of self.new) }
-        ensures header { IsTrue F.tells → KeepsHeader (state_of self.old) (state_of self.new) }
-        ensures refused { IfErr result (StopsShort (state_of self.old) (state_of self.new)) }
-        ensures kept { IfErr result (AfterMedium Unit (IsAsBefore self.old self.new)) }
-        ensures err { IfErr result (ChangeRefused (IsNotHeld (state_of self.old)) ⊥ ⊥ Unit) }
-        ensures begun { OnOk result (IsRaised (count < length (ids_of self.old))
-            (table_of (state_of self.old)).file (table_of (state_of self.new)).file) }
-        ensures counts { IsTrue F.tells
-            → CountsFailure F.write_faults result (table_of (state_of self.old)).file.failures
-            (table_of (state_of self.new)).file.failures }
+        ensures cuts { CutsTo count self.old self.new result }
+        ensures changes { ChangesMinis F.tells F.write_faults (state_of self.old)
+            (state_of self.new) (ids_of self.old) result }
+        ensures holds { HoldsLess F.tells count (state_of self.old) (state_of self.new)
+            (ids_of self.old) (start_sector_of self.old) result }
+        ensures ends { CuttingRefused count self.old self.new result }
     {
         if count >= self.ids.len() {
             return Ok(());
@@ -719,39 +388,15 @@ fn extend_list<F: Medium, A: Heap>(
     requires chained { chain_from minialloc.old.minifat start.old ≡ Some ids.old.items }
     requires some { 0 < count }
     ensures chained { chain_from minialloc.new.minifat start.new ≡ Some ids.new.items }
-    ensures few { length ids.new.items ≤ max_regular_sector + 1 }
-    ensures longer { length ids.old.items ≤ length ids.new.items }
-    ensures listed { ids.new.items ≡ ids.old.items ++ gained ids.old.items ids.new.items }
-    ensures start { 0 < length ids.old.items → start.new ≡ start.old }
-    ensures grown { OnOk result
-        (LengthensMini count ids.old.items ids.new.items minialloc.old minialloc.new) }
-    ensures room { OnOk result ((m : ℕ)
-        → m < length minialloc.new.minifat → HasMiniSector minialloc.new m) }
-    ensures goes_on { mini_stream_of minialloc.new ≡ mini_stream_of minialloc.old
-        ++ gained (mini_stream_of minialloc.old) (mini_stream_of minialloc.new) }
-    ensures directory { KeepsDirectory minialloc.old minialloc.new }
-    ensures holds { IsTrue F.tells → (validation : Validation)
-        → HoldsMini validation minialloc.old → OnOk result (HoldsMini validation minialloc.new) }
-    ensures filled { IsTrue F.tells
-        → (validation : Validation) → HoldsMini validation minialloc.old → OnOk result ((m : ℕ)
-        → Contains (gained ids.old.items ids.new.items) m → IsZeroMini minialloc.new m) }
-    ensures spares { IsTrue F.tells
-        → Spares (system_sectors minialloc.old) (table_of minialloc.old) (table_of minialloc.new) }
-    ensures mini_spares { IsTrue F.tells
-        → (validation : Validation) → HoldsMini validation minialloc.old
-        → SparesMini ids.old.items minialloc.old minialloc.new }
-    ensures bytes { IsTrue F.tells → (validation : Validation)
-        → HoldsMini validation minialloc.old → KeepsMiniBytesBut [] minialloc.old minialloc.new }
-    ensures header { IsTrue F.tells → KeepsHeader minialloc.old minialloc.new }
-    ensures refused { IfErr result (StopsShortOrFull count minialloc.old minialloc.new) }
-    ensures kept { IfErr result (AfterMedium Unit ((ids.new.items ≡ ids.old.items)
-        × (start.new ≡ start.old))) }
-    ensures err { IfErr result
-        (ChangeRefused (IsNotHeld minialloc.old) Unit (IsTooFewFor minialloc.old count) Unit) }
-    ensures begun { OnOk result (IsRaised (0
-        < count) (table_of minialloc.old).file (table_of minialloc.new).file) }
-    ensures counts { IsTrue F.tells → CountsFailure F.write_faults result
-        (table_of minialloc.old).file.failures (table_of minialloc.new).file.failures }
+        ensures longer { LongerList ids.old.items ids.new.items }
+        ensures grows { ListsMore count minialloc.old minialloc.new ids.old.items ids.new.items
+            start.old start.new result }
+        ensures changes { ChangesMinis F.tells F.write_faults minialloc.old minialloc.new
+            ids.old.items result }
+        ensures holds { HoldsMore F.tells minialloc.old minialloc.new ids.old.items ids.new.items
+            result }
+        ensures ends { TakingRefused count minialloc.old minialloc.new ids.old.items ids.new.items
+            start.old start.new result }
 {
     let extended = minialloc.extend_mini_listed(ids, count);
     *start = first_number(ids);
@@ -771,38 +416,12 @@ fn shorten_list<F: Medium, A: Heap>(
     ensures few { length ids.new.items ≤ max_regular_sector + 1 }
     ensures cut { OnOk result
         (ShortensMini count ids.old.items ids.new.items minialloc.old minialloc.new) }
-    ensures directory { KeepsDirectory minialloc.old minialloc.new }
-    ensures holds { IsTrue F.tells → (validation : Validation)
-        → HoldsMini validation minialloc.old
-        → (minialloc.new.minifat ≡ [] → AreStartsUnnamed minialloc.old)
-        → (count ≡ 0 → IsUnnamed minialloc.old.minifat start.old)
-        → OnOk result (HoldsMini validation minialloc.new) }
-    ensures counted { IsTrue F.tells → count < length ids.old.items
-        → (validation : Validation) → HoldsMini validation minialloc.old → OnOk result
-        (word_at (bytes_of minialloc.new) 64 ≡ length minialloc.new.minifat_sectors) }
-    ensures wiped { IsTrue F.tells
-        → (validation : Validation) → HoldsMini validation minialloc.old → OnOk result ((m : ℕ)
-        → Contains (drop count ids.old.items) m
-        → IsInMiniStream minialloc.new m → IsZeroMini minialloc.new m) }
-    ensures erased { IsTrue F.tells
-        → (validation : Validation) → HoldsMini validation minialloc.old → OnOk result ((m : ℕ)
-        → Contains (drop count ids.old.items) m
-        → AreZeros (bytes_of minialloc.new) (mini_place minialloc.old m)) }
-    ensures spares { IsTrue F.tells
-        → Spares (system_sectors minialloc.old) (table_of minialloc.old) (table_of minialloc.new) }
-    ensures mini_spares { IsTrue F.tells
-        → (validation : Validation) → HoldsMini validation minialloc.old
-        → SparesMini ids.old.items minialloc.old minialloc.new }
-    ensures bytes { IsTrue F.tells → (validation : Validation) → HoldsMini validation minialloc.old
-        → KeepsMiniBytesBut (drop count ids.old.items) minialloc.old minialloc.new }
-    ensures header { IsTrue F.tells → KeepsHeader minialloc.old minialloc.new }
-    ensures refused { IfErr result (StopsShort minialloc.old minialloc.new) }
-    ensures kept { IfErr result (AfterMedium Unit ((ids.new.items ≡ ids.old.items)
-        × (start.new ≡ start.old))) }
-    ensures err { IfErr result (ChangeRefused (IsNotHeld minialloc.old) ⊥ ⊥ Unit) }
-    ensures begun { OnOk result ((table_of minialloc.new).file.begun ≡ true) }
-    ensures counts { IsTrue F.tells → CountsFailure F.write_faults result
-        (table_of minialloc.old).file.failures (table_of minialloc.new).file.failures }
+        ensures changes { ChangesMinis F.tells F.write_faults minialloc.old minialloc.new
+            ids.old.items result }
+        ensures holds { HoldsLess F.tells count minialloc.old minialloc.new ids.old.items start.old
+            result }
+        ensures ends { CutRefused minialloc.old minialloc.new ids.old.items ids.new.items start.old
+            start.new result }
 {
     let cut = minialloc.cut_mini_listed(ids, count);
     *start = first_number(ids);
@@ -820,23 +439,9 @@ fn read_minis<F: ReadMedium, A: Heap>(
 ) -> Result<usize, Error>
     requires some { 0 < length into.old }
     requires listed { at < length ids.now * mini_sector_len }
-    ensures kept { IsStill minialloc.old minialloc.new }
-    ensures some { IfOk result (λ n. (0 < n) × (n ≤ length into.old)) }
-    ensures together { IfOk result (StandTogether minialloc.old ids.now at) }
-    ensures reached { IfOk result (λ n. place_along_minis minialloc.old ids.now at + n
-        ≤ (table_of minialloc.old).file.len) }
-    ensures ok { IsTrue F.tells → IfOk result (λ n. take n into.new
-        ≡ part (bytes_of minialloc.old) (place_along_minis minialloc.old ids.now at) n) }
-    ensures rest { IfOk result (λ n. drop n into.new ≡ drop n into.old) }
-    ensures cut { (HasMiniByte minialloc.old
-        (slice_index ids.now (at / mini_sector_len)) (at % mini_sector_len)
-        → ⊥) → IsErrAnd result IsInvalidData }
-    ensures err { IfErr result (ChangeRefused (HasMiniByte minialloc.old
-        (slice_index ids.now (at / mini_sector_len)) (at % mini_sector_len) → ⊥) ⊥ ⊥ Unit) }
-    ensures same { IsTrue F.tells → OnOk result (minialloc.new ≡ minialloc.old) }
-    ensures bytes { IsTrue F.tells → bytes_of minialloc.new ≡ bytes_of minialloc.old }
-    ensures counts { IsTrue F.tells → CountsFailure F.read_faults result
-        (table_of minialloc.old).file.failures (table_of minialloc.new).file.failures }
+        ensures reads { OnlyReadsMinis F.tells F.read_faults minialloc.old minialloc.new result }
+        ensures part { ReadsTogether F.tells at minialloc.old ids.now into.old into.new result }
+        ensures error { ByteRefused at minialloc.old ids.now result }
 {
     let index = (at / MINI_SECTOR_LEN as u64) as usize;
     let offset = (at % MINI_SECTOR_LEN as u64) as usize;
@@ -856,37 +461,12 @@ fn write_minis<F: Medium, A: Heap>(
 ) -> Result<usize, Error>
     requires some { 0 < length from.now }
     requires listed { at < length ids.now * mini_sector_len }
-    ensures kept { ChangesFileOnly minialloc.old minialloc.new }
-    ensures some { IfOk result (λ n. (0 < n) × (n ≤ length from.now)) }
-    ensures together { IfOk result (StandTogether minialloc.old ids.now at) }
-    ensures ok { IsTrue F.tells → IfOk result (λ n. (table_of minialloc.new).file
-        ≡ record (table_of minialloc.old).file {
-          bytes = written (bytes_of minialloc.old)
-              (place_along_minis minialloc.old ids.now at) (take n from.now);
-          len = max (table_of minialloc.old).file.len
-              (place_along_minis minialloc.old ids.now at + n);
-          begun = true;
-        }) }
-    ensures there { OnOk result
-        (HasMiniSector minialloc.old (slice_index ids.now (at / mini_sector_len))) }
-    ensures begun { OnOk result ((table_of minialloc.new).file.begun ≡ true) }
-    ensures cut { (HasMiniSector minialloc.old (slice_index ids.now (at / mini_sector_len))
-        → ⊥) → IsErrAnd result IsInvalidData }
-    ensures err { IfErr result (ChangeRefused
-        (HasMiniSector minialloc.old (slice_index ids.now (at / mini_sector_len))
-        → ⊥) ⊥ ⊥ Unit) }
-    ensures others { IsTrue F.tells
-        → ChangesTogether ids.now at (length from.now) minialloc.old minialloc.new }
-    ensures spares { IsTrue F.tells
-        → Spares (mini_stream_of minialloc.old) (table_of minialloc.old) (table_of minialloc.new) }
-    ensures mini_spares { IsTrue F.tells → (validation : Validation)
-        → HoldsMini validation minialloc.old
-        → SparesMini (minis_along ids.now at (length from.now)) minialloc.old minialloc.new }
-    ensures holds { IsTrue F.tells → (validation : Validation)
-        → HoldsMini validation minialloc.old → OnOk result (HoldsMini validation minialloc.new) }
-    ensures refused { IfErr result (StopsShort minialloc.old minialloc.new) }
-    ensures counts { IsTrue F.tells → CountsFailure F.write_faults result
-        (table_of minialloc.old).file.failures (table_of minialloc.new).file.failures }
+        ensures writes { WritesInMini F.tells minialloc.old minialloc.new result }
+        ensures part { WritesTogether F.tells at minialloc.old minialloc.new ids.now from.now result
+            }
+        ensures ends { BeginsTogether F.tells F.write_faults at minialloc.old minialloc.new ids.now
+            from.now result }
+        ensures error { SectorRefused at minialloc.old ids.now result }
 {
     let index = (at / MINI_SECTOR_LEN as u64) as usize;
     let offset = (at % MINI_SECTOR_LEN as u64) as usize;
@@ -905,30 +485,15 @@ fn write_mini_sector<F: Medium, A: Heap>(
 ) -> Result<(), Error>
     requires some { 0 < length from.now }
     requires within { offset + length from.now ≤ mini_sector_len }
-    ensures kept { ChangesFileOnly minialloc.old minialloc.new }
-    ensures ok { IsTrue F.tells → OnOk result ((table_of minialloc.new).file
-        ≡ record (table_of minialloc.old).file {
-          bytes = written
-              (bytes_of minialloc.old) (mini_place minialloc.old mini + offset) from.now;
-          len = max (table_of minialloc.old).file.len (mini_place minialloc.old mini
-              + offset + length from.now);
-          begun = true;
-        }) }
-    ensures there { OnOk result (HasMiniSector minialloc.old mini) }
-    ensures begun { OnOk result ((table_of minialloc.new).file.begun ≡ true) }
-    ensures cut { (HasMiniSector minialloc.old mini → ⊥) → IsErrAnd result IsInvalidData }
-    ensures err { IfErr result (ChangeRefused (HasMiniSector minialloc.old mini → ⊥) ⊥ ⊥ Unit) }
-    ensures others { IsTrue F.tells → ChangesOnlyBytes (mini_place minialloc.old mini
-        + offset) (length from.now) (bytes_of minialloc.old) (bytes_of minialloc.new) }
-    ensures spares { IsTrue F.tells
-        → Spares (mini_stream_of minialloc.old) (table_of minialloc.old) (table_of minialloc.new) }
-    ensures mini_spares { IsTrue F.tells → (validation : Validation)
-        → HoldsMini validation minialloc.old → SparesMini (mini ∷ []) minialloc.old minialloc.new }
-    ensures holds { IsTrue F.tells → (validation : Validation)
-        → HoldsMini validation minialloc.old → OnOk result (HoldsMini validation minialloc.new) }
-    ensures refused { IfErr result (StopsShort minialloc.old minialloc.new) }
-    ensures counts { IsTrue F.tells → CountsFailure F.write_faults result
-        (table_of minialloc.old).file.failures (table_of minialloc.new).file.failures }
+        ensures writes { WritesInMini F.tells minialloc.old minialloc.new result }
+        ensures put { PutsBytes F.tells F.write_faults
+            (mini_start minialloc.old.directory.table.tables.version (mini_stream_of
+            minialloc.old) mini + offset) from.now (table_of minialloc.old).file
+            (table_of minialloc.new).file
+            (mini_start minialloc.old.directory.table.tables.version (mini_stream_of
+            minialloc.old) mini + offset + length from.now) (length from.now) result }
+        ensures ends { BeginsMiniWrite F.tells mini minialloc.old minialloc.new result }
+        ensures error { MiniSectorRefused mini minialloc.old result }
 {
     minialloc.write_mini(mini, offset, from)
 }

@@ -12,3 +12,4 @@ pub use Rattle.cfb_mini_sectors.specs.cfb_directory
 pub use Rattle.cfb_mini_sectors.specs as cfb_mini_sectors
 pub mod MiniSectors
 pub mod Changing
+pub mod Settling

@@ -1,6 +1,8 @@
 //! How mini chains become longer and shorter: what must be so, the MiniFAT in memory, the sectors that it lacks, and then what is written:
 //! zeros, words, and the root's entry (MS-CFB 2.4 and 2.6.2).
 ghost use Rattle.std.specs.Prelude.{◌≡◌, ◌≢◌, ◌↔◌, ◌⊎◌, ℕ, List, ◌+◌, ◌-◌, ◌*◌, ◌/◌, ◌<◌, ◌≤◌, ◌++◌, [], Some, length, nat_eq, take, drop, true, Contains, IsTrue, vec_len, vec_capacity, IfErr, OnOk};
+ghost use Rattle.cfb_mini_changes.specs.Settling.{NamesMiniStream, HoldsNamedStream, ChangesMiniStream, SettlesMini, WritesSystem, HoldsWritten, HoldsSettled, HoldsTaken, CanTakePrepared, HasSectorsFor, GetsSectorsFor, GrowsSystem, HoldsGrown, GrowingRefused, ListsLonger, GrowsMeasured, HoldsLonger, TakingRefused, GivesRoom, GivesRoomIfFree, GivesTheRoom, HoldsInRoom, HoldsFreed, CutsMinis, HoldsShorter, CuttingRefused, GivesSystemBack, CanCutMinis, IsPreparedFor};
+ghost use Rattle.cfb_mini_changes.specs.cfb_mini_table.Taking.{LengthensMiniList};
 ghost use Rattle.std.specs.List.{IsDistinct};
 ghost use Rattle.cfb_format.specs.declared.validate.Validation.{Validation};
 ghost use Rattle.cfb_format.specs.Bytes.{end_of_chain, max_regular_sector, sector_len, word_at, words_per_sector};
@@ -99,34 +101,9 @@ fn name_mini_stream<F: Medium, A: Heap>(
 ) -> Result<(), Error>
     requires placed { ArePlaced directory.old }
     requires few { len ≤ max_regular_sector }
-    ensures kept { (directory.new.sectors ≡ directory.old.sectors)
-        × (directory.new.table.tables ≡ directory.old.table.tables) }
-    ensures same_length { length directory.new.entries ≡ length directory.old.entries }
-    ensures named { OnOk result (entry_at directory.new.entries 0
-        ≡ record (entry_at directory.old.entries 0) {
-          start_sector = first_or_end stream.now;
-          stream_len = mini_sector_len * len;
-        }) }
-    ensures entries { (directory.new.entries ≡ directory.old.entries)
-        ⊎ (entry_at directory.new.entries 0
-        ≡ record (entry_at directory.old.entries 0) {
-          start_sector = first_or_end stream.now;
-          stream_len = mini_sector_len * len;
-        }) }
-    ensures others { (k : ℕ)
-        → k ≢ 0 → entry_at directory.new.entries k ≡ entry_at directory.old.entries k }
-    ensures holds { IsTrue F.tells
-        → (validation : Validation) → HoldsDirectory validation directory.old
-        → len ≤ max_mini_sectors directory.old.table.tables.version
-        → OnOk result (HoldsDirectory validation directory.new) }
-    ensures spares { IsTrue F.tells
-        → Spares directory.old.sectors directory.old.table directory.new.table }
-    ensures header { IsTrue F.tells → KeepsWholeHeader directory.old directory.new }
-    ensures limits { KeepsDirectoryLimits directory.old directory.new }
-    ensures begun { directory.old.table.file.begun ≡ true → directory.new.table.file.begun ≡ true }
-    ensures err { IfErr result IsMediumError }
-    ensures counts { IsTrue F.tells → CountsFailure
-        F.write_faults result directory.old.table.file.failures directory.new.table.file.failures }
+        ensures names { NamesMiniStream len directory.old directory.new stream.now result }
+        ensures holds { HoldsNamedStream F.tells F.write_faults len directory.old directory.new
+            result }
 {
     let start = first_number(stream);
     let stream_len = (MINI_SECTOR_LEN * len) as u64;
@@ -156,31 +133,11 @@ fn write_sectors<F: Medium, A: Heap>(
         (length directory.old.table.tables.fat) minis.now }
     ensures rest { directory.new ≡ record directory.old { table = directory.new.table } }
     ensures tables { directory.new.table.tables ≡ directory.old.table.tables }
-    ensures holds { IsTrue F.tells → (validation : Validation) → HoldsMiniBut numbers.now validation
-        (mini_of directory.old table.now minifat_sectors.now (Some stream.now))
-        → OnOk result (HoldsMiniBut [] validation
-        (mini_of directory.new table.now minifat_sectors.now (Some stream.now))) }
-    ensures zeros { IsTrue F.tells → IsDistinct nat_eq
-        (system_sectors (mini_of directory.old table.now minifat_sectors.now (Some stream.now)))
-        → OnOk result ((m : ℕ) → Contains minis.now m
-        → IsZeroMini (mini_of directory.new table.now minifat_sectors.now (Some stream.now)) m) }
-    ensures other_minis { IsTrue F.tells → IsDistinct nat_eq
-        (system_sectors (mini_of directory.old table.now minifat_sectors.now (Some stream.now)))
-        → (m : ℕ)
-        → HasMiniSector (mini_of directory.old table.now minifat_sectors.now (Some stream.now)) m
-        → (Contains minis.now m → ⊥) → RangeStays
-        (mini_place (mini_of directory.old table.now minifat_sectors.now (Some stream.now)) m)
-        (mini_place (mini_of directory.old table.now minifat_sectors.now (Some stream.now)) m
-        + mini_sector_len)
-        (bytes_of (mini_of directory.old table.now minifat_sectors.now (Some stream.now)))
-        (bytes_of (mini_of directory.new table.now minifat_sectors.now (Some stream.now))) }
-    ensures spares { IsTrue F.tells
-        → Spares (minifat_sectors.now ++ stream.now) directory.old.table directory.new.table }
-    ensures header { IsTrue F.tells → KeepsWholeHeader directory.old directory.new }
-    ensures begun { directory.new.table.file.begun ≡ true }
-    ensures err { IfErr result IsMediumError }
-    ensures counts { IsTrue F.tells → CountsFailure
-        F.write_faults result directory.old.table.file.failures directory.new.table.file.failures }
+        ensures holds { HoldsWritten F.tells minis.now numbers.now
+            (mini_of directory.old table.now minifat_sectors.now (Some stream.now))
+            (mini_of directory.new table.now minifat_sectors.now (Some stream.now)) result }
+        ensures writes { WritesSystem F.tells F.write_faults directory.old directory.new
+            (minifat_sectors.now ++ stream.now) result }
 {
     let allocator = directory.allocator_mut();
     allocator.begin_change();
@@ -205,40 +162,12 @@ fn settle<F: Medium, A: Heap>(
         (length directory.old.table.tables.fat) minis.now }
     ensures kept { (directory.new.sectors ≡ directory.old.sectors)
         × (directory.new.table.tables ≡ directory.old.table.tables) }
-    ensures measured { OnOk result
-        (IsMeasuredMini (mini_of directory.new table.now minifat_sectors.now (Some stream.now))) }
-    ensures entries { MovesRoot (mini_of directory.old table.now minifat_sectors.now
-        (Some stream.now)) (mini_of directory.new table.now minifat_sectors.now (Some stream.now)) }
-    ensures holds { IsTrue F.tells → (validation : Validation)
-        → EndsBusy table.now.minifat → HoldsMiniBut numbers.now validation
-        (mini_of directory.old table.now minifat_sectors.now (Some stream.now))
-        → OnOk result (HoldsMini validation
-        (mini_of directory.new table.now minifat_sectors.now (Some stream.now))) }
-    ensures zeros { IsTrue F.tells → (validation : Validation) (late minifat : List ℕ)
-        → HoldsMiniBut late validation (with_minifat
-        (mini_of directory.old table.now minifat_sectors.now (Some stream.now)) minifat)
-        → OnOk result ((m : ℕ) → Contains minis.now m
-        → IsZeroMini (mini_of directory.new table.now minifat_sectors.now (Some stream.now)) m) }
-    ensures other_minis { IsTrue F.tells → (validation : Validation) (late minifat : List ℕ)
-        → HoldsMiniBut late validation (with_minifat
-        (mini_of directory.old table.now minifat_sectors.now (Some stream.now)) minifat) → (m : ℕ)
-        → HasMiniSector (mini_of directory.old table.now minifat_sectors.now (Some stream.now)) m
-        → (Contains minis.now m → ⊥) → RangeStays
-        (mini_place (mini_of directory.old table.now minifat_sectors.now (Some stream.now)) m)
-        (mini_place (mini_of directory.old table.now minifat_sectors.now (Some stream.now)) m
-        + mini_sector_len)
-        (bytes_of (mini_of directory.old table.now minifat_sectors.now (Some stream.now)))
-        (bytes_of (mini_of directory.new table.now minifat_sectors.now (Some stream.now))) }
-    ensures spares { IsTrue F.tells
-        → Spares (system_sectors (mini_of directory.old table.now minifat_sectors.now
-        (Some stream.now))) directory.old.table directory.new.table }
-    ensures header { IsTrue F.tells → KeepsWholeHeader directory.old directory.new }
-    ensures limits { KeepsLimits (mini_of directory.old table.now minifat_sectors.now
-        (Some stream.now)) (mini_of directory.new table.now minifat_sectors.now (Some stream.now)) }
-    ensures begun { directory.new.table.file.begun ≡ true }
-    ensures err { IfErr result IsMediumError }
-    ensures counts { IsTrue F.tells → CountsFailure
-        F.write_faults result directory.old.table.file.failures directory.new.table.file.failures }
+        ensures settles { SettlesMini F.tells F.write_faults
+            (mini_of directory.old table.now minifat_sectors.now (Some stream.now))
+            (mini_of directory.new table.now minifat_sectors.now (Some stream.now)) result }
+        ensures holds { HoldsSettled F.tells minis.now numbers.now
+            (mini_of directory.old table.now minifat_sectors.now (Some stream.now))
+            (mini_of directory.new table.now minifat_sectors.now (Some stream.now)) result }
 {
     write_sectors(directory, table, minifat_sectors, stream, minis, numbers)?;
     name_mini_stream(directory, stream, table.len())
@@ -253,61 +182,19 @@ fn take_prepared<F: Medium, A: Heap>(
     ids: &mut Vec<u32, A>,
     count: usize,
 ) -> Result<(), Error>
-    requires prepared { IsPreparedMini table.old count }
-    requires ended { 0 < vec_len ids.old
-        → value table.old.minifat (last_or_end ids.old.items) ≡ end_of_chain }
-    requires room { vec_len ids.old + count ≤ vec_capacity ids.old }
-    requires some { 0 < count }
-    requires placed { ArePlaced directory.old }
-    requires words { length table.old.minifat + (count - free_count table.old.minifat)
-        ≤ length minifat_sectors.now * words_per_sector directory.old.table.tables.version }
-    requires minis { (length table.old.minifat + (count - free_count table.old.minifat))
-        * mini_sector_len ≤ length stream.now * sector_len directory.old.table.tables.version }
-    requires minifat { AreSectorsOf directory.old.table.tables minifat_sectors.now }
-    requires mini_stream { AreSectorsOf directory.old.table.tables stream.now }
-    ensures listed { ids.new.items ≡ ids.old.items ++ gained ids.old.items ids.new.items }
-    ensures count { length (gained ids.old.items ids.new.items) ≡ count }
-    ensures taken { TakesMini table.old.limit table.old.minifat table.new.minifat
-        (ends_of ids.old.items) (gained ids.old.items ids.new.items) }
-    ensures added { IsChain table.new.minifat (first_or_end (ends_of ids.old.items
-        ++ gained ids.old.items ids.new.items)) (ends_of ids.old.items
-        ++ gained ids.old.items ids.new.items) }
-    ensures chain { IsChain table.old.minifat (first_or_end ids.old.items) ids.old.items
-        → IsChain table.new.minifat (first_or_end ids.new.items) ids.new.items }
+        requires prepared { CanTakePrepared count ids.old table.old }
+        requires sectors { HasSectorsFor count table.old.minifat minifat_sectors.now stream.now
+            directory.old }
+        ensures extends { LengthensMiniList ids.old.items ids.new.items count table.old table.new }
     ensures rest { table.new ≡ record table.old { minifat = table.new.minifat } }
     ensures kept { (directory.new.sectors ≡ directory.old.sectors)
         × (directory.new.table.tables ≡ directory.old.table.tables) }
-    ensures measured { OnOk result
-        (IsMeasuredMini (mini_of directory.new table.new minifat_sectors.now (Some stream.now))) }
-    ensures entries { MovesRoot (mini_of directory.old table.old minifat_sectors.now
-        (Some stream.now)) (mini_of directory.new table.new minifat_sectors.now (Some stream.now)) }
-    ensures holds { IsTrue F.tells → (validation : Validation) → HoldsMiniBut [] validation
-        (mini_of directory.old table.old minifat_sectors.now (Some stream.now))
-        → OnOk result (HoldsMini validation
-        (mini_of directory.new table.new minifat_sectors.now (Some stream.now))) }
-    ensures filled { IsTrue F.tells → (validation : Validation) → HoldsMiniBut [] validation
-        (mini_of directory.old table.old minifat_sectors.now (Some stream.now))
-        → OnOk result ((m : ℕ) → Contains (gained ids.old.items ids.new.items) m
-        → IsZeroMini (mini_of directory.new table.new minifat_sectors.now (Some stream.now)) m) }
-    ensures other_minis { IsTrue F.tells → (validation : Validation) → HoldsMiniBut [] validation
-        (mini_of directory.old table.old minifat_sectors.now (Some stream.now)) → (m : ℕ)
-        → HasMiniSector (mini_of directory.old table.old minifat_sectors.now (Some stream.now)) m
-        → (Contains (gained ids.old.items ids.new.items) m → ⊥) → RangeStays
-        (mini_place (mini_of directory.old table.old minifat_sectors.now (Some stream.now)) m)
-        (mini_place (mini_of directory.old table.old minifat_sectors.now (Some stream.now)) m
-        + mini_sector_len)
-        (bytes_of (mini_of directory.old table.old minifat_sectors.now (Some stream.now)))
-        (bytes_of (mini_of directory.new table.new minifat_sectors.now (Some stream.now))) }
-    ensures spares { IsTrue F.tells
-        → Spares (system_sectors (mini_of directory.old table.old minifat_sectors.now
-        (Some stream.now))) directory.old.table directory.new.table }
-    ensures header { IsTrue F.tells → KeepsWholeHeader directory.old directory.new }
-    ensures limits { KeepsLimits (mini_of directory.old table.old minifat_sectors.now
-        (Some stream.now)) (mini_of directory.new table.new minifat_sectors.now (Some stream.now)) }
-    ensures begun { directory.new.table.file.begun ≡ true }
-    ensures err { IfErr result IsMediumError }
-    ensures counts { IsTrue F.tells → CountsFailure
-        F.write_faults result directory.old.table.file.failures directory.new.table.file.failures }
+        ensures settles { SettlesMini F.tells F.write_faults
+            (mini_of directory.old table.old minifat_sectors.now (Some stream.now))
+            (mini_of directory.new table.new minifat_sectors.now (Some stream.now)) result }
+        ensures holds { HoldsTaken F.tells ids.old.items ids.new.items
+            (mini_of directory.old table.old minifat_sectors.now (Some stream.now))
+            (mini_of directory.new table.new minifat_sectors.now (Some stream.now)) result }
 {
     let before = ids.len();
     table.extend_prepared(ids, count);
@@ -337,12 +224,9 @@ fn prepare_extension<F: ReadMedium, A: Heap>(
     requires above { IsLeastAbove (minifat_sectors.now ++ stream.now) above }
     ensures table { table.new ≡ record table.old { room = table.new.room } }
     ensures ids { ids.new.items ≡ ids.old.items }
-    ensures prepared { OnOk result (IsPreparedMini table.new count) }
-    ensures room { OnOk result (vec_len ids.new + count ≤ vec_capacity ids.new) }
-    ensures ended { OnOk result (0 < vec_len ids.new
-        → value table.new.minifat (last_or_end ids.new.items) ≡ end_of_chain) }
-    ensures sectors { OnOk result
-        (HaveSectors (mini_of directory.now table.new minifat_sectors.now (Some stream.now))) }
+        ensures ready { IsPreparedFor count
+            (mini_of directory.now table.new minifat_sectors.now (Some stream.now)) ids.new
+            table.new result }
     ensures err { IfErr result (ChangeRefused
         (IsNotHeld (mini_of directory.now table.old minifat_sectors.now (Some stream.now))
         ⊎ EndsNoChain table.old.minifat ids.old.items) Unit
@@ -394,56 +278,21 @@ fn grow_sectors<F: Medium, A: Heap>(
         ≤ table.now.limit }
     requires sectors { HaveSectors
         (mini_of directory.old table.now minifat_sectors.old.items (Some stream.old.items)) }
-    ensures grown { OnOk result (GrowsFor count
-        (mini_of directory.old table.now minifat_sectors.old.items (Some stream.old.items))
-        (mini_of directory.new table.now minifat_sectors.new.items (Some stream.new.items))) }
-    ensures above { IsLeastAbove (minifat_sectors.old.items ++ stream.old.items) above.old
-        → IsLeastAbove (minifat_sectors.new.items ++ stream.new.items) above.new }
-    ensures goes_on { stream.new.items
-        ≡ stream.old.items ++ gained stream.old.items stream.new.items }
-    ensures rest { directory.new ≡ record directory.old { table = directory.new.table } }
-    ensures placed { OnOk result (ArePlaced directory.new) }
-    ensures words { OnOk result (length table.now.minifat + (count - free_count table.now.minifat)
-        ≤ length minifat_sectors.new.items * words_per_sector directory.new.table.tables.version) }
-    ensures minis { OnOk result ((length table.now.minifat + (count - free_count table.now.minifat))
-        * mini_sector_len
-        ≤ length stream.new.items * sector_len directory.new.table.tables.version) }
-    ensures minifat { OnOk result
-        (AreSectorsOf directory.new.table.tables minifat_sectors.new.items) }
-    ensures mini_stream { OnOk result (AreSectorsOf directory.new.table.tables stream.new.items) }
-    ensures held { IsTrue F.tells → (validation : Validation) → HoldsMini validation
-        (mini_of directory.old table.now minifat_sectors.old.items (Some stream.old.items))
-        → OnOk result (HoldsMiniBut [] validation
-        (mini_of directory.new table.now minifat_sectors.new.items (Some stream.new.items))) }
-    ensures whole { IsTrue F.tells → (validation : Validation) → HoldsMini validation
-        (mini_of directory.old table.now minifat_sectors.old.items (Some stream.old.items))
-        → IsOfWholeSectors directory.old.table
-        → OnOk result (IsOfWholeSectors directory.new.table) }
-    ensures spares { IsTrue F.tells
-        → Spares (system_sectors (mini_of directory.old table.now minifat_sectors.old.items
-        (Some stream.old.items))) directory.old.table directory.new.table }
-    ensures mini_spares { IsTrue F.tells → (validation : Validation) → HoldsMini validation
-        (mini_of directory.old table.now minifat_sectors.old.items (Some stream.old.items))
-        → SparesMini []
-        (mini_of directory.old table.now minifat_sectors.old.items (Some stream.old.items))
-        (mini_of directory.new table.now minifat_sectors.new.items (Some stream.new.items)) }
-    ensures header { IsTrue F.tells → KeepsHeader
-        (mini_of directory.old table.now minifat_sectors.old.items (Some stream.old.items))
-        (mini_of directory.new table.now minifat_sectors.new.items (Some stream.new.items)) }
-    ensures limits { KeepsLimits
-        (mini_of directory.old table.now minifat_sectors.old.items (Some stream.old.items))
-        (mini_of directory.new table.now minifat_sectors.new.items (Some stream.new.items)) }
-    ensures enough { OnOk result (IsTooFewFor
-        (mini_of directory.old table.now minifat_sectors.old.items (Some stream.old.items)) count
-        → ⊥) }
-    ensures refused { IfErr result (StopsShortOrFull count
-        (mini_of directory.old table.now minifat_sectors.old.items (Some stream.old.items))
-        (mini_of directory.new table.now minifat_sectors.new.items (Some stream.new.items))) }
-    ensures err { IfErr result (ChangeRefused (IsNotHeld (mini_of directory.old
-        table.now minifat_sectors.old.items (Some stream.old.items))) Unit (IsTooFewFor (mini_of
-        directory.old table.now minifat_sectors.old.items (Some stream.old.items)) count) Unit) }
-    ensures counts { IsTrue F.tells → CountsFailure
-        F.write_faults result directory.old.table.file.failures directory.new.table.file.failures }
+        ensures grows { GrowsSystem count minifat_sectors.old.items minifat_sectors.new.items
+            stream.old.items stream.new.items above.old above.new
+            (mini_of directory.old table.now minifat_sectors.old.items (Some stream.old.items))
+            (mini_of directory.new table.now minifat_sectors.new.items (Some stream.new.items))
+            result }
+        ensures sectors { GetsSectorsFor count table.now.minifat minifat_sectors.new.items
+            stream.new.items directory.new result }
+        ensures holds { HoldsGrown F.tells
+            (mini_of directory.old table.now minifat_sectors.old.items (Some stream.old.items))
+            (mini_of directory.new table.now minifat_sectors.new.items (Some stream.new.items))
+            result }
+        ensures ends { GrowingRefused F.tells F.write_faults count
+            (mini_of directory.old table.now minifat_sectors.old.items (Some stream.old.items))
+            (mini_of directory.new table.now minifat_sectors.new.items (Some stream.new.items))
+            result }
 {
     let len = table.len() + count.saturating_sub(table.free_len());
     let lacks = lacks_for(
@@ -472,74 +321,24 @@ pub fn extend_listed<F: Medium, A: Heap>(
     requires some { 0 < count }
     requires above { IsLeastAbove (minifat_sectors.old.items ++ stream.old.items) above.old }
     ensures above { IsLeastAbove (minifat_sectors.new.items ++ stream.new.items) above.new }
-    ensures listed { ids.new.items ≡ ids.old.items ++ gained ids.old.items ids.new.items }
-    ensures count { OnOk result (length (gained ids.old.items ids.new.items) ≡ count) }
-    ensures taken { OnOk result (TakesMini table.old.limit table.old.minifat table.new.minifat
-        (ends_of ids.old.items) (gained ids.old.items ids.new.items)) }
-    ensures added { OnOk result (IsChain table.new.minifat (first_or_end (ends_of ids.old.items
-        ++ gained ids.old.items ids.new.items)) (ends_of ids.old.items
-        ++ gained ids.old.items ids.new.items)) }
-    ensures chain { IsChain table.old.minifat (first_or_end ids.old.items) ids.old.items
-        → IsChain table.new.minifat (first_or_end ids.new.items) ids.new.items }
-    ensures grown { OnOk result (GrowsFor count
-        (mini_of directory.old table.old minifat_sectors.old.items (Some stream.old.items))
-        (mini_of directory.new table.new minifat_sectors.new.items (Some stream.new.items))) }
-    ensures measured { OnOk result (IsMeasuredMini
-        (mini_of directory.new table.new minifat_sectors.new.items (Some stream.new.items))) }
-    ensures directory { directory.new.sectors ≡ directory.old.sectors }
-    ensures goes_on { stream.new.items
-        ≡ stream.old.items ++ gained stream.old.items stream.new.items }
-    ensures entries { MovesRoot
-        (mini_of directory.old table.old minifat_sectors.old.items (Some stream.old.items))
-        (mini_of directory.new table.new minifat_sectors.new.items (Some stream.new.items)) }
-    ensures holds { IsTrue F.tells → (validation : Validation) → HoldsMini validation
-        (mini_of directory.old table.old minifat_sectors.old.items (Some stream.old.items))
-        → OnOk result (HoldsMini validation
-        (mini_of directory.new table.new minifat_sectors.new.items (Some stream.new.items))) }
-    ensures filled { IsTrue F.tells → (validation : Validation) → HoldsMini validation
-        (mini_of directory.old table.old minifat_sectors.old.items (Some stream.old.items))
-        → OnOk result ((m : ℕ) → Contains (gained ids.old.items ids.new.items) m → IsZeroMini
-        (mini_of directory.new table.new minifat_sectors.new.items (Some stream.new.items)) m) }
-    ensures room { OnOk result ((m : ℕ) → m < length table.new.minifat → HasMiniSector
-        (mini_of directory.new table.new minifat_sectors.new.items (Some stream.new.items)) m) }
-    ensures whole { IsTrue F.tells → (validation : Validation) → HoldsMini validation
-        (mini_of directory.old table.old minifat_sectors.old.items (Some stream.old.items))
-        → IsOfWholeSectors directory.old.table
-        → OnOk result (IsOfWholeSectors directory.new.table) }
-    ensures spares { IsTrue F.tells
-        → Spares (system_sectors (mini_of directory.old table.old minifat_sectors.old.items
-        (Some stream.old.items))) directory.old.table directory.new.table }
-    ensures mini_spares { IsTrue F.tells → (validation : Validation) → HoldsMini validation
-        (mini_of directory.old table.old minifat_sectors.old.items (Some stream.old.items))
-        → SparesMini (ends_of ids.old.items)
-        (mini_of directory.old table.old minifat_sectors.old.items (Some stream.old.items))
-        (mini_of directory.new table.new minifat_sectors.new.items (Some stream.new.items)) }
-    ensures bytes { IsTrue F.tells → (validation : Validation) → HoldsMini validation
-        (mini_of directory.old table.old minifat_sectors.old.items (Some stream.old.items))
-        → KeepsMiniBytesBut []
-        (mini_of directory.old table.old minifat_sectors.old.items (Some stream.old.items))
-        (mini_of directory.new table.new minifat_sectors.new.items (Some stream.new.items)) }
-    ensures header { IsTrue F.tells → KeepsHeader
-        (mini_of directory.old table.old minifat_sectors.old.items (Some stream.old.items))
-        (mini_of directory.new table.new minifat_sectors.new.items (Some stream.new.items)) }
-    ensures limits { KeepsLimits
-        (mini_of directory.old table.old minifat_sectors.old.items (Some stream.old.items))
-        (mini_of directory.new table.new minifat_sectors.new.items (Some stream.new.items)) }
-    ensures enough { OnOk result (IsTooFewFor
-        (mini_of directory.old table.old minifat_sectors.old.items (Some stream.old.items)) count
-        → ⊥) }
-    ensures begun { OnOk result (IsRaised (0
-        < count) directory.old.table.file directory.new.table.file) }
-    ensures refused { IfErr result (StopsShortOrFull count
-        (mini_of directory.old table.old minifat_sectors.old.items (Some stream.old.items))
-        (mini_of directory.new table.new minifat_sectors.new.items (Some stream.new.items))) }
-    ensures kept { IfErr result (AfterMedium Unit (ids.new.items ≡ ids.old.items)) }
-    ensures err { IfErr result (ChangeRefused (IsNotHeld
-        (mini_of directory.old table.old minifat_sectors.old.items (Some stream.old.items))
-        ⊎ EndsNoChain table.old.minifat ids.old.items) Unit (IsTooFewFor (mini_of
-        directory.old table.old minifat_sectors.old.items (Some stream.old.items)) count) Unit) }
-    ensures counts { IsTrue F.tells → CountsFailure
-        F.write_faults result directory.old.table.file.failures directory.new.table.file.failures }
+        ensures longer { ListsLonger count table.old.limit table.old.minifat table.new.minifat
+            ids.old.items ids.new.items result }
+        ensures grows { GrowsMeasured count stream.old.items stream.new.items
+            (mini_of directory.old table.old minifat_sectors.old.items (Some stream.old.items))
+            (mini_of directory.new table.new minifat_sectors.new.items (Some stream.new.items))
+            result }
+        ensures changes { ChangesMiniStream F.tells F.write_faults
+            (mini_of directory.old table.old minifat_sectors.old.items (Some stream.old.items))
+            (mini_of directory.new table.new minifat_sectors.new.items (Some stream.new.items))
+            result }
+        ensures holds { HoldsLonger F.tells ids.old.items ids.new.items
+            (mini_of directory.old table.old minifat_sectors.old.items (Some stream.old.items))
+            (mini_of directory.new table.new minifat_sectors.new.items (Some stream.new.items))
+            result }
+        ensures ends { TakingRefused count ids.old.items ids.new.items
+            (mini_of directory.old table.old minifat_sectors.old.items (Some stream.old.items))
+            (mini_of directory.new table.new minifat_sectors.new.items (Some stream.new.items))
+            result }
 {
     prepare_extension(
         directory,
@@ -599,40 +398,18 @@ fn name_and_give<F: Medium, A: Heap>(
         (mini_of directory.old table.now minifat_sectors.old.items (Some stream.old.items)) }
     requires can { CanGiveBack left.minifat left.mini_stream minifat_sectors.old.items
         stream.old.items directory.old.table.tables }
-    ensures kept { KeepsAllButRoom
-        (mini_of directory.old table.now minifat_sectors.old.items (Some stream.old.items))
-        (mini_of directory.new table.now minifat_sectors.new.items (Some stream.new.items)) }
-    ensures room { OnOk result (GivesRoomBack
-        (mini_of directory.old table.now minifat_sectors.old.items (Some stream.old.items))
-        (mini_of directory.new table.now minifat_sectors.new.items (Some stream.new.items))) }
-    ensures counted { IsTrue F.tells → OnOk result
-        (word_at directory.new.table.file.bytes 64 ≡ length minifat_sectors.new.items) }
-    ensures named { OnOk result (IsNamedMini
-        (mini_of directory.new table.now minifat_sectors.new.items (Some stream.new.items))) }
-    ensures holds { IsTrue F.tells → (validation : Validation)
-        → EndsBusy table.now.minifat → HoldsMiniBut [] validation
-        (mini_of directory.old table.now minifat_sectors.old.items (Some stream.old.items))
-        → (table.now.minifat ≡ [] → AreStartsUnnamed
-        (mini_of directory.old table.now minifat_sectors.old.items (Some stream.old.items)))
-        → OnOk result (HoldsMini validation
-        (mini_of directory.new table.now minifat_sectors.new.items (Some stream.new.items))) }
-    ensures minis { IsTrue F.tells → IsStreamApart
-        (mini_of directory.old table.now minifat_sectors.old.items (Some stream.old.items))
-        → (m : ℕ) → HasMiniSector
-        (mini_of directory.old table.now minifat_sectors.old.items (Some stream.old.items)) m
-        → RangeStays (mini_start directory.old.table.tables.version stream.old.items m)
-        (mini_start directory.old.table.tables.version stream.old.items m + mini_sector_len)
-        directory.old.table.file.bytes directory.new.table.file.bytes }
-    ensures spares { IsTrue F.tells → Spares (system_sectors
-        (mini_of directory.old table.now minifat_sectors.old.items (Some stream.old.items)))
-        directory.old.table directory.new.table }
-    ensures header { IsTrue F.tells → KeepsHeader
-        (mini_of directory.old table.now minifat_sectors.old.items (Some stream.old.items))
-        (mini_of directory.new table.now minifat_sectors.new.items (Some stream.new.items)) }
-    ensures begun { directory.new.table.file.begun ≡ true }
-    ensures err { IfErr result IsMediumError }
-    ensures counts { IsTrue F.tells → CountsFailure
-        F.write_faults result directory.old.table.file.failures directory.new.table.file.failures }
+        ensures gives { GivesRoom F.tells F.write_faults
+            (mini_of directory.old table.now minifat_sectors.old.items (Some stream.old.items))
+            (mini_of directory.new table.now minifat_sectors.new.items (Some stream.new.items))
+            result }
+        ensures room { GivesTheRoom F.tells minifat_sectors.new.items
+            (mini_of directory.old table.now minifat_sectors.old.items (Some stream.old.items))
+            (mini_of directory.new table.now minifat_sectors.new.items (Some stream.new.items))
+            result }
+        ensures holds { HoldsInRoom F.tells stream.old.items
+            (mini_of directory.old table.now minifat_sectors.old.items (Some stream.old.items))
+            (mini_of directory.new table.now minifat_sectors.new.items (Some stream.new.items))
+            result }
 {
     let kept = left.mini_stream.min(stream.len());
     name_mini_stream(directory, &stream[..kept], table.len())?;
@@ -671,44 +448,18 @@ fn give_room_back<F: Medium, A: Heap>(
     requires above { IsLeastAbove (minifat_sectors.old.items ++ stream.old.items) above.old }
     requires begun { directory.old.table.file.begun ≡ true }
     ensures above { IsLeastAbove (minifat_sectors.new.items ++ stream.new.items) above.new }
-    ensures kept { KeepsAllButRoom
-        (mini_of directory.old table.now minifat_sectors.old.items (Some stream.old.items))
-        (mini_of directory.new table.now minifat_sectors.new.items (Some stream.new.items)) }
-    ensures room { CanGiveRoomBack
-        (mini_of directory.old table.now minifat_sectors.old.items (Some stream.old.items))
-        → OnOk result (GivesRoomBack
-        (mini_of directory.old table.now minifat_sectors.old.items (Some stream.old.items))
-        (mini_of directory.new table.now minifat_sectors.new.items (Some stream.new.items))) }
-    ensures counted { IsTrue F.tells → CanGiveRoomBack
-        (mini_of directory.old table.now minifat_sectors.old.items (Some stream.old.items))
-        → OnOk result
-        (word_at directory.new.table.file.bytes 64 ≡ length minifat_sectors.new.items) }
-    ensures named { OnOk result (IsNamedMini
-        (mini_of directory.new table.now minifat_sectors.new.items (Some stream.new.items))) }
-    ensures holds { IsTrue F.tells → (validation : Validation)
-        → EndsBusy table.now.minifat → HoldsMiniBut [] validation
-        (mini_of directory.old table.now minifat_sectors.old.items (Some stream.old.items))
-        → (table.now.minifat ≡ [] → AreStartsUnnamed
-        (mini_of directory.old table.now minifat_sectors.old.items (Some stream.old.items)))
-        → OnOk result (HoldsMini validation
-        (mini_of directory.new table.now minifat_sectors.new.items (Some stream.new.items))) }
-    ensures minis { IsTrue F.tells → IsStreamApart
-        (mini_of directory.old table.now minifat_sectors.old.items (Some stream.old.items))
-        → (m : ℕ) → HasMiniSector
-        (mini_of directory.old table.now minifat_sectors.old.items (Some stream.old.items)) m
-        → RangeStays (mini_start directory.old.table.tables.version stream.old.items m)
-        (mini_start directory.old.table.tables.version stream.old.items m + mini_sector_len)
-        directory.old.table.file.bytes directory.new.table.file.bytes }
-    ensures spares { IsTrue F.tells → Spares (system_sectors
-        (mini_of directory.old table.now minifat_sectors.old.items (Some stream.old.items)))
-        directory.old.table directory.new.table }
-    ensures header { IsTrue F.tells → KeepsHeader
-        (mini_of directory.old table.now minifat_sectors.old.items (Some stream.old.items))
-        (mini_of directory.new table.now minifat_sectors.new.items (Some stream.new.items)) }
-    ensures begun { directory.new.table.file.begun ≡ true }
-    ensures err { IfErr result IsMediumError }
-    ensures counts { IsTrue F.tells → CountsFailure
-        F.write_faults result directory.old.table.file.failures directory.new.table.file.failures }
+        ensures gives { GivesRoom F.tells F.write_faults
+            (mini_of directory.old table.now minifat_sectors.old.items (Some stream.old.items))
+            (mini_of directory.new table.now minifat_sectors.new.items (Some stream.new.items))
+            result }
+        ensures room { GivesRoomIfFree F.tells minifat_sectors.new.items
+            (mini_of directory.old table.now minifat_sectors.old.items (Some stream.old.items))
+            (mini_of directory.new table.now minifat_sectors.new.items (Some stream.new.items))
+            result }
+        ensures holds { HoldsInRoom F.tells stream.old.items
+            (mini_of directory.old table.now minifat_sectors.old.items (Some stream.old.items))
+            (mini_of directory.new table.now minifat_sectors.new.items (Some stream.new.items))
+            result }
 {
     let left = needs_for(directory.version(), table.len());
     if !can_give_back(directory.allocator(), minifat_sectors, stream, left) {
@@ -738,58 +489,18 @@ fn settle_freed<F: Medium, A: Heap>(
     requires minis { HaveMinis directory.old.table.tables.version stream.old.items
         (length directory.old.table.tables.fat) minis.now }
     ensures above { IsLeastAbove (minifat_sectors.new.items ++ stream.new.items) above.new }
-    ensures kept { KeepsAllButRoom
-        (mini_of directory.old table.now minifat_sectors.old.items (Some stream.old.items))
-        (mini_of directory.new table.now minifat_sectors.new.items (Some stream.new.items)) }
-    ensures room { CanGiveRoomBack
-        (mini_of directory.old table.now minifat_sectors.old.items (Some stream.old.items))
-        → OnOk result (GivesRoomBack
-        (mini_of directory.old table.now minifat_sectors.old.items (Some stream.old.items))
-        (mini_of directory.new table.now minifat_sectors.new.items (Some stream.new.items))) }
-    ensures counted { IsTrue F.tells → CanGiveRoomBack
-        (mini_of directory.old table.now minifat_sectors.old.items (Some stream.old.items))
-        → OnOk result
-        (word_at directory.new.table.file.bytes 64 ≡ length minifat_sectors.new.items) }
-    ensures named { OnOk result (IsNamedMini
-        (mini_of directory.new table.now minifat_sectors.new.items (Some stream.new.items))) }
-    ensures holds { IsTrue F.tells → (validation : Validation)
-        → EndsBusy table.now.minifat → HoldsMiniBut numbers.now validation
-        (mini_of directory.old table.now minifat_sectors.old.items (Some stream.old.items))
-        → (table.now.minifat ≡ [] → AreStartsUnnamed
-        (mini_of directory.old table.now minifat_sectors.old.items (Some stream.old.items)))
-        → OnOk result (HoldsMini validation
-        (mini_of directory.new table.now minifat_sectors.new.items (Some stream.new.items))) }
-    ensures zeros { IsTrue F.tells → (validation : Validation) (late minifat : List ℕ)
-        → HoldsMiniBut late validation (with_minifat
-        (mini_of directory.old table.now minifat_sectors.old.items (Some stream.old.items)) minifat)
-        → OnOk result ((m : ℕ) → Contains minis.now m → IsInMiniStream
-        (mini_of directory.new table.now minifat_sectors.new.items (Some stream.new.items)) m
-        → IsZeroMini
-        (mini_of directory.new table.now minifat_sectors.new.items (Some stream.new.items)) m) }
-    ensures erased { IsTrue F.tells → (validation : Validation) (late minifat : List ℕ)
-        → HoldsMiniBut late validation (with_minifat
-        (mini_of directory.old table.now minifat_sectors.old.items (Some stream.old.items)) minifat)
-        → OnOk result ((m : ℕ) → Contains minis.now m → AreZeros directory.new.table.file.bytes
-        (mini_start directory.old.table.tables.version stream.old.items m)) }
-    ensures other_minis { IsTrue F.tells → (validation : Validation) (late minifat : List ℕ)
-        → HoldsMiniBut late validation (with_minifat
-        (mini_of directory.old table.now minifat_sectors.old.items (Some stream.old.items)) minifat)
-        → (m : ℕ) → HasMiniSector
-        (mini_of directory.old table.now minifat_sectors.old.items (Some stream.old.items)) m
-        → (Contains minis.now m → ⊥)
-        → RangeStays (mini_start directory.old.table.tables.version stream.old.items m)
-        (mini_start directory.old.table.tables.version stream.old.items m + mini_sector_len)
-        directory.old.table.file.bytes directory.new.table.file.bytes }
-    ensures spares { IsTrue F.tells → Spares (system_sectors
-        (mini_of directory.old table.now minifat_sectors.old.items (Some stream.old.items)))
-        directory.old.table directory.new.table }
-    ensures header { IsTrue F.tells → KeepsHeader
-        (mini_of directory.old table.now minifat_sectors.old.items (Some stream.old.items))
-        (mini_of directory.new table.now minifat_sectors.new.items (Some stream.new.items)) }
-    ensures begun { directory.new.table.file.begun ≡ true }
-    ensures err { IfErr result IsMediumError }
-    ensures counts { IsTrue F.tells → CountsFailure
-        F.write_faults result directory.old.table.file.failures directory.new.table.file.failures }
+        ensures gives { GivesRoom F.tells F.write_faults
+            (mini_of directory.old table.now minifat_sectors.old.items (Some stream.old.items))
+            (mini_of directory.new table.now minifat_sectors.new.items (Some stream.new.items))
+            result }
+        ensures room { GivesRoomIfFree F.tells minifat_sectors.new.items
+            (mini_of directory.old table.now minifat_sectors.old.items (Some stream.old.items))
+            (mini_of directory.new table.now minifat_sectors.new.items (Some stream.new.items))
+            result }
+        ensures holds { HoldsFreed F.tells stream.old.items minis.now numbers.now
+            (mini_of directory.old table.now minifat_sectors.old.items (Some stream.old.items))
+            (mini_of directory.new table.now minifat_sectors.new.items (Some stream.new.items))
+            result }
 {
     write_sectors(directory, table, minifat_sectors, stream, minis, numbers)?;
     give_room_back(directory, table, minifat_sectors, stream, above)
@@ -806,86 +517,27 @@ pub fn cut_listed<F: Medium, A: Heap>(
     ids: &mut Vec<u32, A>,
     left: usize,
 ) -> Result<(), Error>
-    requires fewer { left < length ids.old.items }
-    requires chain { IsChain table.old.minifat (first_or_end ids.old.items) ids.old.items }
+        requires can_cut { CanCutMinis left table.old.minifat ids.old.items }
     requires above { IsLeastAbove (minifat_sectors.old.items ++ stream.old.items) above.old }
     ensures above { IsLeastAbove (minifat_sectors.new.items ++ stream.new.items) above.new }
-    ensures chain { IsChain table.new.minifat (first_or_end ids.new.items) ids.new.items }
-    ensures listed { OnOk result (ids.new.items ≡ take left ids.old.items) }
-    ensures shorter { length ids.new.items ≤ length ids.old.items }
-    ensures given_back { OnOk result (MiniGivesBack (ends_of (take left ids.old.items))
-        (drop left ids.old.items) table.old.minifat table.new.minifat) }
-    ensures directory { directory.new.sectors ≡ directory.old.sectors }
-    ensures sizes { KeepsSizes directory.old.table.tables directory.new.table.tables }
-    ensures stays { BeginsSystem
-        (mini_of directory.old table.old minifat_sectors.old.items (Some stream.old.items))
-        (mini_of directory.new table.new minifat_sectors.new.items (Some stream.new.items)) }
-    ensures room { CanGiveRoomBack
-        (mini_of directory.old table.old minifat_sectors.old.items (Some stream.old.items))
-        → OnOk result (GivesRoomBack
-        (mini_of directory.old table.old minifat_sectors.old.items (Some stream.old.items))
-        (mini_of directory.new table.new minifat_sectors.new.items (Some stream.new.items))) }
-    ensures measured { OnOk result (IsMeasuredMini
-        (mini_of directory.new table.new minifat_sectors.new.items (Some stream.new.items))) }
-    ensures snug { (validation : Validation) → HoldsMini validation
-        (mini_of directory.old table.old minifat_sectors.old.items (Some stream.old.items))
-        → OnOk result (IsSnugMini
-        (mini_of directory.new table.new minifat_sectors.new.items (Some stream.new.items))) }
-    ensures counted { IsTrue F.tells → (validation : Validation) → HoldsMini validation
-        (mini_of directory.old table.old minifat_sectors.old.items (Some stream.old.items))
-        → OnOk result (word_at directory.new.table.file.bytes 64
-        ≡ length minifat_sectors.new.items) }
-    ensures entries { MovesRoot
-        (mini_of directory.old table.old minifat_sectors.old.items (Some stream.old.items))
-        (mini_of directory.new table.new minifat_sectors.new.items (Some stream.new.items)) }
-    ensures holds { IsTrue F.tells → (validation : Validation) → HoldsMini validation
-        (mini_of directory.old table.old minifat_sectors.old.items (Some stream.old.items))
-        → (table.new.minifat ≡ [] → AreStartsUnnamed
-        (mini_of directory.old table.old minifat_sectors.old.items (Some stream.old.items)))
-        → (left ≡ 0 → IsUnnamed table.old.minifat (first_or_end ids.old.items))
-        → OnOk result (HoldsMini validation
-        (mini_of directory.new table.new minifat_sectors.new.items (Some stream.new.items))) }
-    ensures wiped { IsTrue F.tells → (validation : Validation) → HoldsMini validation
-        (mini_of directory.old table.old minifat_sectors.old.items (Some stream.old.items))
-        → OnOk result ((m : ℕ) → Contains (drop left ids.old.items) m
-        → IsInMiniStream
-        (mini_of directory.new table.new minifat_sectors.new.items (Some stream.new.items)) m
-        → IsZeroMini
-        (mini_of directory.new table.new minifat_sectors.new.items (Some stream.new.items)) m) }
-    ensures erased { IsTrue F.tells → (validation : Validation) → HoldsMini validation
-        (mini_of directory.old table.old minifat_sectors.old.items (Some stream.old.items))
-        → OnOk result ((m : ℕ) → Contains (drop left ids.old.items) m
-        → AreZeros directory.new.table.file.bytes
-        (mini_start directory.old.table.tables.version stream.old.items m)) }
-    ensures spares { IsTrue F.tells → Spares (system_sectors
-        (mini_of directory.old table.old minifat_sectors.old.items (Some stream.old.items)))
-        directory.old.table directory.new.table }
-    ensures mini_spares { IsTrue F.tells → (validation : Validation) → HoldsMini validation
-        (mini_of directory.old table.old minifat_sectors.old.items (Some stream.old.items))
-        → SparesMini ids.old.items
-        (mini_of directory.old table.old minifat_sectors.old.items (Some stream.old.items))
-        (mini_of directory.new table.new minifat_sectors.new.items (Some stream.new.items)) }
-    ensures bytes { IsTrue F.tells → (validation : Validation) → HoldsMini validation
-        (mini_of directory.old table.old minifat_sectors.old.items (Some stream.old.items))
-        → KeepsMiniBytesBut (drop left ids.old.items)
-        (mini_of directory.old table.old minifat_sectors.old.items (Some stream.old.items))
-        (mini_of directory.new table.new minifat_sectors.new.items (Some stream.new.items)) }
-    ensures header { IsTrue F.tells → KeepsHeader
-        (mini_of directory.old table.old minifat_sectors.old.items (Some stream.old.items))
-        (mini_of directory.new table.new minifat_sectors.new.items (Some stream.new.items)) }
-    ensures limits { KeepsLimits
-        (mini_of directory.old table.old minifat_sectors.old.items (Some stream.old.items))
-        (mini_of directory.new table.new minifat_sectors.new.items (Some stream.new.items)) }
-    ensures begun { OnOk result (IsRaised (left
-        < length ids.old.items) directory.old.table.file directory.new.table.file) }
-    ensures refused { IfErr result (StopsShort
-        (mini_of directory.old table.old minifat_sectors.old.items (Some stream.old.items))
-        (mini_of directory.new table.new minifat_sectors.new.items (Some stream.new.items))) }
-    ensures kept { IfErr result (AfterMedium Unit (ids.new.items ≡ ids.old.items)) }
-    ensures err { IfErr result (ChangeRefused (IsNotHeld (mini_of directory.old table.old
-        minifat_sectors.old.items (Some stream.old.items))) ⊥ ⊥ Unit) }
-    ensures counts { IsTrue F.tells → CountsFailure
-        F.write_faults result directory.old.table.file.failures directory.new.table.file.failures }
+        ensures cuts { CutsMinis left table.old.minifat table.new.minifat ids.old.items
+            ids.new.items result }
+        ensures changes { ChangesMiniStream F.tells F.write_faults
+            (mini_of directory.old table.old minifat_sectors.old.items (Some stream.old.items))
+            (mini_of directory.new table.new minifat_sectors.new.items (Some stream.new.items))
+            result }
+        ensures ends { CuttingRefused left ids.old.items ids.new.items
+            (mini_of directory.old table.old minifat_sectors.old.items (Some stream.old.items))
+            (mini_of directory.new table.new minifat_sectors.new.items (Some stream.new.items))
+            result }
+        ensures room { GivesSystemBack F.tells minifat_sectors.new.items
+            (mini_of directory.old table.old minifat_sectors.old.items (Some stream.old.items))
+            (mini_of directory.new table.new minifat_sectors.new.items (Some stream.new.items))
+            result }
+        ensures holds { HoldsShorter F.tells left ids.old.items
+            (mini_of directory.old table.old minifat_sectors.old.items (Some stream.old.items))
+            (mini_of directory.new table.new minifat_sectors.new.items (Some stream.new.items))
+            result }
 {
     if !are_held(
         directory,

@@ -16,3 +16,7 @@ pub mod Growing
 pub mod Giving
 pub mod Held
 pub mod Laws
+pub mod GivingBack
+pub mod GrowingLists
+pub mod Writing
+pub mod Reading

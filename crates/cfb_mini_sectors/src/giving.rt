@@ -1,6 +1,7 @@
 //! How the MiniFAT and the mini stream give back the sectors that they need no longer: the mini stream's first, then the header's words on
 //! the MiniFAT, and then the MiniFAT's (MS-CFB 2.4).
 ghost use Rattle.std.specs.Prelude.{◌≡◌, ◌≢◌, ◌⊎◌, ◌↔◌, ℕ, List, ◌++◌, ◌+◌, ◌*◌, ◌^◌, ◌<◌, ◌≤◌, Contains, IsTrue, IfErr, OnOk, Some, length, take, true};
+ghost use Rattle.cfb_mini_sectors.specs.GivingBack.{CutsLonger, HoldsCut, ShortensLists, HoldsShortened};
 ghost use Rattle.cfb_format.specs.declared.validate.Validation.{Validation};
 ghost use Rattle.cfb_format.specs.Bytes.{max_regular_sector, sector_len, word_at, words_per_sector};
 ghost use Rattle.cfb_format.specs.Chain.{IsChain};
@@ -111,22 +112,10 @@ fn cut_longer<F: Medium, A: Heap>(
 ) -> Result<(), Error>
     requires usable { IsUsable allocator.old.tables }
     requires can { CanShorten left allocator.old.tables.fat sectors.old.items }
-    ensures shortened { OnOk result (Shortens
-        left sectors.old.items sectors.new.items allocator.old.tables allocator.new.tables) }
-    ensures left { (sectors.new.items ≡ sectors.old.items)
-        ⊎ (sectors.new.items ≡ take left sectors.old.items) }
-    ensures sizes { KeepsSizes allocator.old.tables allocator.new.tables }
-    ensures holds { IsTrue F.tells
-        → (validation : Validation) → HoldsTables validation allocator.old
-        → (left ≡ 0 → IsUnnamed allocator.old.tables.fat (first_or_end sectors.old.items))
-        → OnOk result (HoldsTables validation allocator.new) }
-    ensures changes { IsTrue F.tells → ChangesSectors allocator.old.tables.fat_sectors
-        allocator.old.tables.version allocator.old.file.bytes allocator.new.file.bytes }
-    ensures spares { IsTrue F.tells → Spares sectors.old.items allocator.old allocator.new }
-    ensures begun { allocator.old.file.begun ≡ true → allocator.new.file.begun ≡ true }
-    ensures err { IfErr result (λ e. IsMediumError e × (allocator.new.file.begun ≡ true)) }
-    ensures counts { IsTrue F.tells → CountsFailure
-        F.write_faults result allocator.old.file.failures allocator.new.file.failures }
+        ensures cuts { CutsLonger left allocator.old allocator.new sectors.old.items
+            sectors.new.items result }
+        ensures holds { HoldsCut F.tells F.write_faults left allocator.old allocator.new
+            sectors.old.items result }
 {
     allocator.cut_listed(sectors, left)
 }
@@ -144,37 +133,12 @@ pub fn give_back_both<F: Medium, A: Heap>(
     requires can { CanGiveBack left.minifat left.mini_stream minifat_sectors.old.items
         stream.old.items allocator.old.tables }
     requires few { left.minifat < 2 ^ 32 }
-    ensures shortened { OnOk result (ShortensBoth left.minifat left.mini_stream
-        minifat_sectors.old.items minifat_sectors.new.items stream.old.items stream.new.items
-        allocator.old.tables allocator.new.tables) }
-    ensures minifat { (minifat_sectors.new.items ≡ minifat_sectors.old.items)
-        ⊎ (minifat_sectors.new.items ≡ take left.minifat minifat_sectors.old.items) }
-    ensures mini_stream { (stream.new.items ≡ stream.old.items)
-        ⊎ (stream.new.items ≡ take left.mini_stream stream.old.items) }
-    ensures sizes { KeepsSizes allocator.old.tables allocator.new.tables }
-    ensures count { IsTrue F.tells → OnOk result
-        (word_at allocator.new.file.bytes 64 ≡ length minifat_sectors.new.items) }
-    ensures held { IsTrue F.tells → (late : List ℕ) → (validation : Validation) → (s : MiniState)
-        → table_of s ≡ allocator.old → s.minifat_sectors ≡ minifat_sectors.old.items
-        → s.mini_stream ≡ Some stream.old.items → HoldsMiniBut late validation s
-        → (left.minifat ≡ 0 → IsUnnamed allocator.old.tables.fat (first_or_end s.minifat_sectors))
-        → (left.mini_stream ≡ 0
-        → IsUnnamed allocator.old.tables.fat (first_or_end (mini_stream_of s)))
-        → length s.minifat ≤ left.minifat * words_per_sector (version_of s)
-        → length s.minifat * mini_sector_len ≤ left.mini_stream * sector_len (version_of s)
-        → OnOk result (HoldsMiniBut late validation (with_mini_stream (with_minifat_sectors
-        (with_table s allocator.new) minifat_sectors.new.items) stream.new.items)) }
-    ensures sectors { IsTrue F.tells → (i : ℕ)
-        → (Contains (table_sectors allocator.old.tables) i → ⊥) → SectorStays
-        allocator.old.tables.version i allocator.old.file.bytes allocator.new.file.bytes }
-    ensures header { IsTrue F.tells
-        → KeepsOutsideMini allocator.old.file.bytes allocator.new.file.bytes }
-    ensures spares { IsTrue F.tells → Spares (minifat_sectors.old.items ++ stream.old.items)
-        allocator.old allocator.new }
-    ensures begun { allocator.new.file.begun ≡ true }
-    ensures err { IfErr result IsMediumError }
-    ensures counts { IsTrue F.tells → CountsFailure
-        F.write_faults result allocator.old.file.failures allocator.new.file.failures }
+        ensures cuts { ShortensLists F.tells left allocator.old allocator.new
+            minifat_sectors.old.items minifat_sectors.new.items stream.old.items stream.new.items
+            result }
+        ensures holds { HoldsShortened F.tells F.write_faults left allocator.old allocator.new
+            minifat_sectors.old.items minifat_sectors.new.items stream.old.items stream.new.items
+            result }
 {
     cut_longer(allocator, stream, left.mini_stream)?;
     let count = left.minifat.min(minifat_sectors.len());

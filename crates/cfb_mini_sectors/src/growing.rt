@@ -1,6 +1,7 @@
 //! How the MiniFAT and the mini stream get the sectors that they lack: all memory first, then the MiniFAT's chain, then the mini stream's
 //! (MS-CFB 2.4).
 ghost use Rattle.std.specs.Prelude.{◌≡◌, ◌⊎◌, ℕ, List, [], ◌++◌, ◌+◌, ◌-◌, ◌*◌, ◌^◌, ◌<◌, ◌≤◌, Some, true, false, length, vec_len, vec_capacity, IsTrue, IfErr, OnOk, OnErr};
+ghost use Rattle.cfb_mini_sectors.specs.GrowingLists.{NamesFirst, HoldsNamed, NamesMinifat, LengthensMinifat, NamedInHeader, HoldsGrownMinifat, GrowingRefused, SameLists, HaveRoom, LengthensBoth, BothNamedInHeader, HoldsGrownBoth, GrowingBothRefused, GrowingEachRefused};
 ghost use Rattle.cfb_format.specs.declared.validate.Validation.{Validation};
 ghost use Rattle.cfb_format.specs.Bytes.{max_regular_sector, sector_len, word_at, words_per_sector};
 ghost use Rattle.cfb_format.specs.Content.{mini_sector_len};
@@ -16,7 +17,7 @@ ghost use Rattle.cfb_mini_sectors.specs.cfb_tables.Tables.{AreFullTables, AreSiz
 ghost use Rattle.cfb_mini_sectors.specs.cfb_alloc.Alloc.{HoldsTables, IsUsable};
 ghost use Rattle.cfb_mini_sectors.specs.cfb_alloc.Frame.{Spares};
 ghost use Rattle.cfb_mini_sectors.specs.cfb_alloc.ListedChain.{Lengthens, ListBreaksOff};
-ghost use Rattle.cfb_directory.specs.Growing.{IsListedChain, KeepsBounds};
+ghost use Rattle.cfb_directory.specs.Growing.{IsListedChain, KeepsBounds, WritesHeaderBytes};
 ghost use Rattle.cfb_mini_sectors.specs.State.{MiniState, table_of};
 ghost use Rattle.cfb_mini_sectors.specs.Held.{HoldsMiniBut, with_mini_stream, with_minifat_sectors, with_table};
 ghost use Rattle.cfb_mini_sectors.specs.Growing.{BothBreakOff, BreaksOffBegun, EndApart, GainsFilled, GrowsBoth, KeepsInUse, KeepsOutsideMini};
@@ -63,27 +64,8 @@ fn name_first<F: Medium, A: Heap>(
     first: u32,
     is_new: bool,
 ) -> Result<(), Error>
-    ensures tables { allocator.new.tables ≡ allocator.old.tables }
-    ensures kept { allocator.new.file
-        ≡ record allocator.old.file {
-          bytes = allocator.new.file.bytes;
-          failures = allocator.new.file.failures;
-          begun = allocator.new.file.begun;
-        } }
-    ensures fits { first < 2 ^ 32 }
-    ensures ok { IsTrue F.tells → IsTrue is_new
-        → OnOk result (allocator.new.file.bytes ≡ with_word allocator.old.file.bytes 60 first) }
-    ensures same { is_new ≡ false → (allocator.new ≡ allocator.old) × OnErr result ⊥ }
-    ensures begun { IsRaised (IsTrue is_new) allocator.old.file allocator.new.file }
-    ensures holds { IsTrue F.tells
-        → (validation : Validation) → HoldsTables validation allocator.old
-        → OnOk result (HoldsTables validation allocator.new) }
-    ensures others { IsTrue F.tells
-        → ChangesOnlyBytes 60 4 allocator.old.file.bytes allocator.new.file.bytes }
-    ensures spares { IsTrue F.tells → Spares [] allocator.old allocator.new }
-    ensures err { IfErr result (λ e. IsMediumError e × (allocator.new.file.begun ≡ true)) }
-    ensures counts { IsTrue F.tells → CountsFailure
-        F.write_faults result allocator.old.file.failures allocator.new.file.failures }
+        ensures names { NamesFirst F.tells first is_new allocator.old allocator.new result }
+        ensures holds { HoldsNamed F.tells F.write_faults allocator.old allocator.new result }
 {
     if !is_new {
         return Ok(());
@@ -99,30 +81,9 @@ pub(crate) fn name_minifat<F: Medium, A: Heap>(
     is_new: bool,
 ) -> Result<(), Error>
     requires few { length sectors.now < 2 ^ 32 }
-    ensures tables { allocator.new.tables ≡ allocator.old.tables }
-    ensures kept { allocator.new.file
-        ≡ record allocator.old.file {
-          bytes = allocator.new.file.bytes;
-          failures = allocator.new.file.failures;
-          begun = true;
-        } }
-    ensures first { IsTrue F.tells → IsTrue is_new
-        → OnOk result (word_at allocator.new.file.bytes 60 ≡ first_or_end sectors.now) }
-    ensures first_kept { IsTrue F.tells → is_new ≡ false → 64 ≤ length allocator.old.file.bytes
-        → word_at allocator.new.file.bytes 60 ≡ word_at allocator.old.file.bytes 60 }
-    ensures count { IsTrue F.tells
-        → OnOk result (word_at allocator.new.file.bytes 64 ≡ length sectors.now) }
-    ensures long { IsTrue F.tells → OnOk result (68 ≤ length allocator.new.file.bytes) }
-    ensures sizes { AreSizes allocator.new.tables.version (sizes_of allocator.new.tables) }
-    ensures holds { IsTrue F.tells
-        → (validation : Validation) → HoldsTables validation allocator.old
-        → OnOk result (HoldsTables validation allocator.new) }
-    ensures others { IsTrue F.tells
-        → ChangesOnlyBytes 60 8 allocator.old.file.bytes allocator.new.file.bytes }
-    ensures spares { IsTrue F.tells → Spares [] allocator.old allocator.new }
-    ensures err { IfErr result IsMediumError }
-    ensures counts { IsTrue F.tells → CountsFailure
-        F.write_faults result allocator.old.file.failures allocator.new.file.failures }
+        ensures names { NamesMinifat F.tells is_new allocator.old allocator.new sectors.now result }
+        ensures writes { WritesHeaderBytes F.tells F.write_faults allocator.old allocator.new 60 8
+            result }
 {
     // The tables' sizes are told with the length.
     let _fact = allocator.file_len();
@@ -143,50 +104,14 @@ pub fn grow_minifat<F: Medium, A: Heap>(
     count: usize,
 ) -> Result<(), Error>
     requires few { 0 < count → length sectors.old.items + count < 2 ^ 32 }
-    ensures lengthened { OnOk result (Lengthens
-        count sectors.old.items sectors.new.items allocator.old.tables allocator.new.tables) }
-    ensures listed { sectors.new.items
-        ≡ sectors.old.items ++ gained sectors.old.items sectors.new.items }
-    ensures chain { IsListedChain allocator.old.tables sectors.old.items
-        → IsListedChain allocator.new.tables sectors.new.items }
-    ensures behind { OnOk result (IsListedChain allocator.new.tables (ends_of sectors.old.items
-        ++ gained sectors.old.items sectors.new.items)) }
-    ensures ends { OnOk result (EndsChain allocator.old.tables.fat sectors.old.items) }
-    ensures none { count ≡ 0
-        → (allocator.new ≡ allocator.old) × (sectors.new.items ≡ sectors.old.items) }
-    ensures first { IsTrue F.tells → 0 < count → sectors.old.items ≡ []
-        → OnOk result (word_at allocator.new.file.bytes 60 ≡ first_or_end sectors.new.items) }
-    ensures first_kept { IsTrue F.tells → 64 ≤ length allocator.old.file.bytes
-        → word_at allocator.old.file.bytes 60 ≡ first_or_end sectors.old.items
-        → OnOk result (word_at allocator.new.file.bytes 60 ≡ first_or_end sectors.new.items) }
-    ensures count { IsTrue F.tells
-        → 0 < count → OnOk result (word_at allocator.new.file.bytes 64 ≡ length sectors.new.items) }
-    ensures long { IsTrue F.tells → 0 < count → OnOk result (68 ≤ length allocator.new.file.bytes) }
-    ensures header { IsTrue F.tells
-        → KeepsOutsideMini allocator.old.file.bytes allocator.new.file.bytes }
-    ensures filled { IsTrue F.tells → (validation : Validation)
-        → HoldsTables validation allocator.old → OnOk result (GainsFilled Fat
-        sectors.old.items sectors.new.items allocator.new.tables.version allocator.new.file.bytes) }
-    ensures holds { IsTrue F.tells
-        → (validation : Validation) → HoldsTables validation allocator.old
-        → OnOk result (HoldsTables validation allocator.new) }
-    ensures held { IsTrue F.tells → (late : List ℕ) → (validation : Validation)
-        → (s : MiniState) → table_of s ≡ allocator.old → s.minifat_sectors ≡ sectors.old.items
-        → HoldsMiniBut late validation s → OnOk result (HoldsMiniBut late validation
-        (with_minifat_sectors (with_table s allocator.new) sectors.new.items)) }
-    ensures in_use { IsTrue F.tells → KeepsInUse allocator.old allocator.new }
-    ensures spares { IsTrue F.tells
-        → Spares (ends_of sectors.old.items) allocator.old allocator.new }
-    ensures bounds { KeepsBounds allocator.old.tables allocator.new.tables }
-    ensures enough { OnOk result (IsTooFew allocator.old.tables count → ⊥) }
-    ensures begun { OnOk result (IsRaised (0 < count) allocator.old.file allocator.new.file) }
-    ensures refused { IfErr result (ListBreaksOff
-        (Lengthens count) sectors.old.items sectors.new.items allocator.old allocator.new) }
-    ensures err { IfErr result (ChangeRefused ((IsUsable allocator.old.tables → ⊥)
-        ⊎ (EndsChain allocator.old.tables.fat sectors.old.items → ⊥))
-        (IsTooFew allocator.old.tables count → ⊥) (IsTooFew allocator.old.tables count) Unit) }
-    ensures counts { IsTrue F.tells → CountsFailure
-        F.write_faults result allocator.old.file.failures allocator.new.file.failures }
+        ensures longer { LengthensMinifat count allocator.old allocator.new sectors.old.items
+            sectors.new.items result }
+        ensures named { NamedInHeader F.tells count allocator.old allocator.new sectors.old.items
+            sectors.new.items result }
+        ensures holds { HoldsGrownMinifat F.tells allocator.old allocator.new sectors.old.items
+            sectors.new.items result }
+        ensures ends { GrowingRefused F.tells F.write_faults count allocator.old allocator.new
+            sectors.old.items sectors.new.items result }
 {
     let is_new = sectors.is_empty();
     allocator.extend_listed(sectors, count, SectorInit::Fat)?;
@@ -232,15 +157,9 @@ fn reserve_both<F: Medium, A: Heap>(
 ) -> Result<(), Error>
     requires sum { more.minifat + more.mini_stream < 2 ^ 64 }
     requires enough { IsTooFew allocator.old.tables (more.minifat + more.mini_stream) → ⊥ }
-    ensures unchanged { allocator.new ≡ allocator.old }
-    ensures minifat { minifat_sectors.new.items ≡ minifat_sectors.old.items }
-    ensures mini_stream { stream.new.items ≡ stream.old.items }
-    ensures room { OnOk result (vec_len minifat_sectors.new + more.minifat
-        ≤ vec_capacity minifat_sectors.new) }
-    ensures room_stream { OnOk result (vec_len stream.new + more.mini_stream
-        ≤ vec_capacity stream.new) }
-    ensures usable { OnOk result (IsUsable allocator.old.tables) }
-    ensures err { IfErr result (ChangeRefused (IsUsable allocator.old.tables → ⊥) Unit ⊥ ⊥) }
+        ensures same { SameLists allocator.old allocator.new minifat_sectors.old.items
+            minifat_sectors.new.items stream.old.items stream.new.items }
+        ensures room { HaveRoom more allocator.old minifat_sectors.new stream.new result }
 {
     minifat_sectors.reserve(more.minifat)?;
     stream.reserve(more.mini_stream)?;
@@ -259,61 +178,15 @@ fn grow_each<F: Medium, A: Heap>(
     requires usable { IsUsable allocator.old.tables }
     requires ends { EndApart allocator.old.tables.fat minifat_sectors.old.items stream.old.items }
     requires enough { IsTooFew allocator.old.tables (more.minifat + more.mini_stream) → ⊥ }
-    ensures grown { OnOk result
-        (GrowsBoth more.minifat more.mini_stream minifat_sectors.old.items minifat_sectors.new.items
-        stream.old.items stream.new.items allocator.old.tables allocator.new.tables) }
-    ensures full { OnOk result (IsTooFew allocator.old.tables (more.minifat + more.mini_stream + 1)
-        → AreFullTables allocator.new.tables) }
-    ensures listed { minifat_sectors.new.items
-        ≡ minifat_sectors.old.items ++ gained minifat_sectors.old.items minifat_sectors.new.items }
-    ensures listed_stream { stream.new.items
-        ≡ stream.old.items ++ gained stream.old.items stream.new.items }
-    ensures chain { IsListedChain allocator.old.tables minifat_sectors.old.items
-        → OnOk result (IsListedChain allocator.new.tables minifat_sectors.new.items) }
-    ensures chain_stream { IsListedChain allocator.old.tables stream.old.items
-        → OnOk result (IsListedChain allocator.new.tables stream.new.items) }
-    ensures none { more.minifat ≡ 0 → more.mini_stream ≡ 0
-        → (allocator.new ≡ allocator.old) × (minifat_sectors.new.items ≡ minifat_sectors.old.items)
-        × (stream.new.items ≡ stream.old.items) }
-    ensures first { IsTrue F.tells → 0 < more.minifat
-        → minifat_sectors.old.items ≡ [] → OnOk result (word_at allocator.new.file.bytes 60
-        ≡ first_or_end minifat_sectors.new.items) }
-    ensures first_kept { IsTrue F.tells → 64 ≤ length allocator.old.file.bytes
-        → word_at allocator.old.file.bytes 60 ≡ first_or_end minifat_sectors.old.items
-        → OnOk result (word_at allocator.new.file.bytes 60
-        ≡ first_or_end minifat_sectors.new.items) }
-    ensures count { IsTrue F.tells → 0 < more.minifat
-        → OnOk result (word_at allocator.new.file.bytes 64 ≡ length minifat_sectors.new.items) }
-    ensures count_kept { IsTrue F.tells → 68 ≤ length allocator.old.file.bytes → more.minifat ≡ 0
-        → word_at allocator.new.file.bytes 64 ≡ word_at allocator.old.file.bytes 64 }
-    ensures header { IsTrue F.tells
-        → KeepsOutsideMini allocator.old.file.bytes allocator.new.file.bytes }
-    ensures filled { IsTrue F.tells
-        → (validation : Validation) → HoldsTables validation allocator.old
-        → OnOk result (GainsFilled Fat minifat_sectors.old.items
-        minifat_sectors.new.items allocator.new.tables.version allocator.new.file.bytes) }
-    ensures filled_stream { IsTrue F.tells → (validation : Validation)
-        → HoldsTables validation allocator.old → OnOk result (GainsFilled Zero
-        stream.old.items stream.new.items allocator.new.tables.version allocator.new.file.bytes) }
-    ensures holds { IsTrue F.tells
-        → (validation : Validation) → HoldsTables validation allocator.old
-        → OnOk result (HoldsTables validation allocator.new) }
-    ensures held { IsTrue F.tells → (late : List ℕ) → (validation : Validation) → (s : MiniState)
-        → table_of s ≡ allocator.old → s.minifat_sectors ≡ minifat_sectors.old.items
-        → s.mini_stream ≡ Some stream.old.items → HoldsMiniBut late validation s
-        → OnOk result (HoldsMiniBut late validation (with_mini_stream (with_minifat_sectors
-        (with_table s allocator.new) minifat_sectors.new.items) stream.new.items)) }
-    ensures in_use { IsTrue F.tells → KeepsInUse allocator.old allocator.new }
-    ensures spares { IsTrue F.tells → Spares (ends_of minifat_sectors.old.items
-        ++ ends_of stream.old.items) allocator.old allocator.new }
-    ensures bounds { KeepsBounds allocator.old.tables allocator.new.tables }
-    ensures begun { OnOk result (IsRaised (0
-        < more.minifat + more.mini_stream) allocator.old.file allocator.new.file) }
-    ensures refused { IfErr result (BreaksOffBegun ((allocator.new ≡ allocator.old)
-        × (minifat_sectors.new.items ≡ minifat_sectors.old.items)
-        × (stream.new.items ≡ stream.old.items)) allocator.new) }
-    ensures counts { IsTrue F.tells → CountsFailure
-        F.write_faults result allocator.old.file.failures allocator.new.file.failures }
+        ensures longer { LengthensBoth more allocator.old allocator.new minifat_sectors.old.items
+            minifat_sectors.new.items stream.old.items stream.new.items result }
+        ensures ends { GrowingEachRefused more allocator.old allocator.new minifat_sectors.old.items
+            minifat_sectors.new.items stream.old.items stream.new.items result }
+        ensures named { BothNamedInHeader F.tells more allocator.old allocator.new
+            minifat_sectors.old.items minifat_sectors.new.items result }
+        ensures holds { HoldsGrownBoth F.tells F.write_faults allocator.old allocator.new
+            minifat_sectors.old.items minifat_sectors.new.items stream.old.items stream.new.items
+            result }
 {
     grow_minifat(allocator, minifat_sectors, more.minifat)?;
     allocator.extend_listed(stream, more.mini_stream, SectorInit::Zero)?;
@@ -336,66 +209,16 @@ pub fn grow_both<F: Medium, A: Heap>(
 ) -> Result<(), Error>
     requires few { 0 < lacks.minifat → length minifat_sectors.old.items + lacks.minifat < 2 ^ 32 }
     requires sum { lacks.minifat + lacks.mini_stream < 2 ^ 64 }
-    ensures grown { OnOk result (GrowsBoth
-        lacks.minifat lacks.mini_stream minifat_sectors.old.items minifat_sectors.new.items
-        stream.old.items stream.new.items allocator.old.tables allocator.new.tables) }
-    ensures listed { minifat_sectors.new.items
-        ≡ minifat_sectors.old.items ++ gained minifat_sectors.old.items minifat_sectors.new.items }
-    ensures listed_stream { stream.new.items
-        ≡ stream.old.items ++ gained stream.old.items stream.new.items }
-    ensures chain { IsListedChain allocator.old.tables minifat_sectors.old.items
-        → OnOk result (IsListedChain allocator.new.tables minifat_sectors.new.items) }
-    ensures chain_stream { IsListedChain allocator.old.tables stream.old.items
-        → OnOk result (IsListedChain allocator.new.tables stream.new.items) }
-    ensures ends { OnOk result
-        (EndApart allocator.old.tables.fat minifat_sectors.old.items stream.old.items) }
-    ensures none { lacks.minifat ≡ 0 → lacks.mini_stream ≡ 0
-        → (allocator.new ≡ allocator.old) × (minifat_sectors.new.items ≡ minifat_sectors.old.items)
-        × (stream.new.items ≡ stream.old.items) }
-    ensures first { IsTrue F.tells → 0 < lacks.minifat
-        → minifat_sectors.old.items ≡ [] → OnOk result (word_at allocator.new.file.bytes 60
-        ≡ first_or_end minifat_sectors.new.items) }
-    ensures first_kept { IsTrue F.tells → 64 ≤ length allocator.old.file.bytes
-        → word_at allocator.old.file.bytes 60 ≡ first_or_end minifat_sectors.old.items
-        → OnOk result (word_at allocator.new.file.bytes 60
-        ≡ first_or_end minifat_sectors.new.items) }
-    ensures count { IsTrue F.tells → 0 < lacks.minifat
-        → OnOk result (word_at allocator.new.file.bytes 64 ≡ length minifat_sectors.new.items) }
-    ensures count_kept { IsTrue F.tells → 68 ≤ length allocator.old.file.bytes → lacks.minifat ≡ 0
-        → word_at allocator.new.file.bytes 64 ≡ word_at allocator.old.file.bytes 64 }
-    ensures header { IsTrue F.tells
-        → KeepsOutsideMini allocator.old.file.bytes allocator.new.file.bytes }
-    ensures filled { IsTrue F.tells
-        → (validation : Validation) → HoldsTables validation allocator.old
-        → OnOk result (GainsFilled Fat minifat_sectors.old.items
-        minifat_sectors.new.items allocator.new.tables.version allocator.new.file.bytes) }
-    ensures filled_stream { IsTrue F.tells → (validation : Validation)
-        → HoldsTables validation allocator.old → OnOk result (GainsFilled Zero
-        stream.old.items stream.new.items allocator.new.tables.version allocator.new.file.bytes) }
-    ensures holds { IsTrue F.tells
-        → (validation : Validation) → HoldsTables validation allocator.old
-        → OnOk result (HoldsTables validation allocator.new) }
-    ensures held { IsTrue F.tells → (late : List ℕ) → (validation : Validation) → (s : MiniState)
-        → table_of s ≡ allocator.old → s.minifat_sectors ≡ minifat_sectors.old.items
-        → s.mini_stream ≡ Some stream.old.items → HoldsMiniBut late validation s
-        → OnOk result (HoldsMiniBut late validation (with_mini_stream (with_minifat_sectors
-        (with_table s allocator.new) minifat_sectors.new.items) stream.new.items)) }
-    ensures in_use { IsTrue F.tells → KeepsInUse allocator.old allocator.new }
-    ensures spares { IsTrue F.tells → Spares (ends_of minifat_sectors.old.items
-        ++ ends_of stream.old.items) allocator.old allocator.new }
-    ensures bounds { KeepsBounds allocator.old.tables allocator.new.tables }
-    ensures enough { OnOk result (IsTooFew allocator.old.tables (lacks.minifat + lacks.mini_stream)
-        → ⊥) }
-    ensures begun { OnOk result (IsRaised (0
-        < lacks.minifat + lacks.mini_stream) allocator.old.file allocator.new.file) }
-    ensures refused { IfErr result (BothBreakOff ((allocator.new ≡ allocator.old)
-        × (minifat_sectors.new.items ≡ minifat_sectors.old.items)
-        × (stream.new.items ≡ stream.old.items)) allocator.old allocator.new) }
-    ensures err { IfErr result (ChangeRefused ((IsUsable allocator.old.tables → ⊥)
-        ⊎ (EndApart allocator.old.tables.fat minifat_sectors.old.items stream.old.items
-        → ⊥)) Unit (IsTooFew allocator.old.tables (lacks.minifat + lacks.mini_stream)) Unit) }
-    ensures counts { IsTrue F.tells → CountsFailure
-        F.write_faults result allocator.old.file.failures allocator.new.file.failures }
+        ensures longer { LengthensBoth lacks allocator.old allocator.new minifat_sectors.old.items
+            minifat_sectors.new.items stream.old.items stream.new.items result }
+        ensures ends { GrowingBothRefused lacks allocator.old allocator.new
+            minifat_sectors.old.items minifat_sectors.new.items stream.old.items stream.new.items
+            result }
+        ensures named { BothNamedInHeader F.tells lacks allocator.old allocator.new
+            minifat_sectors.old.items minifat_sectors.new.items result }
+        ensures holds { HoldsGrownBoth F.tells F.write_faults allocator.old allocator.new
+            minifat_sectors.old.items minifat_sectors.new.items stream.old.items stream.new.items
+            result }
 {
     check_ends(allocator, minifat_sectors, stream)?;
     let wanted = lacks.minifat + lacks.mini_stream;

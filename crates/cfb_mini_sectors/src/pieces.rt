@@ -1,5 +1,11 @@
 //! Words of the MiniFAT and mini sectors, by their places in sectors of the file (MS-CFB 2.4).
 ghost use Rattle.std.specs.Prelude.{◌≡◌, ◌↔◌, ℕ, ◌+◌, ◌-◌, ◌*◌, ◌/◌, ◌%◌, ◌^◌, ◌<◌, ◌≤◌, max, min, true, length, nat_eq, slice_index, take, drop, Contains, IsTrue, IsErrAnd, IfSome, IfNone, IfOk, IfErr, OnOk, OnErr};
+ghost use Rattle.cfb_mini_sectors.specs.Reading.{ReadRefusedWithoutMini};
+ghost use Rattle.cfb_mini_sectors.specs.Writing.{WritesListed, PutsWords, TakesRow, WipesRow, WritesWordsOf, WipesMinis, BeginsIfAny, WritesInStream, RefusedWithoutMini, KeepsOutside};
+ghost use Rattle.cfb_mini_sectors.specs.cfb_slots.Writing.{WritesAmongSectors};
+ghost use Rattle.cfb_mini_sectors.specs.cfb_alloc.Reading.{OnlyReadsFile};
+ghost use Rattle.cfb_sectors.specs.Writing.{PutsBytes};
+ghost use Rattle.cfb_sectors.specs.Reading.{ReadsBytesFrom};
 ghost use Rattle.std.specs.List.{IsDistinct};
 ghost use Rattle.cfb_format.specs.declared.validate.Validation.{Validation};
 ghost use Rattle.cfb_format.specs.Bytes.{sector_len, sector_start, word_bytes, words_per_sector};
@@ -147,35 +153,13 @@ fn write_listed<F: Medium, A: Heap>(
     requires within { offset + length from.now ≤ sector_len allocator.old.tables.version }
     requires listed { index < length sectors.now }
     requires there { slice_index sectors.now index < length allocator.old.tables.fat }
-    ensures tables { allocator.new.tables ≡ allocator.old.tables }
-    ensures kept { allocator.new.file ≡ record allocator.old.file {
-      len = allocator.new.file.len;
-      bytes = allocator.new.file.bytes;
-      failures = allocator.new.file.failures;
-      begun = allocator.new.file.begun;
-    } }
-    ensures ok { IsTrue F.tells → OnOk result (allocator.new.file
-        ≡ record allocator.old.file {
-          bytes = written allocator.old.file.bytes
-              (sector_start allocator.old.tables.version (slice_index sectors.now index)
-              + offset) from.now;
-          len = max allocator.old.file.len
-              (sector_start allocator.old.tables.version (slice_index sectors.now index)
-              + offset + length from.now);
-          begun = true;
-        }) }
-    ensures others { IsTrue F.tells → ChangesOnlyBytes
-        (sector_start allocator.old.tables.version (slice_index sectors.now index)
-        + offset) (length from.now) allocator.old.file.bytes allocator.new.file.bytes }
+        ensures writes { WritesListed F.tells allocator.old allocator.new sectors.now result }
+        ensures put { PutsBytes F.tells F.write_faults
+            (sector_start allocator.old.tables.version (slice_index sectors.now index) + offset)
+            from.now allocator.old.file allocator.new.file
+            (sector_start allocator.old.tables.version (slice_index sectors.now index) + offset
+            + length from.now) (length from.now) result }
     ensures among { IsTrue F.tells → WritesAmong sectors.now allocator.old allocator.new }
-    ensures holds { IsTrue F.tells
-        → (validation : Validation) → HoldsTables validation allocator.old
-        → ((i : ℕ) → Contains sectors.now i → IsNoTableSector allocator.old.tables i)
-        → OnOk result (HoldsTables validation allocator.new) }
-    ensures begun { allocator.new.file.begun ≡ true }
-    ensures err { IfErr result IsMediumError }
-    ensures counts { IsTrue F.tells → CountsFailure
-        F.write_faults result allocator.old.file.failures allocator.new.file.failures }
 {
     let len = allocator.file_len();
     let _fact = len;
@@ -208,28 +192,9 @@ fn write_run<F: Medium, A: Heap>(
         ≤ words_per_sector allocator.old.tables.version }
     requires known { HasWord allocator.old.tables.version sectors.now
         (length allocator.old.tables.fat) first }
-    ensures tables { allocator.new.tables ≡ allocator.old.tables }
-    ensures kept { allocator.new.file ≡ record allocator.old.file {
-      len = allocator.new.file.len;
-      bytes = allocator.new.file.bytes;
-      failures = allocator.new.file.failures;
-      begun = allocator.new.file.begun;
-    } }
-    ensures ok { IsTrue F.tells
-        → OnOk result (allocator.new.file.bytes ≡ written allocator.old.file.bytes
-        (word_home allocator.old.tables.version sectors.now first) (word_bytes words.now)) }
-    ensures others { IsTrue F.tells
-        → ChangesOnlyBytes (word_home allocator.old.tables.version sectors.now first)
-        (4 * length words.now) allocator.old.file.bytes allocator.new.file.bytes }
-    ensures among { IsTrue F.tells → WritesAmong sectors.now allocator.old allocator.new }
-    ensures holds { IsTrue F.tells
-        → (validation : Validation) → HoldsTables validation allocator.old
-        → ((i : ℕ) → Contains sectors.now i → IsNoTableSector allocator.old.tables i)
-        → OnOk result (HoldsTables validation allocator.new) }
-    ensures begun { allocator.new.file.begun ≡ true }
-    ensures err { IfErr result IsMediumError }
-    ensures counts { IsTrue F.tells → CountsFailure
-        F.write_faults result allocator.old.file.failures allocator.new.file.failures }
+        ensures writes { WritesListed F.tells allocator.old allocator.new sectors.now result }
+        ensures words { PutsWords F.tells F.write_faults first allocator.old allocator.new
+            sectors.now words.now result }
 {
     let mut buffer = [0; MAX_SECTOR_LEN];
     let end = put_words(&mut buffer, 0, words);
@@ -248,40 +213,11 @@ pub fn write_words<F: Medium, A: Heap>(
 ) -> Result<(), Error>
     requires known { HaveWords allocator.old.tables.version sectors.now
         (length allocator.old.tables.fat) numbers.now }
-    ensures tables { allocator.new.tables ≡ allocator.old.tables }
-    ensures kept { allocator.new.file ≡ record allocator.old.file {
-      len = allocator.new.file.len;
-      bytes = allocator.new.file.bytes;
-      failures = allocator.new.file.failures;
-      begun = allocator.new.file.begun;
-    } }
-    ensures words { IsTrue F.tells
-        → IsDistinct nat_eq sectors.now → OnOk result ((m : ℕ) → Contains numbers.now m
-        → word_of allocator.old.tables.version allocator.new.file.bytes sectors.now m
-        ≡ value table.now m) }
-    ensures other_words { IsTrue F.tells → IsDistinct nat_eq sectors.now
-        → (m : ℕ) → m / words_per_sector allocator.old.tables.version < length sectors.now
-        → (Contains numbers.now m → ⊥)
-        → word_home allocator.old.tables.version sectors.now m + 4 ≤ length allocator.old.file.bytes
-        → word_of allocator.old.tables.version allocator.new.file.bytes sectors.now m
-        ≡ word_of allocator.old.tables.version allocator.old.file.bytes sectors.now m }
-    ensures others { IsTrue F.tells → ChangesWords numbers.now
-        allocator.old.tables.version sectors.now allocator.old.file.bytes allocator.new.file.bytes }
-    ensures sectors { IsTrue F.tells → (i : ℕ) → (Contains sectors.now i → ⊥) → SectorStays
-        allocator.old.tables.version i allocator.old.file.bytes allocator.new.file.bytes }
-    ensures header { IsTrue F.tells → (i : ℕ)
-        → i < length allocator.old.file.bytes → i < sector_len allocator.old.tables.version
-        → slice_index allocator.new.file.bytes i ≡ slice_index allocator.old.file.bytes i }
-    ensures spares { IsTrue F.tells → Spares sectors.now allocator.old allocator.new }
-    ensures holds { IsTrue F.tells
-        → (validation : Validation) → HoldsTables validation allocator.old
-        → ((i : ℕ) → Contains sectors.now i → IsNoTableSector allocator.old.tables i)
-        → OnOk result (HoldsTables validation allocator.new) }
-    ensures begun { IsRaised (0 < length numbers.now) allocator.old.file allocator.new.file }
-    ensures none { length numbers.now ≡ 0 → (allocator.new ≡ allocator.old) × OnErr result ⊥ }
-    ensures err { IfErr result IsMediumError }
-    ensures counts { IsTrue F.tells → CountsFailure
-        F.write_faults result allocator.old.file.failures allocator.new.file.failures }
+        ensures among { WritesAmongSectors F.tells F.write_faults allocator.old allocator.new
+            sectors.now result }
+        ensures words { WritesWordsOf F.tells allocator.old allocator.new sectors.now table.now
+            numbers.now result }
+        ensures begins { BeginsIfAny allocator.old allocator.new numbers.now result }
 {
     let version = allocator.version();
     let mut done = 0;
@@ -306,31 +242,13 @@ pub fn read_piece<F: ReadMedium, A: Heap>(
 ) -> Result<usize, Error>
     requires some { 0 < length into.old }
     requires within { offset + length into.old ≤ mini_sector_len }
-    ensures tables { allocator.new.tables ≡ allocator.old.tables }
-    ensures kept { allocator.new.file
-        ≡ record allocator.old.file {
-          bytes = allocator.new.file.bytes;
-          failures = allocator.new.file.failures;
-        } }
-    ensures count { IfOk result (λ n. n ≡ min (length into.old) (allocator.old.file.len
-        - (mini_start allocator.old.tables.version stream.now mini + offset))) }
+        ensures reads { OnlyReadsFile F.tells F.read_faults allocator.old allocator.new result }
+        ensures part { ReadsBytesFrom F.tells
+            (mini_start allocator.old.tables.version stream.now mini + offset) into.old into.new
+            allocator.old.file.bytes (min (length into.old) (allocator.old.file.len - (mini_start
+            allocator.old.tables.version stream.now mini + offset))) result }
     ensures some { IfOk result (λ n. 0 < n) }
-    ensures ok { IsTrue F.tells → IfOk result (λ n. take n into.new
-        ≡ part allocator.old.file.bytes (mini_start allocator.old.tables.version stream.now mini
-        + offset) n) }
-    ensures rest { IfOk result (λ n. drop n into.new ≡ drop n into.old) }
-    ensures missing { (HasMini allocator.old.tables.version stream.now
-        (length allocator.old.tables.fat) mini → ⊥) → IsErrAnd result IsInvalidData }
-    ensures cut { allocator.old.file.len ≤ mini_start allocator.old.tables.version stream.now mini
-        + offset → IsErrAnd result IsInvalidData }
-    ensures there { HasMini allocator.old.tables.version stream.now
-        (length allocator.old.tables.fat) mini
-        → mini_start allocator.old.tables.version stream.now mini + offset < allocator.old.file.len
-        → IfErr result IsMediumError }
-    ensures same { IsTrue F.tells → OnOk result (allocator.new ≡ allocator.old) }
-    ensures bytes { IsTrue F.tells → allocator.new.file.bytes ≡ allocator.old.file.bytes }
-    ensures counts { IsTrue F.tells → CountsFailure
-        F.read_faults result allocator.old.file.failures allocator.new.file.failures }
+        ensures error { ReadRefusedWithoutMini mini offset allocator.old stream.now result }
 {
     let Some(sector) = sector_of_mini(allocator, stream, mini) else {
         return Err(no_mini(mini));
@@ -354,42 +272,14 @@ pub fn write_piece<F: Medium, A: Heap>(
 ) -> Result<(), Error>
     requires some { 0 < length from.now }
     requires within { offset + length from.now ≤ mini_sector_len }
-    ensures tables { allocator.new.tables ≡ allocator.old.tables }
-    ensures kept { allocator.new.file ≡ record allocator.old.file {
-      len = allocator.new.file.len;
-      bytes = allocator.new.file.bytes;
-      failures = allocator.new.file.failures;
-      begun = allocator.new.file.begun;
-    } }
-    ensures ok { IsTrue F.tells → OnOk result (allocator.new.file
-        ≡ record allocator.old.file {
-          bytes = written allocator.old.file.bytes
-              (mini_start allocator.old.tables.version stream.now mini + offset) from.now;
-          len = max allocator.old.file.len (mini_start allocator.old.tables.version stream.now mini
-              + offset + length from.now);
-          begun = true;
-        }) }
-    ensures missing { (HasMini allocator.old.tables.version stream.now
-        (length allocator.old.tables.fat) mini → ⊥)
-        → IsErrAnd result IsInvalidData × (allocator.new ≡ allocator.old) }
-    ensures there { HasMini allocator.old.tables.version stream.now
-        (length allocator.old.tables.fat) mini
-        → IfErr result IsMediumError × (allocator.new.file.begun ≡ true) }
-    ensures others { IsTrue F.tells
-        → ChangesOnlyBytes (mini_start allocator.old.tables.version stream.now mini
-        + offset) (length from.now) allocator.old.file.bytes allocator.new.file.bytes }
-    ensures sectors { IsTrue F.tells → (i : ℕ) → (Contains stream.now i → ⊥) → SectorStays
-        allocator.old.tables.version i allocator.old.file.bytes allocator.new.file.bytes }
-    ensures header { IsTrue F.tells → (i : ℕ)
-        → i < length allocator.old.file.bytes → i < sector_len allocator.old.tables.version
-        → slice_index allocator.new.file.bytes i ≡ slice_index allocator.old.file.bytes i }
-    ensures spares { IsTrue F.tells → Spares stream.now allocator.old allocator.new }
-    ensures holds { IsTrue F.tells
-        → (validation : Validation) → HoldsTables validation allocator.old
-        → ((i : ℕ) → Contains stream.now i → IsNoTableSector allocator.old.tables i)
-        → OnOk result (HoldsTables validation allocator.new) }
-    ensures counts { IsTrue F.tells → CountsFailure
-        F.write_faults result allocator.old.file.failures allocator.new.file.failures }
+        ensures writes { WritesInStream F.tells allocator.old allocator.new stream.now result }
+        ensures put { PutsBytes F.tells F.write_faults
+            (mini_start allocator.old.tables.version stream.now mini + offset) from.now
+            allocator.old.file allocator.new.file
+            (mini_start allocator.old.tables.version stream.now mini + offset + length from.now)
+            (length from.now) result }
+        ensures error { RefusedWithoutMini mini allocator.old allocator.new stream.now result }
+        ensures outside { KeepsOutside F.tells allocator.old allocator.new stream.now }
 {
     if sector_of_mini(allocator, stream, mini).is_none() {
         return Err(no_mini(mini));
@@ -410,32 +300,11 @@ fn wipe_row<F: Medium, A: Heap>(
     requires listed { index < length minis.now }
     requires known { HaveMinis allocator.old.tables.version stream.now
         (length allocator.old.tables.fat) minis.now }
-    ensures tables { allocator.new.tables ≡ allocator.old.tables }
-    ensures kept { allocator.new.file ≡ record allocator.old.file {
-      len = allocator.new.file.len;
-      bytes = allocator.new.file.bytes;
-      failures = allocator.new.file.failures;
-      begun = allocator.new.file.begun;
-    } }
-    ensures some { IfOk result (λ n. 0 < n) }
-    ensures row { IfOk result
-        (AreInARow allocator.old.tables.version stream.now minis.now index) }
-    ensures longest { IfOk result (λ n. n < 64
-        → AreInARow allocator.old.tables.version stream.now minis.now index (n + 1) → ⊥) }
-    ensures zeros { IsTrue F.tells → IfOk result (λ n. (k : ℕ) → k < n
-        → AreZeros allocator.new.file.bytes (mini_start allocator.old.tables.version stream.now
-        (slice_index minis.now (index + k)))) }
-    ensures still { IsTrue F.tells → OnOk result ((at : ℕ)
-        → AreZeros allocator.old.file.bytes at → AreZeros allocator.new.file.bytes at) }
-    ensures others { IsTrue F.tells → ChangesMinis minis.now
-        allocator.old.tables.version stream.now allocator.old.file.bytes allocator.new.file.bytes }
+        ensures writes { WritesListed F.tells allocator.old allocator.new stream.now result }
+        ensures row { TakesRow index allocator.old stream.now minis.now result }
+        ensures wiped { WipesRow F.tells index allocator.old allocator.new stream.now minis.now
+            result }
     ensures among { IsTrue F.tells → WritesAmong stream.now allocator.old allocator.new }
-    ensures holds { IsTrue F.tells
-        → (validation : Validation) → HoldsTables validation allocator.old
-        → ((i : ℕ) → Contains stream.now i → IsNoTableSector allocator.old.tables i)
-        → OnOk result (HoldsTables validation allocator.new) }
-    ensures begun { allocator.new.file.begun ≡ true }
-    ensures err { IfErr result IsMediumError }
     ensures counts { IsTrue F.tells → CountsFailure
         F.write_faults result allocator.old.file.failures allocator.new.file.failures }
 {
@@ -454,38 +323,10 @@ pub fn wipe<F: Medium, A: Heap>(
 ) -> Result<(), Error>
     requires known { HaveMinis allocator.old.tables.version stream.now
         (length allocator.old.tables.fat) minis.now }
-    ensures tables { allocator.new.tables ≡ allocator.old.tables }
-    ensures kept { allocator.new.file ≡ record allocator.old.file {
-      len = allocator.new.file.len;
-      bytes = allocator.new.file.bytes;
-      failures = allocator.new.file.failures;
-      begun = allocator.new.file.begun;
-    } }
-    ensures zeros { IsTrue F.tells
-        → OnOk result ((m : ℕ) → Contains minis.now m → AreZeros allocator.new.file.bytes
-        (mini_start allocator.old.tables.version stream.now m)) }
-    ensures other_minis { IsTrue F.tells → IsDistinct nat_eq stream.now → (m : ℕ) → mini_sector_len
-        * m / sector_len allocator.old.tables.version < length stream.now → (Contains minis.now m
-        → ⊥) → RangeStays (mini_start allocator.old.tables.version stream.now m)
-        (mini_start allocator.old.tables.version stream.now m
-        + mini_sector_len) allocator.old.file.bytes allocator.new.file.bytes }
-    ensures others { IsTrue F.tells → ChangesMinis minis.now
-        allocator.old.tables.version stream.now allocator.old.file.bytes allocator.new.file.bytes }
-    ensures sectors { IsTrue F.tells → (i : ℕ) → (Contains stream.now i → ⊥) → SectorStays
-        allocator.old.tables.version i allocator.old.file.bytes allocator.new.file.bytes }
-    ensures header { IsTrue F.tells → (i : ℕ)
-        → i < length allocator.old.file.bytes → i < sector_len allocator.old.tables.version
-        → slice_index allocator.new.file.bytes i ≡ slice_index allocator.old.file.bytes i }
-    ensures spares { IsTrue F.tells → Spares stream.now allocator.old allocator.new }
-    ensures holds { IsTrue F.tells
-        → (validation : Validation) → HoldsTables validation allocator.old
-        → ((i : ℕ) → Contains stream.now i → IsNoTableSector allocator.old.tables i)
-        → OnOk result (HoldsTables validation allocator.new) }
-    ensures begun { IsRaised (0 < length minis.now) allocator.old.file allocator.new.file }
-    ensures none { length minis.now ≡ 0 → (allocator.new ≡ allocator.old) × OnErr result ⊥ }
-    ensures err { IfErr result IsMediumError }
-    ensures counts { IsTrue F.tells → CountsFailure
-        F.write_faults result allocator.old.file.failures allocator.new.file.failures }
+        ensures among { WritesAmongSectors F.tells F.write_faults allocator.old allocator.new
+            stream.now result }
+        ensures wiped { WipesMinis F.tells allocator.old allocator.new stream.now minis.now result }
+        ensures begins { BeginsIfAny allocator.old allocator.new minis.now result }
 {
     let mut done = 0;
     while done < minis.len() {

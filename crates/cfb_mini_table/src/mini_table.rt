@@ -1,6 +1,8 @@
 //! The MiniFAT in memory: what comes after each mini sector, and which ones are free (MS-CFB 2.4). A change is made whole:
 //! what can be refused is refused before it begins, and giving back asks for no memory.
 ghost use Rattle.std.specs.Prelude.{◌≡◌, ◌+◌, ◌<◌, ◌≤◌, ◌↔◌, [], ◌∷◌, ◌++◌, List, ℕ, length, take, drop, IsTrue, IsOk, IfOk, IfErr, OnErr, OnOk, vec_len, vec_capacity};
+ghost use Rattle.cfb_mini_table.specs.Taking.{LengthensMiniList, KeepsTable, BeginsMiniChain, AttachesToMiniChain, ListsMiniChain, ListsMiniChainAfter, TakingMiniRefused};
+ghost use Rattle.cfb_mini_table.specs.Freeing.{FreesMiniChain, FreesMiniChainAfter};
 ghost use Rattle.cfb_format.specs.Bytes.{end_of_chain, max_regular_sector};
 ghost use Rattle.cfb_format.specs.Chain.{IsChain, value};
 ghost use Rattle.cfb_format.specs.Full.{free_count, max_mini_sectors};
@@ -189,12 +191,9 @@ impl<A: Allocator> MiniTable<A> {
         requires prepared { IsPreparedMini self.old count }
         requires room { count ≤ vec_capacity list.old }
         requires empty { list.old.items ≡ [] }
-        ensures taken { TakesMini self.old.limit
-            self.old.minifat self.new.minifat [] list.new.items }
-        ensures chain { IsChain self.new.minifat (first_or_end list.new.items) list.new.items }
-        ensures count { vec_len list.new ≡ count }
-        ensures rest { self.new ≡ record self.old { minifat = self.new.minifat } }
-        ensures capacity { vec_capacity list.new ≡ vec_capacity list.old }
+        ensures begins { BeginsMiniChain count self.old.limit self.old.minifat self.new.minifat
+            list.new }
+        ensures kept { KeepsTable self.old self.new list.old list.new }
     {
         begin(
             &mut self.minifat,
@@ -212,14 +211,9 @@ impl<A: Allocator> MiniTable<A> {
         requires ended { value self.old.minifat last ≡ end_of_chain }
         requires prepared { IsPreparedMini self.old count }
         requires room { vec_len list.old + count ≤ vec_capacity list.old }
-        ensures taken { TakesMini self.old.limit self.old.minifat self.new.minifat (last
-            ∷ []) (drop (vec_len list.old) list.new.items) }
-        ensures chain { IsChain self.new.minifat last (last
-            ∷ drop (vec_len list.old) list.new.items) }
-        ensures before { take (vec_len list.old) list.new.items ≡ list.old.items }
-        ensures count { vec_len list.new ≡ vec_len list.old + count }
-        ensures rest { self.new ≡ record self.old { minifat = self.new.minifat } }
-        ensures capacity { vec_capacity list.new ≡ vec_capacity list.old }
+        ensures attaches { AttachesToMiniChain last count self.old.limit self.old.minifat
+            self.new.minifat list.new list.old }
+        ensures kept { KeepsTable self.old self.new list.old list.new }
     {
         extend(
             &mut self.minifat,
@@ -239,17 +233,8 @@ impl<A: Allocator> MiniTable<A> {
         requires ended { 0 < vec_len list.old
             → value self.old.minifat (last_or_end list.old.items) ≡ end_of_chain }
         requires room { vec_len list.old + count ≤ vec_capacity list.old }
-        ensures listed { list.new.items ≡ list.old.items ++ gained list.old.items list.new.items }
-        ensures count { length (gained list.old.items list.new.items) ≡ count }
-        ensures taken { TakesMini self.old.limit self.old.minifat self.new.minifat
-            (ends_of list.old.items) (gained list.old.items list.new.items) }
-        ensures added { IsChain self.new.minifat (first_or_end (ends_of list.old.items
-            ++ gained list.old.items list.new.items)) (ends_of list.old.items
-            ++ gained list.old.items list.new.items) }
-        ensures chain { IsChain self.old.minifat (first_or_end list.old.items) list.old.items
-            → IsChain self.new.minifat (first_or_end list.new.items) list.new.items }
-        ensures rest { self.new ≡ record self.old { minifat = self.new.minifat } }
-        ensures capacity { vec_capacity list.new ≡ vec_capacity list.old }
+        ensures extends { LengthensMiniList list.old.items list.new.items count self.old self.new }
+        ensures kept { KeepsTable self.old self.new list.old list.new }
     {
         if list.is_empty() {
             return self.begin_prepared(count, list);
@@ -261,17 +246,8 @@ impl<A: Allocator> MiniTable<A> {
     /// Takes so many mini sectors as a new chain, and gives their numbers. `Full` where there are too few numbers, and
     /// `Memory`.
     pub fn begin_by(&mut self, alloc: A, count: usize) -> Result<Vec<u32, A>, Error>
-        ensures taken { IfOk result (λ list.
-            TakesMini self.old.limit self.old.minifat self.new.minifat [] list.items) }
-        ensures chain { IfOk result (λ list.
-            IsChain self.new.minifat (first_or_end list.items) list.items) }
-        ensures count { IfOk result (λ list. vec_len list ≡ count) }
-        ensures limit { self.new.limit ≡ self.old.limit }
-        ensures kept { self.old.room ≤ self.new.room }
-        ensures unchanged { OnErr result (self.new ≡ record self.old { room = self.new.room }) }
-        ensures full { IsTooFewMini self.old.limit self.old.minifat count → result ≡ Err Full }
-        ensures err { IfErr result
-            (TableRefused ⊥ Unit (IsTooFewMini self.old.limit self.old.minifat count)) }
+        ensures list { ListsMiniChain count self.old self.new result }
+        ensures error { TakingMiniRefused count self.old self.new result }
     {
         self.prepare(count)?;
         let mut list = Vec::with_capacity(alloc, count)?;
@@ -283,16 +259,8 @@ impl<A: Allocator> MiniTable<A> {
     /// numbers, and `Memory`.
     pub fn extend_by(&mut self, alloc: A, last: u32, count: usize) -> Result<Vec<u32, A>, Error>
         requires ended { value self.old.minifat last ≡ end_of_chain }
-        ensures taken { IfOk result (λ list.
-            TakesMini self.old.limit self.old.minifat self.new.minifat (last ∷ []) list.items) }
-        ensures chain { IfOk result (λ list. IsChain self.new.minifat last (last ∷ list.items)) }
-        ensures count { IfOk result (λ list. vec_len list ≡ count) }
-        ensures limit { self.new.limit ≡ self.old.limit }
-        ensures kept { self.old.room ≤ self.new.room }
-        ensures unchanged { OnErr result (self.new ≡ record self.old { room = self.new.room }) }
-        ensures full { IsTooFewMini self.old.limit self.old.minifat count → result ≡ Err Full }
-        ensures err { IfErr result
-            (TableRefused ⊥ Unit (IsTooFewMini self.old.limit self.old.minifat count)) }
+        ensures list { ListsMiniChainAfter last count self.old self.new result }
+        ensures error { TakingMiniRefused count self.old self.new result }
     {
         self.prepare(count)?;
         let mut list = Vec::with_capacity(alloc, count)?;
@@ -343,12 +311,7 @@ impl<A: Allocator> MiniTable<A> {
     /// Frees the chain from `start`, and gives the numbers that it had. `InvalidData` where there is no such chain, and
     /// `Memory`.
     pub fn free(&mut self, alloc: A, start: u32) -> Result<Vec<u32, A>, Error>
-        ensures ok { IfOk result (λ list. IsChain self.old.minifat start list.items) }
-        ensures freed { IfOk result (λ list.
-            MiniGivesBack [] list.items self.old.minifat self.new.minifat) }
-        ensures rest { self.new ≡ record self.old { minifat = self.new.minifat } }
-        ensures unchanged { OnErr result (self.new ≡ self.old) }
-        ensures err { IfErr result (WalkRefused self.old.minifat start) }
+        ensures frees { FreesMiniChain start self.old self.new result }
     {
         let list = self.chain(alloc, start)?;
         self.free_listed(&list);
@@ -359,13 +322,7 @@ impl<A: Allocator> MiniTable<A> {
     /// goes on from it, and `Memory`.
     pub fn free_after(&mut self, alloc: A, mini: u32) -> Result<Vec<u32, A>, Error>
         requires below { mini < length self.old.minifat }
-        ensures ok { IfOk result (λ list.
-            IsChain self.old.minifat (value self.old.minifat mini) list.items) }
-        ensures cut { IfOk result (λ list.
-            MiniGivesBack (mini ∷ []) list.items self.old.minifat self.new.minifat) }
-        ensures rest { self.new ≡ record self.old { minifat = self.new.minifat } }
-        ensures unchanged { OnErr result (self.new ≡ self.old) }
-        ensures err { IfErr result (WalkRefused self.old.minifat (value self.old.minifat mini)) }
+        ensures frees { FreesMiniChainAfter mini self.old self.new result }
     {
         let list = self.chain(alloc, self.minifat[mini as usize])?;
         self.cut_behind(mini, &list);

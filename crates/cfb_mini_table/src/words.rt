@@ -1,5 +1,7 @@
 //! The words of the MiniFAT and the numbers that are free: each step of a change.
 ghost use Rattle.std.specs.Prelude.{◌≡◌, ◌+◌, ◌-◌, ◌<◌, ◌≤◌, ℕ, Contains, true, [], ◌∷◌, ◌++◌, length, take, drop, IfOk, IfErr, OnErr, OnOk, vec_len, vec_capacity};
+ghost use Rattle.cfb_mini_table.specs.Freeing.{GivesBackToFreeList, TrimsTable};
+ghost use Rattle.cfb_mini_table.specs.Taking.{BeginsMiniChain, AttachesToMiniChain, CanTakeMini, KeepsFreeList, TakesFromFreeList};
 ghost use Rattle.std.specs.List.{list_all};
 ghost use Rattle.cfb_format.specs.Bytes.{max_regular_sector, end_of_chain, points_below};
 ghost use Rattle.cfb_format.specs.Chain.{value, IsChain};
@@ -53,10 +55,7 @@ fn busy_len(words: &[u32]) -> usize
 
 /// Drops the free entries at the end, and says how many there were.
 fn trim<A: Allocator>(minifat: &mut Vec<u32, A>) -> usize
-    ensures trimmed { minifat.new.items ≡ trimmed minifat.old.items }
-    ensures counted { free_count minifat.new.items + result ≡ free_count minifat.old.items }
-    ensures len { vec_len minifat.new + result ≡ vec_len minifat.old }
-    ensures capacity { vec_capacity minifat.new ≡ vec_capacity minifat.old }
+        ensures trims { TrimsTable minifat.old minifat.new result }
 {
     let len = busy_len(minifat);
     let dropped = minifat.len() - len;
@@ -147,10 +146,7 @@ fn take_one<A: Allocator>(minifat: &mut Vec<u32, A>, free: &mut Vec<u32, A>) -> 
         → vec_len minifat.old < vec_capacity minifat.old }
     requires short { free_count minifat.old.items ≡ 0 → vec_len minifat.old < max_regular_sector }
     ensures taken { TakesOne minifat.old.items minifat.new.items result }
-    ensures listed { ListsMiniFree free.new.items minifat.new.items }
-    ensures fewer { (i : ℕ) → Contains free.new.items i → Contains free.old.items i }
-    ensures capacity { vec_capacity minifat.new ≡ vec_capacity minifat.old }
-    ensures free_capacity { vec_capacity free.new ≡ vec_capacity free.old }
+        ensures free { TakesFromFreeList minifat.old minifat.new free.old free.new }
 {
     while let Some(number) = free.pop() {
         if (number as usize) < minifat.len() {
@@ -171,23 +167,13 @@ fn take_all<A: Allocator>(
     count: usize,
     list: &mut Vec<u32, A>,
 )
-    requires listed { ListsMiniFree free.old.items minifat.old.items }
-    requires next { TakesEndFirst free.old.items minifat.old.items }
-    requires limited { limit ≤ max_regular_sector }
-    requires enough { vec_len minifat.old + (count - free_count minifat.old.items) ≤ limit }
-    requires held { vec_len minifat.old + (count - free_count minifat.old.items)
-        ≤ vec_capacity minifat.old }
+        requires free { CanTakeMini limit count minifat.old free.old }
     requires room { vec_len list.old + count ≤ vec_capacity list.old }
     ensures taken { Taking limit minifat.old.items minifat.new.items
         (drop (vec_len list.old) list.new.items) }
     ensures before { take (vec_len list.old) list.new.items ≡ list.old.items }
     ensures count { vec_len list.new ≡ vec_len list.old + count }
-    ensures listed { ListsMiniFree free.new.items minifat.new.items }
-    ensures next { TakesEndFirst free.new.items minifat.new.items }
-    ensures fewer { (i : ℕ) → Contains free.new.items i → Contains free.old.items i }
-    ensures capacity { vec_capacity minifat.new ≡ vec_capacity minifat.old }
-    ensures free_capacity { vec_capacity free.new ≡ vec_capacity free.old }
-    ensures list_capacity { vec_capacity list.new ≡ vec_capacity list.old }
+        ensures free { KeepsFreeList minifat.old minifat.new free.old free.new list.old list.new }
 {
     let _fact = limit;
     for turn in 0..count {
@@ -240,23 +226,11 @@ pub fn begin<A: Allocator>(
     count: usize,
     list: &mut Vec<u32, A>,
 )
-    requires listed { ListsMiniFree free.old.items minifat.old.items }
-    requires next { TakesEndFirst free.old.items minifat.old.items }
-    requires limited { limit ≤ max_regular_sector }
-    requires enough { vec_len minifat.old + (count - free_count minifat.old.items) ≤ limit }
-    requires held { vec_len minifat.old + (count - free_count minifat.old.items)
-        ≤ vec_capacity minifat.old }
+        requires free { CanTakeMini limit count minifat.old free.old }
     requires room { count ≤ vec_capacity list.old }
     requires empty { list.old.items ≡ [] }
-    ensures taken { TakesMini limit minifat.old.items minifat.new.items [] list.new.items }
-    ensures chain { IsChain minifat.new.items (first_or_end list.new.items) list.new.items }
-    ensures count { vec_len list.new ≡ count }
-    ensures listed { ListsMiniFree free.new.items minifat.new.items }
-    ensures next { TakesEndFirst free.new.items minifat.new.items }
-    ensures fewer { (i : ℕ) → Contains free.new.items i → Contains free.old.items i }
-    ensures capacity { vec_capacity minifat.new ≡ vec_capacity minifat.old }
-    ensures free_capacity { vec_capacity free.new ≡ vec_capacity free.old }
-    ensures list_capacity { vec_capacity list.new ≡ vec_capacity list.old }
+        ensures begins { BeginsMiniChain count limit minifat.old.items minifat.new.items list.new }
+        ensures free { KeepsFreeList minifat.old minifat.new free.old free.new list.old list.new }
 {
     take_all(minifat, free, limit, count, list);
     if count > 0 {
@@ -273,25 +247,12 @@ pub fn extend<A: Allocator>(
     count: usize,
     list: &mut Vec<u32, A>,
 )
-    requires listed { ListsMiniFree free.old.items minifat.old.items }
-    requires next { TakesEndFirst free.old.items minifat.old.items }
-    requires limited { limit ≤ max_regular_sector }
+        requires free { CanTakeMini limit count minifat.old free.old }
     requires ended { value minifat.old.items last ≡ end_of_chain }
-    requires enough { vec_len minifat.old + (count - free_count minifat.old.items) ≤ limit }
-    requires held { vec_len minifat.old + (count - free_count minifat.old.items)
-        ≤ vec_capacity minifat.old }
     requires room { vec_len list.old + count ≤ vec_capacity list.old }
-    ensures taken { TakesMini limit minifat.old.items minifat.new.items (last
-        ∷ []) (drop (vec_len list.old) list.new.items) }
-    ensures chain { IsChain minifat.new.items last (last ∷ drop (vec_len list.old) list.new.items) }
-    ensures before { take (vec_len list.old) list.new.items ≡ list.old.items }
-    ensures count { vec_len list.new ≡ vec_len list.old + count }
-    ensures listed { ListsMiniFree free.new.items minifat.new.items }
-    ensures next { TakesEndFirst free.new.items minifat.new.items }
-    ensures fewer { (i : ℕ) → Contains free.new.items i → Contains free.old.items i }
-    ensures capacity { vec_capacity minifat.new ≡ vec_capacity minifat.old }
-    ensures free_capacity { vec_capacity free.new ≡ vec_capacity free.old }
-    ensures list_capacity { vec_capacity list.new ≡ vec_capacity list.old }
+        ensures attaches { AttachesToMiniChain last count limit minifat.old.items minifat.new.items
+            list.new list.old }
+        ensures free { KeepsFreeList minifat.old minifat.new free.old free.new list.old list.new }
 {
     let before = list.len();
     take_all(minifat, free, limit, count, list);
@@ -309,15 +270,8 @@ pub fn give_back<A: Allocator>(
     requires busy { AreBusy minifat.old.items list.now }
     requires room { vec_len minifat.old ≤ vec_capacity free.old }
     requires places { (i : ℕ) → Contains free.old.items i → i < vec_capacity free.old }
-    ensures minifat { minifat.new.items ≡ trimmed (wiped minifat.old.items list.now) }
-    ensures listed { ListsMiniFree free.new.items minifat.new.items }
-    ensures free { free.new.items ≡ free.old.items ++ list.now }
-    ensures counted { free_count minifat.new.items + result
-        ≡ free_count minifat.old.items + length list.now }
-    ensures len { vec_len minifat.new + result ≡ vec_len minifat.old }
-    ensures fits { free_count minifat.old.items + length list.now ≤ vec_len minifat.old }
-    ensures capacity { vec_capacity minifat.new ≡ vec_capacity minifat.old }
-    ensures free_capacity { vec_capacity free.new ≡ vec_capacity free.old }
+        ensures gives { GivesBackToFreeList list.now minifat.old minifat.new free.old free.new
+            result }
 {
     free_all(minifat, free, list);
     trim(minifat)

@@ -7,3 +7,4 @@ pub mod FatWords
 pub mod ReadDirectory
 pub mod ReadMinifat
 pub mod RawFat
+pub mod Steps

@@ -1,5 +1,7 @@
 //! The sectors of both tables (MS-CFB 2.5).
 ghost use Rattle.std.specs.Prelude.{◌≡◌, ◌+◌, ◌-◌, ◌*◌, ◌<◌, ◌≤◌, ◌++◌, ◌∷◌, [], true, false, length, max, slice_index_or, slice_set, flat_map, replicate, vec_len, IsTrue, IfOk, IfErr, OnOk, ◌==◌};
+ghost use Rattle.cfb_reading.specs.Steps.{FollowsTrail, ReadsTrail};
+ghost use Rattle.cfb_sectors.specs.Reading.{OnlyReadsSectors};
 ghost use Rattle.std.specs.List.{list_all, suffix_len};
 ghost use Rattle.cfb_format.specs.Bytes.{words_per_sector, is_regular_or_free, free_sector};
 ghost use Rattle.cfb_format.specs.Fat.{difat_entries, next_difat, ends_difat as is_end, without_end, without_padding};
@@ -54,8 +56,7 @@ pub fn read_difat<F: ReadMedium, A: Heap + Clone>(
     header: &Header,
     validation: Validation,
 ) -> Result<TableSectors<A>, Error>
-    ensures kept { sectors.new
-        ≡ record sectors.old { bytes = sectors.new.bytes; failures = sectors.new.failures } }
+        ensures reads { OnlyReadsSectors F.tells F.read_faults sectors.old sectors.new result }
     ensures listed { IfOk result (λ t. AreListed
         sectors.old.version sectors.old.num_sectors t.fat_sectors.items t.difat_sectors.items) }
     ensures ok { IsTrue F.tells → IsMeasured sectors.old
@@ -64,10 +65,6 @@ pub fn read_difat<F: ReadMedium, A: Heap + Clone>(
     ensures err { IfErr result (PartRefused F.tells F.read_faults (IsMeasured sectors.old
         → header.now.version ≡ sectors.old.version
         → AcceptsNoDifat validation sectors.old.bytes header.now)) }
-    ensures same { IsTrue F.tells → OnOk result (sectors.new ≡ sectors.old) }
-    ensures bytes { IsTrue F.tells → sectors.new.bytes ≡ sectors.old.bytes }
-    ensures counts { IsTrue F.tells
-        → CountsFailure F.read_faults result sectors.old.failures sectors.new.failures }
 {
     let _fact = sectors.num_sectors();
     let trail = follow_difat(heap, sectors, header, validation)?;
@@ -157,33 +154,17 @@ fn advance<F: ReadMedium, A: Heap>(
     validation: Validation,
 ) -> Result<(), Error>
     requires { length buffer.old ≡ words_per_sector sectors.old.version }
-    ensures kept { sectors.new
-        ≡ record sectors.old { bytes = sectors.new.bytes; failures = sectors.new.failures } }
-    ensures own { OnOk result (trail.new.difat_sectors.items
-        ≡ trail.old.difat_sectors.items ++ trail.old.next ∷ []) }
-    ensures fresh { OnOk result (slice_index_or trail.old.met.items trail.old.next false ≡ false) }
-    ensures met { OnOk result (trail.new.met.items
-        ≡ slice_set trail.old.met.items trail.old.next true) }
-    ensures there { OnOk result (has_sector sectors.old trail.old.next ≡ true) }
-    ensures count { OnOk result (vec_len trail.new.entries
-        ≡ vec_len trail.old.entries + (words_per_sector sectors.old.version - 1)) }
-    ensures entries { IsTrue F.tells
-        → OnOk result (trail.new.entries.items ≡ trail.old.entries.items
-        ++ difat_entries sectors.old.version sectors.old.bytes trail.old.next) }
-    ensures next { IsTrue F.tells → OnOk result (trail.new.next
-        ≡ next_difat sectors.old.version sectors.old.bytes trail.old.next) }
-    ensures words { IsTrue F.tells
-        → OnOk result (AreDifatWords validation (difat_entries sectors.old.version sectors.old.bytes
-        trail.old.next) (next_difat sectors.old.version sectors.old.bytes trail.old.next)) }
+        ensures reads { OnlyReadsSectors F.tells F.read_faults sectors.old sectors.new result }
+        ensures follows { FollowsTrail sectors.old trail.old.difat_sectors.items
+            trail.new.difat_sectors.items trail.old.met.items trail.new.met.items trail.old.next
+            trail.old.entries trail.new.entries result }
+        ensures words { ReadsTrail F.tells validation sectors.old trail.old.next trail.new.next
+            trail.old.entries trail.new.entries result }
     ensures err { IfErr result
         (PartRefused F.tells F.read_faults (slice_index_or trail.old.met.items trail.old.next false
         ≡ false → has_sector sectors.old trail.old.next ≡ true
         → AreDifatWords validation (difat_entries sectors.old.version sectors.old.bytes
         trail.old.next) (next_difat sectors.old.version sectors.old.bytes trail.old.next) → ⊥)) }
-    ensures same { IsTrue F.tells → OnOk result (sectors.new ≡ sectors.old) }
-    ensures bytes { IsTrue F.tells → sectors.new.bytes ≡ sectors.old.bytes }
-    ensures counts { IsTrue F.tells
-        → CountsFailure F.read_faults result sectors.old.failures sectors.new.failures }
 {
     let sector = trail.next;
     if is_marked(&trail.met, sector) {
@@ -208,8 +189,7 @@ fn follow_difat<F: ReadMedium, A: Heap + Clone>(
     header: &Header,
     validation: Validation,
 ) -> Result<Trail<A>, Error>
-    ensures kept { sectors.new
-        ≡ record sectors.old { bytes = sectors.new.bytes; failures = sectors.new.failures } }
+        ensures reads { OnlyReadsSectors F.tells F.read_faults sectors.old sectors.new result }
     ensures few { IfOk result (λ t. vec_len t.difat_sectors ≤ sectors.old.num_sectors) }
     ensures there { IfOk result (λ t. list_all (has_sector sectors.old) t.difat_sectors.items
         ≡ true) }
@@ -224,10 +204,6 @@ fn follow_difat<F: ReadMedium, A: Heap + Clone>(
     ensures err { IfErr result (PartRefused F.tells F.read_faults (IsMeasured sectors.old
         → AcceptsNoDifatSectors
         validation sectors.old.version sectors.old.bytes header.now.first_difat_sector)) }
-    ensures same { IsTrue F.tells → OnOk result (sectors.new ≡ sectors.old) }
-    ensures bytes { IsTrue F.tells → sectors.new.bytes ≡ sectors.old.bytes }
-    ensures counts { IsTrue F.tells
-        → CountsFailure F.read_faults result sectors.old.failures sectors.new.failures }
 {
     let mut buffer = [0; 1024];
     let buffer = &mut buffer[..sectors.version().words_per_sector()];

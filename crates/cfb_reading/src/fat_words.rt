@@ -1,5 +1,7 @@
 //! The words of the FAT sectors (MS-CFB 2.3).
 ghost use Rattle.std.specs.Prelude.{◌≡◌, ◌↔◌, ◌+◌, ◌-◌, ◌<◌, ◌≤◌, ◌++◌, ℕ, [], true, false, length, replicate, slice_index, slice_index_or, take, drop, vec_len, IsTrue, IfOk, IfErr, IsOk, OnOk};
+ghost use Rattle.cfb_reading.specs.Steps.{TakesSectorWords, CanTakeWords, KeepsSectorWords};
+ghost use Rattle.cfb_sectors.specs.Reading.{OnlyReadsSectors};
 ghost use Rattle.std.specs.List.{list_all};
 ghost use Rattle.cfb_format.specs.Bytes.{is_regular, sector_words, words_per_sector};
 ghost use Rattle.cfb_format.specs.Refused.{CountsFailure, IsInvalidData, IsMemory};
@@ -50,8 +52,7 @@ pub fn read_fat_words<F: ReadMedium, A: Heap + Clone>(
     difat_sectors: &[u32],
     validation: Validation,
 ) -> Result<FatWords<A>, Error>
-    ensures kept { sectors.new
-        ≡ record sectors.old { bytes = sectors.new.bytes; failures = sectors.new.failures } }
+        ensures reads { OnlyReadsSectors F.tells F.read_faults sectors.old sectors.new result }
     ensures few { IfOk result (λ fat. vec_len fat.words ≤ sectors.old.num_sectors) }
     ensures points { IfOk result (λ fat. IsTrue fat.points_into_file
         ↔ PointsInto sectors.old.num_sectors fat.words.items fat_sectors.now difat_sectors.now) }
@@ -61,10 +62,6 @@ pub fn read_fat_words<F: ReadMedium, A: Heap + Clone>(
     ensures err { IfErr result (PartRefused F.tells F.read_faults (IsMeasured sectors.old
         → AcceptsNoFatWords
         validation sectors.old.num_sectors sectors.old.version sectors.old.bytes fat_sectors.now)) }
-    ensures same { IsTrue F.tells → OnOk result (sectors.new ≡ sectors.old) }
-    ensures bytes { IsTrue F.tells → sectors.new.bytes ≡ sectors.old.bytes }
-    ensures counts { IsTrue F.tells
-        → CountsFailure F.read_faults result sectors.old.failures sectors.new.failures }
 {
     let num_sectors = sectors.num_sectors();
     let words = read_words(heap, sectors, fat_sectors, validation)?;
@@ -84,36 +81,17 @@ fn take_sector<F: ReadMedium, A: Heap>(
     buffer: &mut [u32],
     validation: Validation,
 ) -> Result<(), Error>
-    requires buffer { length buffer.old ≡ words_per_sector sectors.old.version }
-    requires count { vec_len taking.old.checked ≡ sectors.old.num_sectors }
-    requires few { vec_len taking.old.words ≤ vec_len taking.old.checked }
-    ensures kept { sectors.new
-        ≡ record sectors.old { bytes = sectors.new.bytes; failures = sectors.new.failures } }
-    ensures few { OnOk result (vec_len taking.new.words ≤ vec_len taking.new.checked) }
-    ensures len { OnOk result (vec_len taking.new.checked ≡ vec_len taking.old.checked) }
-    ensures met { vec_len taking.old.words ≡ vec_len taking.old.checked
-        → OnOk result (slice_index_or taking.new.checked.items sector false ≡ true) }
+        requires fits { CanTakeWords sectors.old taking.old.words taking.old.checked buffer.old }
+        ensures reads { OnlyReadsSectors F.tells F.read_faults sectors.old sectors.new result }
+        ensures takes { TakesSectorWords F.tells sector validation sectors.old taking.old.words
+            taking.new.words taking.old.checked taking.new.checked result }
     ensures once { vec_len taking.old.words ≡ vec_len taking.old.checked
         → slice_index_or taking.old.checked.items sector false ≡ true
         → IsOk result × (taking.new ≡ taking.old) × (sectors.new ≡ sectors.old) }
-    ensures there { AreThere sectors.old taking.old.checked.items
-        → OnOk result ((has_sector sectors.old sector ≡ true)
-        × AreThere sectors.old taking.new.checked.items) }
-    ensures words { IsTrue F.tells → OnOk result (taking.new.words.items
-        ≡ taking.old.words.items ++ take (vec_len taking.old.checked
-        - vec_len taking.old.words) (sector_words sectors.old.version sectors.old.bytes sector)) }
-    ensures padding { IsTrue F.tells → ArePadding validation sectors.old taking.old.checked.items
-        → OnOk result ((list_all (is_padding_in validation) (drop (vec_len taking.old.checked
-        - vec_len taking.old.words) (sector_words sectors.old.version sectors.old.bytes sector))
-        ≡ true) × ArePadding validation sectors.old taking.new.checked.items) }
     ensures err { IfErr result (PartRefused F.tells F.read_faults (has_sector sectors.old sector
         ≡ true → list_all (is_padding_in validation) (drop (vec_len taking.old.checked
         - vec_len taking.old.words) (sector_words sectors.old.version sectors.old.bytes sector))
         ≡ true → ⊥)) }
-    ensures same { IsTrue F.tells → OnOk result (sectors.new ≡ sectors.old) }
-    ensures bytes { IsTrue F.tells → sectors.new.bytes ≡ sectors.old.bytes }
-    ensures counts { IsTrue F.tells
-        → CountsFailure F.read_faults result sectors.old.failures sectors.new.failures }
 {
     let _fact = sectors.num_sectors();
     let room = taking.checked.len() - taking.words.len();
@@ -138,21 +116,12 @@ fn keep_words<F: ReadMedium, A: Heap>(
     validation: Validation,
 ) -> Result<(), Error>
     requires { length buffer.old ≡ words_per_sector sectors.old.version }
-    ensures kept { sectors.new
-        ≡ record sectors.old { bytes = sectors.new.bytes; failures = sectors.new.failures } }
-    ensures few { OnOk result (vec_len words.new ≤ vec_len words.old + room) }
-    ensures there { OnOk result (has_sector sectors.old sector ≡ true) }
-    ensures words { IsTrue F.tells → OnOk result (words.new.items ≡ words.old.items
-        ++ take room (sector_words sectors.old.version sectors.old.bytes sector)) }
-    ensures padding { IsTrue F.tells → OnOk result (list_all (is_padding_in validation)
-        (drop room (sector_words sectors.old.version sectors.old.bytes sector)) ≡ true) }
+        ensures reads { OnlyReadsSectors F.tells F.read_faults sectors.old sectors.new result }
+        ensures keeps { KeepsSectorWords F.tells sector room validation sectors.old words.old
+            words.new result }
     ensures err { IfErr result (PartRefused F.tells F.read_faults (has_sector sectors.old sector
         ≡ true → list_all (is_padding_in validation)
         (drop room (sector_words sectors.old.version sectors.old.bytes sector)) ≡ true → ⊥)) }
-    ensures same { IsTrue F.tells → OnOk result (sectors.new ≡ sectors.old) }
-    ensures bytes { IsTrue F.tells → sectors.new.bytes ≡ sectors.old.bytes }
-    ensures counts { IsTrue F.tells
-        → CountsFailure F.read_faults result sectors.old.failures sectors.new.failures }
 {
     sectors.read_words(sector, buffer)?;
     let (first, padding) = buffer.split_at(room.min(buffer.len()));
@@ -173,18 +142,13 @@ fn check_padding<F: ReadMedium>(
     validation: Validation,
 ) -> Result<(), Error>
     requires { length buffer.old ≡ words_per_sector sectors.old.version }
-    ensures kept { sectors.new
-        ≡ record sectors.old { bytes = sectors.new.bytes; failures = sectors.new.failures } }
+        ensures reads { OnlyReadsSectors F.tells F.read_faults sectors.old sectors.new result }
     ensures there { OnOk result (has_sector sectors.old sector ≡ true) }
     ensures padding { IsTrue F.tells → OnOk result (list_all (is_padding_in validation)
         (sector_words sectors.old.version sectors.old.bytes sector) ≡ true) }
     ensures err { IfErr result (PartRefused F.tells F.read_faults (has_sector sectors.old sector
         ≡ true → list_all (is_padding_in validation)
         (sector_words sectors.old.version sectors.old.bytes sector) ≡ true → ⊥)) }
-    ensures same { IsTrue F.tells → OnOk result (sectors.new ≡ sectors.old) }
-    ensures bytes { IsTrue F.tells → sectors.new.bytes ≡ sectors.old.bytes }
-    ensures counts { IsTrue F.tells
-        → CountsFailure F.read_faults result sectors.old.failures sectors.new.failures }
 {
     sectors.read_words(sector, buffer)?;
     if !are_padding(buffer, validation) {
@@ -212,8 +176,7 @@ fn read_words<F: ReadMedium, A: Heap + Clone>(
     fat_sectors: &[u32],
     validation: Validation,
 ) -> Result<Vec<u32, A>, Error>
-    ensures kept { sectors.new
-        ≡ record sectors.old { bytes = sectors.new.bytes; failures = sectors.new.failures } }
+        ensures reads { OnlyReadsSectors F.tells F.read_faults sectors.old sectors.new result }
     ensures few { IfOk result (λ words. vec_len words ≤ sectors.old.num_sectors) }
     ensures ok { IsTrue F.tells
         → IsMeasured sectors.old → IfOk result (λ words. AcceptsFatWords validation
@@ -221,10 +184,6 @@ fn read_words<F: ReadMedium, A: Heap + Clone>(
     ensures err { IfErr result (PartRefused F.tells F.read_faults (IsMeasured sectors.old
         → AcceptsNoFatWords
         validation sectors.old.num_sectors sectors.old.version sectors.old.bytes fat_sectors.now)) }
-    ensures same { IsTrue F.tells → OnOk result (sectors.new ≡ sectors.old) }
-    ensures bytes { IsTrue F.tells → sectors.new.bytes ≡ sectors.old.bytes }
-    ensures counts { IsTrue F.tells
-        → CountsFailure F.read_faults result sectors.old.failures sectors.new.failures }
 {
     let mut buffer = [0; 1024];
     let buffer = &mut buffer[..sectors.version().words_per_sector()];

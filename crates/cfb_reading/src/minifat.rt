@@ -1,5 +1,6 @@
 //! The words of the MiniFAT, out of its sectors (MS-CFB 2.4).
 ghost use Rattle.std.specs.Prelude.{◌≡◌, ◌++◌, ℕ, ◌+◌, ◌*◌, ◌/◌, ◌%◌, ◌≤◌, List, length, true, IsTrue, IfOk, IfErr, OnOk, vec_len};
+ghost use Rattle.cfb_alloc.specs.Reading.{OnlyReadsFile};
 ghost use Rattle.cfb_format.specs.Bytes.{is_whole_sector, sector_len, sector_words, words, words_per_sector};
 ghost use Rattle.cfb_format.specs.Chain.{IsChain};
 ghost use Rattle.cfb_format.specs.Refused.{CountsFailure, IsMemory};
@@ -23,12 +24,7 @@ pub fn read_minifat_words<F: ReadMedium, A: Heap + Clone>(
     allocator: &mut Allocator<F, A>,
     start: u32,
 ) -> Result<Vec<u32, A>, Error>
-    ensures tables { allocator.new.tables ≡ allocator.old.tables }
-    ensures kept { allocator.new.file
-        ≡ record allocator.old.file {
-          bytes = allocator.new.file.bytes;
-          failures = allocator.new.file.failures;
-        } }
+        ensures reads { OnlyReadsFile F.tells F.read_faults allocator.old allocator.new result }
     ensures read { IsTrue F.tells → IsMeasured allocator.old.file
         → IfOk result (λ words. (sectors : List ℕ) → IsChain allocator.old.tables.fat start sectors
         → HasMinifatWords allocator.old.tables.version
@@ -39,10 +35,6 @@ pub fn read_minifat_words<F: ReadMedium, A: Heap + Clone>(
     ensures err { IfErr result (ChangeRefused (IsTrue F.tells
         → IsMeasured allocator.old.file → NoMinifatWords allocator.old.tables.version
         allocator.old.file.bytes allocator.old.tables.fat start) Unit ⊥ Unit) }
-    ensures same { IsTrue F.tells → OnOk result (allocator.new ≡ allocator.old) }
-    ensures bytes { IsTrue F.tells → allocator.new.file.bytes ≡ allocator.old.file.bytes }
-    ensures counts { IsTrue F.tells → CountsFailure
-        F.read_faults result allocator.old.file.failures allocator.new.file.failures }
 {
     let sectors = allocator.chain(start)?;
     let mut words = Vec::new(heap.clone()?);
@@ -58,12 +50,7 @@ pub(crate) fn read_words<F: ReadMedium, A: Heap>(
     sector: u32,
     into: &mut Vec<u32, A>,
 ) -> Result<(), Error>
-    ensures tables { allocator.new.tables ≡ allocator.old.tables }
-    ensures kept { allocator.new.file
-        ≡ record allocator.old.file {
-          bytes = allocator.new.file.bytes;
-          failures = allocator.new.file.failures;
-        } }
+        ensures reads { OnlyReadsFile F.tells F.read_faults allocator.old allocator.new result }
     ensures whole { IsTrue F.tells → IsMeasured allocator.old.file
         → OnOk result (is_whole_sector allocator.old.tables.version allocator.old.file.bytes sector
         ≡ true) }
@@ -74,10 +61,6 @@ pub(crate) fn read_words<F: ReadMedium, A: Heap>(
     ensures err { IfErr result (ChangeRefused (IsTrue F.tells → IsMeasured allocator.old.file
         → is_whole_sector allocator.old.tables.version allocator.old.file.bytes sector ≡ true
         → ⊥) Unit ⊥ Unit) }
-    ensures same { IsTrue F.tells → OnOk result (allocator.new ≡ allocator.old) }
-    ensures bytes { IsTrue F.tells → allocator.new.file.bytes ≡ allocator.old.file.bytes }
-    ensures counts { IsTrue F.tells → CountsFailure
-        F.read_faults result allocator.old.file.failures allocator.new.file.failures }
 {
     let mut buffer = [0; MAX_SECTOR_LEN];
     let bytes = &mut buffer[..allocator.sector_len()];

@@ -1,5 +1,6 @@
 //! The words of the FAT as they stand in a file, read again (MS-CFB 2.3).
 ghost use Rattle.std.specs.Prelude.{◌≡◌, [], take, true, IsTrue, IfErr, IfOk, OnOk};
+ghost use Rattle.cfb_alloc.specs.Reading.{OnlyReadsFile};
 ghost use Rattle.std.specs.List.{list_all};
 ghost use Rattle.cfb_format.specs.Bytes.{is_whole_sector};
 ghost use Rattle.cfb_format.specs.Fat.{fat_words};
@@ -22,20 +23,11 @@ pub fn read_raw_fat<F: ReadMedium, A: Heap + Clone>(
     heap: &A,
     allocator: &mut Allocator<F, A>,
 ) -> Result<Vec<u32, A>, Error>
-    ensures tables { allocator.new.tables ≡ allocator.old.tables }
-    ensures kept { allocator.new.file
-        ≡ record allocator.old.file {
-          bytes = allocator.new.file.bytes;
-          failures = allocator.new.file.failures;
-        } }
+        ensures reads { OnlyReadsFile F.tells F.read_faults allocator.old allocator.new result }
     ensures ok { IsTrue F.tells
         → IfOk result (λ words. words.items ≡ raw_words allocator.old) }
     ensures err { IfErr result (ChangeRefused (IsTrue F.tells → HasFatSectors allocator.old
         → ⊥) Unit ⊥ Unit) }
-    ensures same { IsTrue F.tells → OnOk result (allocator.new ≡ allocator.old) }
-    ensures bytes { IsTrue F.tells → allocator.new.file.bytes ≡ allocator.old.file.bytes }
-    ensures counts { IsTrue F.tells → CountsFailure
-        F.read_faults result allocator.old.file.failures allocator.new.file.failures }
 {
     let count = allocator.fat().len();
     let mut sectors = Vec::new(heap.clone()?);
@@ -55,21 +47,12 @@ fn read_first<F: ReadMedium, A: Heap>(
     words: &mut Vec<u32, A>,
 ) -> Result<(), Error>
     requires { words.old.items ≡ [] }
-    ensures tables { allocator.new.tables ≡ allocator.old.tables }
-    ensures kept { allocator.new.file
-        ≡ record allocator.old.file {
-          bytes = allocator.new.file.bytes;
-          failures = allocator.new.file.failures;
-        } }
+        ensures reads { OnlyReadsFile F.tells F.read_faults allocator.old allocator.new result }
     ensures ok { IsTrue F.tells → OnOk result (take count words.new.items ≡ take count
         (fat_words allocator.old.tables.version allocator.old.file.bytes sectors.now)) }
     ensures err { IfErr result (ChangeRefused (IsTrue F.tells → IsMeasured allocator.old.file
         → list_all (is_whole_sector allocator.old.tables.version allocator.old.file.bytes)
         sectors.now ≡ true → ⊥) Unit ⊥ Unit) }
-    ensures same { IsTrue F.tells → OnOk result (allocator.new ≡ allocator.old) }
-    ensures bytes { IsTrue F.tells → allocator.new.file.bytes ≡ allocator.old.file.bytes }
-    ensures counts { IsTrue F.tells → CountsFailure
-        F.read_faults result allocator.old.file.failures allocator.new.file.failures }
 {
     for sector in sectors {
         if words.len() >= count {

@@ -1,5 +1,6 @@
 //! The entries of the directory, out of the slots of its sectors (MS-CFB 2.6).
 ghost use Rattle.std.specs.Prelude.{◌≡◌, ℕ, ◌+◌, ◌*◌, ◌≤◌, List, length, true, IsTrue, IfOk, IfErr, OnOk, vec_len};
+ghost use Rattle.cfb_alloc.specs.Reading.{OnlyReadsFile};
 ghost use Rattle.std.specs.List.{AllZip};
 ghost use Rattle.cfb_format.specs.Bytes.{entries_per_sector, is_whole_sector, sector_len};
 ghost use Rattle.cfb_format.specs.Chain.{IsChain};
@@ -37,12 +38,7 @@ pub fn read_entries<F: ReadMedium, A: Heap + Clone>(
     start: u32,
     validation: Validation,
 ) -> Result<Vec<DirEntry<A>, A>, Error>
-    ensures tables { allocator.new.tables ≡ allocator.old.tables }
-    ensures kept { allocator.new.file
-        ≡ record allocator.old.file {
-          bytes = allocator.new.file.bytes;
-          failures = allocator.new.file.failures;
-        } }
+        ensures reads { OnlyReadsFile F.tells F.read_faults allocator.old allocator.new result }
     ensures accepted { IsTrue F.tells → IsMeasured allocator.old.file → IfOk result (λ entries.
         (sectors : List ℕ) → IsChain allocator.old.tables.fat start sectors
         → AcceptsDirectory validation allocator.old.tables.version allocator.old.file.bytes
@@ -56,10 +52,6 @@ pub fn read_entries<F: ReadMedium, A: Heap + Clone>(
     ensures err { IfErr result (ChangeRefused (IsTrue F.tells
         → IsMeasured allocator.old.file → NoDirectory validation allocator.old.tables.version
         allocator.old.file.bytes allocator.old.tables.fat start) Unit ⊥ Unit) }
-    ensures same { IsTrue F.tells → OnOk result (allocator.new ≡ allocator.old) }
-    ensures bytes { IsTrue F.tells → allocator.new.file.bytes ≡ allocator.old.file.bytes }
-    ensures counts { IsTrue F.tells → CountsFailure
-        F.read_faults result allocator.old.file.failures allocator.new.file.failures }
 {
     let sectors = directory_sectors(allocator, start)?;
     let mut entries = Vec::new(heap.clone()?);
@@ -108,12 +100,7 @@ fn read_slots<F: ReadMedium, A: Heap + Clone>(
     validation: Validation,
     entries: &mut Vec<DirEntry<A>, A>,
 ) -> Result<(), Error>
-    ensures tables { allocator.new.tables ≡ allocator.old.tables }
-    ensures kept { allocator.new.file
-        ≡ record allocator.old.file {
-          bytes = allocator.new.file.bytes;
-          failures = allocator.new.file.failures;
-        } }
+        ensures reads { OnlyReadsFile F.tells F.read_faults allocator.old allocator.new result }
     ensures whole { IsTrue F.tells → IsMeasured allocator.old.file
         → OnOk result (is_whole_sector allocator.old.tables.version allocator.old.file.bytes sector
         ≡ true) }
@@ -127,10 +114,6 @@ fn read_slots<F: ReadMedium, A: Heap + Clone>(
         → (more : List Entry) → AllZip (AcceptsEntry validation allocator.old.tables.version)
         (slots_of_sector allocator.old.tables.version allocator.old.file.bytes sector) more
         → ⊥) Unit ⊥ Unit) }
-    ensures same { IsTrue F.tells → OnOk result (allocator.new ≡ allocator.old) }
-    ensures bytes { IsTrue F.tells → allocator.new.file.bytes ≡ allocator.old.file.bytes }
-    ensures counts { IsTrue F.tells → CountsFailure
-        F.read_faults result allocator.old.file.failures allocator.new.file.failures }
 {
     let version = allocator.version();
     let mut buffer = [0; MAX_SECTOR_LEN];

@@ -1,5 +1,6 @@
 //! Sectors that are read whole, by one call of the medium each (MS-CFB 2.1).
 ghost use Rattle.std.specs.Prelude.{◌≡◌, ◌+◌, ◌<◌, ◌≤◌, length, IsTrue, IfErr, OnOk};
+ghost use Rattle.cfb_alloc.specs.Reading.{OnlyReadsFile};
 ghost use Rattle.cfb_format.specs.Bytes.{sector_bytes, sector_len, sector_start};
 ghost use Rattle.cfb_format.specs.Refused.{CountsFailure, IsInvalidData};
 ghost use Rattle.cfb_reading.specs.cfb_tables.Refused.{ChangeRefused};
@@ -19,12 +20,7 @@ pub(crate) fn read_whole<F: ReadMedium, A: Heap>(
     into: &mut [u8],
 ) -> Result<(), Error>
     requires { length into.old ≡ sector_len allocator.old.tables.version }
-    ensures tables { allocator.new.tables ≡ allocator.old.tables }
-    ensures kept { allocator.new.file
-        ≡ record allocator.old.file {
-          bytes = allocator.new.file.bytes;
-          failures = allocator.new.file.failures;
-        } }
+        ensures reads { OnlyReadsFile F.tells F.read_faults allocator.old allocator.new result }
     ensures there { OnOk result (sector_start allocator.old.tables.version sector
         + sector_len allocator.old.tables.version ≤ allocator.old.file.len) }
     ensures ok { IsTrue F.tells → OnOk result (into.new
@@ -33,10 +29,6 @@ pub(crate) fn read_whole<F: ReadMedium, A: Heap>(
     ensures err { IfErr result (ChangeRefused (allocator.old.file.len
         < sector_start allocator.old.tables.version sector
         + sector_len allocator.old.tables.version) ⊥ ⊥ Unit) }
-    ensures same { IsTrue F.tells → OnOk result (allocator.new ≡ allocator.old) }
-    ensures bytes { IsTrue F.tells → allocator.new.file.bytes ≡ allocator.old.file.bytes }
-    ensures counts { IsTrue F.tells → CountsFailure
-        F.read_faults result allocator.old.file.failures allocator.new.file.failures }
 {
     let file_len = allocator.file_len();
     let count = allocator.read_contiguous(sector, 0, into)?;

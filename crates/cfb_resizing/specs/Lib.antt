@@ -10,3 +10,4 @@ pub use Rattle.cfb_content.specs.cfb_mini_sectors
 pub use Rattle.cfb_content.specs.cfb_mini
 pub use Rattle.cfb_content.specs.cfb_rules
 pub mod Turning
+pub mod Carrying

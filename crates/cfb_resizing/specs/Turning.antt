@@ -1,20 +1,20 @@
 -- What becomes of a stream's content that gets another length, before its entry says so, and what every such change leaves alone (MS-CFB 2.3,
 -- 2.4 and 2.6.3).
-use Rattle.std.specs.Prelude.{ℕ, ◌≡◌, ◌+◌, ◌/◌, ◌<◌, ◌≤◌, ◌⊎◌, List, [], ◌++◌, true, false, length, max, take, drop, slice_index, Contains}
+use Rattle.std.specs.Prelude.{ℕ, ◌≡◌, ◌+◌, ◌/◌, ◌<◌, ◌≤◌, ◌⊎◌, List, [], ◌++◌, true, false, length, max, take, drop, slice_index, Contains, Bool, IfOk, IsTrue, OnOk, Result, IfErr, OnErr, ◌≢◌}
 use Rattle.cfb_format.specs.declared.error.Error.{Error}
 use Rattle.cfb_format.specs.declared.validate.Validation.{Validation}
-use Rattle.cfb_format.specs.Bytes.{end_of_chain, sector_len}
+use Rattle.cfb_format.specs.Bytes.{end_of_chain, sector_len, max_stream_len}
 use Rattle.cfb_format.specs.Chain.{IsChain}
 use Rattle.cfb_format.specs.Content.{is_large, mini_sector_len, mini_stream_cutoff}
 use Rattle.cfb_format.specs.Full.{IsFullOfMiniSectors, free_count, rounded_up}
-use Rattle.cfb_format.specs.Refused.{HasReason, at_every_error}
+use Rattle.cfb_format.specs.Refused.{HasReason, at_every_error, CountsFailure, AfterMedium}
 use Rattle.cfb_format.specs.Siblings.{entry_at}
 use Rattle.cfb_resizing.specs.cfb_rules.StreamCalls.{resized}
 use Rattle.cfb_tables.specs.Changes.{AreDisjoint, NoneFree}
 use Rattle.cfb_tables.specs.Listed.{ends_of, gained}
 use Rattle.cfb_tables.specs.Clean.{IsUnnamed}
 use Rattle.cfb_tables.specs.Tables.{AreExactTables, AreFullTables, first_or_end}
-use Rattle.cfb_resizing.specs.cfb_alloc.Frame.{table_sectors}
+use Rattle.cfb_resizing.specs.cfb_alloc.Frame.{table_sectors, Spares}
 use Rattle.cfb_resizing.specs.cfb_alloc.ListedChain.{Lengthens, Shortens}
 use Rattle.cfb_resizing.specs.cfb_chains.ChainPlaces.{place_along}
 use Rattle.cfb_resizing.specs.cfb_mini_table.MiniTable.{MiniGivesBack, TakesMini}
@@ -22,8 +22,13 @@ use Rattle.cfb_resizing.specs.cfb_mini_sectors.Pieces.{AreZeros}
 use Rattle.cfb_resizing.specs.cfb_mini_sectors.State.{HoldsMini, IsChangeable, MiniState, bytes_of, content_of, entries_of, mini_place, parts_of, table_of, tables_in, version_of}
 use Rattle.cfb_resizing.specs.cfb_mini_sectors.Steps.{AreStartsUnnamed, GrowsFor, IsInMiniStream, IsSnugMini, IsZeroMini, KeepsLimits, KeepsMini, KeepsSystem, MovesRoot, SettlesRoom, system_sectors}
 use Rattle.cfb_resizing.specs.cfb_mini.MiniSectors.{IsStill}
-use Rattle.cfb_content.specs.Changed.{StaysTidy}
-use Rattle.cfb_content.specs.Contents.{ErasesMinis, IsTooLongFor, WipesMinis, len_of, mini_place_along, mini_sectors_owned, sector_of_mini, sectors_owned}
+use Rattle.cfb_content.specs.Changed.{StaysTidy, SparesOthers, MovesAlone, WasChanged}
+use Rattle.cfb_content.specs.Contents.{ErasesMinis, IsTooLongFor, WipesMinis, len_of, mini_place_along, mini_sectors_owned, sector_of_mini, sectors_owned, IsNotChangeable, MovesContent}
+use Rattle.cfb_format.specs.declared.medium.MediumFault.{MediumFault}
+use Rattle.cfb_tables.specs.Refused.{ChangeRefused}
+use Rattle.cfb_content.specs.Laws.{LacksNumbersFor}
+use Rattle.cfb_sectors.specs.Sectors.{IsRaised, IsMediumError}
+use Rattle.cfb_resizing.specs.cfb_directory.Steps.{KeepsOtherSectors, KeepsWholeHeader}
 
 -- ---- bytes and zeros
 
@@ -294,3 +299,104 @@ StopsOrIsFull old new = HasReason (record (at_every_error (new ≡ old)) {
   invalid_data = (new ≡ old) ⊎ ((table_of new).file.begun ≡ true);
   full = ((new ≡ old) ⊎ ((table_of new).file.begun ≡ true)) × (IsFullOfMiniSectors (parts_of new) ⊎ AreFullTables (tables_in new));
 })
+
+-- a content was given other sectors for another length, and no other content was changed
+pub record TurnsContent (tells : Bool) (can_give : MediumFault → Bool) (entry size : ℕ) (old new : MiniState) (result : Result ℕ Error) : Type 0 where
+  pub turned : IsTrue tells → IfOk result (λ start. TurnsSoundly old new entry size start)
+  pub spares : IsTrue tells → SparesOthers old new entry
+  pub around : KeepsAround old new
+  pub tight : OnOk result (KeepsTablesTight old new)
+  pub counts : IsTrue tells → CountsFailure can_give result (table_of old).file.failures (table_of new).file.failures
+
+-- it is refused where there are too few numbers, for memory, by the medium, or where the file can't be changed; then no change was begun or one was
+pub record TurningRefused {T : Type 0} (entry size : ℕ) (old new : MiniState) (result : Result T Error) : Type 0 where
+  pub enough : OnOk result (LacksNumbersFor old entry size → ⊥)
+  pub refused : IfErr result (StopsOrBegun old new)
+  pub err : IfErr result (ChangeRefused (IsNotChangeable old) Unit (LacksNumbersFor old entry size) Unit)
+
+-- it is refused where there are too few numbers, for memory, by the medium, or where the file can't be changed; then no change was begun or one was
+pub record MovingRefused {T : Type 0} (tells : Bool) (entry size : ℕ) (old new : MiniState) (result : Result T Error) : Type 0 where
+  pub enough : OnOk result (LacksNumbersFor old entry size → ⊥)
+  pub refused : IsTrue tells → IfErr result (StopsOrBegun old new)
+  pub still : OnErr result (IsStill old new ⊎ ((table_of new).file.begun ≡ true))
+  pub err : IfErr result (ChangeRefused (IsTrue tells → IsNotChangeable old) Unit (LacksNumbersFor old entry size) Unit)
+
+-- it is refused where there are too few numbers, for memory, by the medium, or where the file can't be changed; then no change was begun or one was
+pub record CuttingRefused {T : Type 0} (entry size : ℕ) (old new : MiniState) (result : Result T Error) : Type 0 where
+  pub enough : (validation : Validation) → HoldsMini validation old → OnOk result (LacksNumbersFor old entry size → ⊥)
+  pub refused : IfErr result (StopsOrBegun old new)
+  pub err : IfErr result (ChangeRefused (IsNotChangeable old) Unit (LacksNumbersFor old entry size) Unit)
+
+-- it is refused where there are too few numbers, for memory, by the medium, or where the file can't be changed; then no change was begun or one was
+pub record TurnRefused {T : Type 0} (tells : Bool) (entry size : ℕ) (old new : MiniState) (result : Result T Error) : Type 0 where
+  pub enough : (validation : Validation) → HoldsMini validation old → OnOk result (LacksNumbersFor old entry size → ⊥)
+  pub refused : IsTrue tells → IfErr result (StopsOrBegun old new)
+  pub still : OnErr result (IsStill old new ⊎ ((table_of new).file.begun ≡ true))
+  pub err : IfErr result (ChangeRefused (IsTrue tells → IsNotChangeable old) Unit (LacksNumbersFor old entry size) Unit)
+
+-- no sector is taken; done, the chain is as long as the content needs, and refused by memory nothing has changed
+pub record CutsInMinis (size : ℕ) (old new : MiniState) (result : Result ℕ Error) : Type 0 where
+  pub empty : size ≡ 0 → IfOk result (λ start. start ≡ end_of_chain)
+  pub first : IfErr result (AfterMedium Unit (new ≡ old))
+  pub takes_none : length (tables_in new).fat ≡ length (tables_in old).fat
+  pub few : IfOk result (λ start. (list : List ℕ) → IsChain new.minifat start list → length list ≡ rounded_up size mini_sector_len)
+
+-- to no length: no sector is taken, and refused by memory nothing has changed
+pub record EmptiesAtOnce (tells : Bool) (size : ℕ) (old new : MiniState) (result : Result ℕ Error) : Type 0 where
+  pub empty : size ≡ 0 → IfOk result (λ start. start ≡ end_of_chain)
+  pub first : IsTrue tells → size ≡ 0 → IfErr result (AfterMedium Unit (new ≡ old))
+  pub takes_none : size ≡ 0 → length (tables_in new).fat ≡ length (tables_in old).fat
+
+-- to no length: no sector is taken, and refused by memory nothing has changed
+pub record EmptiesFirst {T : Type 0} (tells : Bool) (size : ℕ) (old new : MiniState) (result : Result T Error) : Type 0 where
+  pub first : IsTrue tells → size ≡ 0 → IfErr result (AfterMedium Unit (new ≡ old))
+  pub takes_none : size ≡ 0 → length (tables_in new).fat ≡ length (tables_in old).fat
+
+-- done, the content has this length, and its chain is as long as that needs; for its own length nothing changes
+pub record HasSize {T : Type 0} (tells : Bool) (entry size : ℕ) (old new : MiniState) (result : Result T Error) : Type 0 where
+  pub len : OnOk result (len_of new entry ≡ size)
+  pub none : size ≡ len_of old entry → OnErr result ⊥ × (new ≡ old)
+  pub content : IsTrue tells → OnOk result (ResizesContent old new entry size)
+  pub trimmed : OnOk result (TrimsChain old new entry size (entry_at (entries_of new) entry).start_sector)
+  pub begun : OnOk result (IsRaised (size ≢ len_of old entry) (table_of old).file (table_of new).file)
+
+-- it is refused where there are too few numbers, for memory, by the medium, or where the file can't be changed; then no change was begun or one was
+pub record ResizingRefused {T : Type 0} (tells : Bool) (entry size : ℕ) (old new : MiniState) (result : Result T Error) : Type 0 where
+  pub enough : size ≢ len_of old entry → (validation : Validation) → HoldsMini validation old → OnOk result (IsTooLongFor old entry size → ⊥)
+  pub refused : IsTrue tells → IfErr result (StopsOrBegun old new)
+  pub err : IfErr result (ChangeRefused (IsTrue tells → IsNotChangeable old) Unit ((validation : Validation) → HoldsMini validation old → IsTooLongFor old entry size) Unit)
+
+-- done, the entry names the content's first sector and length; the root, the system and the limits stay
+pub record NamesContent {T : Type 0} (entry start size : ℕ) (old new : MiniState) (result : Result T Error) : Type 0 where
+  pub named : OnOk result (entry_at (entries_of new) entry ≡ record (entry_at (entries_of old) entry) { start_sector = start; stream_len = size; })
+  pub entries : MovesContent old new entry
+  pub root : entry_at (entries_of new) 0 ≡ entry_at (entries_of old) 0
+  pub system : KeepsSystem old new
+  pub mini : KeepsMini old new
+  pub limits : KeepsLimits old new
+
+-- over a medium that tells its bytes: the mini streams hold still, other sectors and the header stay; a change was begun, and only the medium refuses it
+pub record HoldsNamedContent {T : Type 0} (tells : Bool) (can_write : MediumFault → Bool) (size : ℕ) (old new : MiniState) (result : Result T Error) : Type 0 where
+  pub holds : IsTrue tells → (validation : Validation) → HoldsMini validation old → size ≤ max_stream_len (version_of old) → OnOk result (HoldsMini validation new)
+  pub spares : IsTrue tells → Spares old.directory.sectors (table_of old) (table_of new)
+  pub header : IsTrue tells → KeepsWholeHeader old.directory new.directory
+  pub others : IsTrue tells → KeepsOtherSectors old.directory new.directory
+  pub begun : (table_of new).file.begun ≡ true
+  pub err : IfErr result IsMediumError
+  pub counts : IsTrue tells → CountsFailure can_write result (table_of old).file.failures (table_of new).file.failures
+
+-- the content of one stream was changed, and that of no other; where this was refused before anything was written all is as it was
+pub record ChangesContent {T : Type 0} (tells : Bool) (can_give : MediumFault → Bool) (entry : ℕ) (old new : MiniState) (result : Result T Error) : Type 0 where
+  pub moves : MovesAlone old new entry
+  pub spares : IsTrue tells → SparesOthers old new entry
+  pub changed : IsTrue tells → OnOk result (WasChanged old new entry)
+  pub tight : OnOk result (KeepsTablesTight old new)
+  pub still : OnErr result (IsStill old new ⊎ ((table_of new).file.begun ≡ true))
+  pub counts : IsTrue tells → CountsFailure can_give result (table_of old).file.failures (table_of new).file.failures
+
+-- sectors were filled for a content, and no other content was changed
+pub record ExtendsContent {T : Type 0} (tells : Bool) (can_give : MediumFault → Bool) (entry : ℕ) (old new : MiniState) (result : Result T Error) : Type 0 where
+  pub spares : IsTrue tells → SparesOthers old new entry
+  pub around : KeepsAround old new
+  pub tight : OnOk result (KeepsTablesTight old new)
+  pub counts : IsTrue tells → CountsFailure can_give result (table_of old).file.failures (table_of new).file.failures

@@ -1,5 +1,8 @@
 //! Contents that get longer or shorter where they lie (MS-CFB 2.3 and 2.4): the chain, and the zeros behind its old end.
 ghost use Rattle.std.specs.Prelude.{◌≡◌, ◌<◌, ◌≤◌, ◌-◌, ◌++◌, ◌||◌, ◌↔◌, ℕ, List, length, slice_index, false, true, Contains, IsTrue, IfOk, IfErr, OnOk};
+ghost use Rattle.cfb_resizing.specs.Carrying.{LengthensMinis, HoldsLengthened, KeepsAllAround};
+ghost use Rattle.cfb_content.specs.Turning.{IsStreamWithin};
+ghost use Rattle.cfb_content.specs.Growing.{ListGrows, HoldsWhole, SparesAlong, GrowingRefused};
 ghost use Rattle.cfb_format.specs.declared.validate.Validation.{Validation};
 ghost use Rattle.cfb_format.specs.Bytes.{end_of_chain, max_stream_len, sector_len};
 ghost use Rattle.cfb_format.specs.Chain.{IsChain};
@@ -21,7 +24,7 @@ ghost use Rattle.cfb_content.specs.Changed.{SparesOthers};
 ghost use Rattle.cfb_content.specs.Contents.{IsNotChangeable, IsStreamOf, len_of, mini_place_along};
 ghost use Rattle.cfb_content.specs.Laws.{LacksNumbersFor};
 ghost use Rattle.cfb_content.specs.Parts.{IsThereInMinis, IsThereInSectors};
-ghost use Rattle.cfb_resizing.specs.Turning.{IsPaddedAlong, KeepsAround, KeepsTablesTight, StopsOrBegun, TurnsSoundly};
+ghost use Rattle.cfb_resizing.specs.Turning.{IsPaddedAlong, KeepsAround, KeepsTablesTight, StopsOrBegun, TurnsSoundly, TurnsContent, TurningRefused, CuttingRefused, CutsInMinis};
 
 use cfb_content::in_minis::{whole_mini_chain, zero_in_minis};
 use cfb_content::in_sectors::zero_in_sectors;
@@ -47,10 +50,9 @@ fn lengthen_in_sectors<F: Medium, A: Heap + Clone>(
     size: u64,
 ) -> Result<(), Error>
     requires chain { IsChain allocator.old.tables.fat (first_or_end ids.old.items) ids.old.items }
-    ensures chain { IsChain allocator.new.tables.fat (first_or_end ids.new.items) ids.new.items }
-    ensures lengthened { OnOk result (Lengthens
-        (rounded_up size (sector_len allocator.old.tables.version) - length ids.old.items)
-        ids.old.items ids.new.items allocator.old.tables allocator.new.tables) }
+        ensures longer { ListGrows
+            (rounded_up size (sector_len allocator.old.tables.version) - length ids.old.items)
+            allocator.old allocator.new ids.old.items ids.new.items result }
     ensures padded { IsTrue F.tells
         → (validation : Validation) → HoldsTables validation allocator.old → ((k : ℕ) → k < len
         → IsThereInSectors allocator.old.tables.version ids.old.items allocator.old.file.len k)
@@ -58,31 +60,12 @@ fn lengthen_in_sectors<F: Medium, A: Heap + Clone>(
         (place_along allocator.old.tables.version ids.old.items)
         (place_along allocator.old.tables.version ids.new.items)
         allocator.old.file.bytes allocator.new.file.bytes) }
-    ensures holds { IsTrue F.tells
-        → (validation : Validation) → HoldsTables validation allocator.old
-        → OnOk result (HoldsTables validation allocator.new) }
-    ensures whole { IsTrue F.tells
-        → (validation : Validation) → HoldsTables validation allocator.old
-        → IsOfWholeSectors allocator.old → OnOk result (IsOfWholeSectors allocator.new) }
-    ensures sizes { OnOk result
-        (AreSizes allocator.new.tables.version (sizes_of allocator.new.tables)) }
-    ensures spares { IsTrue F.tells → Spares ids.old.items allocator.old allocator.new }
-    ensures header { IsTrue F.tells → (i : ℕ) → i < length allocator.old.file.bytes
-        → IsOtherHeaderByte allocator.old.tables.version i
-        → slice_index allocator.new.file.bytes i ≡ slice_index allocator.old.file.bytes i }
-    ensures version { allocator.new.tables.version ≡ allocator.old.tables.version }
-    ensures limit { allocator.new.tables.max_sectors ≡ allocator.old.tables.max_sectors }
-    ensures enough { OnOk result (IsTooFew allocator.old.tables
-        (rounded_up size (sector_len allocator.old.tables.version) - length ids.old.items) → ⊥) }
-    ensures refused { IfErr result
-        (AfterMedium (allocator.new.file.begun ≡ true) (allocator.new ≡ allocator.old)) }
-    ensures unwritten { IsTrue F.tells → allocator.new.file.begun ≡ false
-        → allocator.new.file.bytes ≡ allocator.old.file.bytes }
-    ensures err { IfErr result (ChangeRefused (IsUsable allocator.old.tables → ⊥) Unit
-        (IsTooFew allocator.old.tables
-        (rounded_up size (sector_len allocator.old.tables.version) - length ids.old.items)) Unit) }
-    ensures counts { IsTrue F.tells → CountsFailure F.write_faults result
-        allocator.old.file.failures allocator.new.file.failures }
+        ensures holds { HoldsWhole F.tells allocator.old allocator.new result }
+        ensures spares { SparesAlong F.tells F.write_faults allocator.old allocator.new
+            ids.old.items result }
+        ensures refused { GrowingRefused
+            (rounded_up size (sector_len allocator.old.tables.version) - length ids.old.items)
+            allocator.old allocator.new result }
 {
     let sector_len = allocator.sector_len() as u64;
     let have = ids.len();
@@ -101,22 +84,12 @@ pub(crate) fn grow_in_sectors<F: Medium, A: Heap + Clone>(
     entry: u32,
     size: u64,
 ) -> Result<u32, Error>
-    requires stream { IsStreamOf mini.old entry }
-    requires limit { size ≤ max_stream_len (version_of mini.old) }
+        requires size_fits { IsStreamWithin entry size mini.old }
     requires large { mini_stream_cutoff ≤ len_of mini.old entry }
     requires longer { len_of mini.old entry < size }
-    ensures turned { IsTrue F.tells
-        → IfOk result (λ start. TurnsSoundly mini.old mini.new entry size start) }
-    ensures spares { IsTrue F.tells → SparesOthers mini.old mini.new entry }
-    ensures around { KeepsAround mini.old mini.new }
-    ensures tight { OnOk result (KeepsTablesTight mini.old mini.new) }
-    ensures enough { OnOk result (LacksNumbersFor mini.old entry size → ⊥) }
-    ensures refused { IfErr result (StopsOrBegun mini.old mini.new) }
-    ensures err { IfErr result (ChangeRefused (IsNotChangeable mini.old) Unit
-        (LacksNumbersFor mini.old entry size) Unit) }
-    ensures counts { IsTrue F.tells
-        → CountsFailure (λ f. F.read_faults f || F.write_faults f) result
-        (table_of mini.old).file.failures (table_of mini.new).file.failures }
+        ensures turns { TurnsContent F.tells (λ f. F.read_faults f || F.write_faults f) entry size
+            mini.old mini.new result }
+        ensures refused { TurningRefused entry size mini.old mini.new result }
 {
     let (start, len) = content_in(mini, entry);
     let allocator = mini.allocator_mut();
@@ -133,25 +106,15 @@ pub(crate) fn cut_in_sectors<F: Medium, A: Heap + Clone>(
     entry: u32,
     size: u64,
 ) -> Result<u32, Error>
-    requires stream { IsStreamOf mini.old entry }
-    requires limit { size ≤ max_stream_len (version_of mini.old) }
+        requires size_fits { IsStreamWithin entry size mini.old }
     requires large { mini_stream_cutoff ≤ size }
     requires shorter { size < len_of mini.old entry }
-    ensures turned { IsTrue F.tells
-        → IfOk result (λ start. TurnsSoundly mini.old mini.new entry size start) }
-    ensures spares { IsTrue F.tells → SparesOthers mini.old mini.new entry }
-    ensures around { KeepsAround mini.old mini.new }
+        ensures turns { TurnsContent F.tells (λ f. F.read_faults f || F.write_faults f) entry size
+            mini.old mini.new result }
     ensures few { IfOk result (λ start. (list : List ℕ)
         → IsChain (tables_in mini.new).fat start list
         → length list ≡ rounded_up size (sector_len (version_of mini.old))) }
-    ensures tight { OnOk result (KeepsTablesTight mini.old mini.new) }
-    ensures enough { OnOk result (LacksNumbersFor mini.old entry size → ⊥) }
-    ensures refused { IfErr result (StopsOrBegun mini.old mini.new) }
-    ensures err { IfErr result (ChangeRefused (IsNotChangeable mini.old) Unit
-        (LacksNumbersFor mini.old entry size) Unit) }
-    ensures counts { IsTrue F.tells
-        → CountsFailure (λ f. F.read_faults f || F.write_faults f) result
-        (table_of mini.old).file.failures (table_of mini.new).file.failures }
+        ensures refused { TurningRefused entry size mini.old mini.new result }
 {
     let (start, len) = content_in(mini, entry);
     let wanted = size.div_ceil(mini.sector_len() as u64) as usize;
@@ -193,39 +156,16 @@ fn lengthen_in_minis<F: Medium, A: Heap + Clone>(
     requires there { (m : ℕ) → Contains ids.old.items m → HasMiniSector mini.old m }
     requires lacking { lacking ≡ rounded_up size mini_sector_len - length ids.old.items }
     requires enough { IsTooFewFor mini.old lacking → ⊥ }
-    ensures chain { IsChain mini.new.minifat (first_or_end ids.new.items) ids.new.items }
-    ensures listed { ids.new.items ≡ ids.old.items ++ gained ids.old.items ids.new.items }
-    ensures count { OnOk result (length (gained ids.old.items ids.new.items) ≡ lacking) }
-    ensures taken { 0 < lacking
-        → OnOk result (TakesMini mini.old.max_mini_sectors mini.old.minifat mini.new.minifat
-        (ends_of ids.old.items) (gained ids.old.items ids.new.items)) }
-    ensures grown { 0 < lacking → OnOk result (GrowsFor lacking mini.old mini.new) }
-    ensures none { lacking ≡ 0 → (ids.new.items ≡ ids.old.items) × KeepsSystem mini.old mini.new
-        × KeepsMini mini.old mini.new }
-    ensures padded { IsTrue F.tells → (validation : Validation) → HoldsMini validation mini.old
-        → ((k : ℕ) → k < len → IsThereInMinis mini.old ids.old.items k)
-        → OnOk result (IsPaddedAlong len size (mini_place_along mini.old ids.old.items)
-        (mini_place_along mini.new ids.new.items) (bytes_of mini.old) (bytes_of mini.new)) }
-    ensures holds { IsTrue F.tells → (validation : Validation) → HoldsMini validation mini.old
-        → OnOk result (HoldsMini validation mini.new) }
-    ensures whole { IsTrue F.tells → (validation : Validation) → HoldsMini validation mini.old
-        → IsOfWholeSectors (table_of mini.old)
-        → OnOk result (IsOfWholeSectors (table_of mini.new)) }
+        ensures longer { LengthensMinis lacking mini.old mini.new ids.old.items ids.new.items result
+            }
+        ensures holds { HoldsLengthened F.tells len size mini.old mini.new ids.old.items
+            ids.new.items result }
     ensures spares { IsTrue F.tells
         → Spares (system_sectors mini.old) (table_of mini.old) (table_of mini.new) }
-    ensures mini_spares { IsTrue F.tells → (validation : Validation) → HoldsMini validation mini.old
-        → SparesMini ids.old.items mini.old mini.new }
-    ensures header { IsTrue F.tells → OnOk result (KeepsHeader mini.old mini.new) }
-    ensures around { KeepsAround mini.old mini.new }
-    ensures tight { OnOk result (KeepsTablesTight mini.old mini.new) }
-    ensures snug_mini { IsTrue F.tells → (validation : Validation) → HoldsMini validation mini.old
-        → IsSnugMini mini.old → OnOk result (IsSnugMini mini.new) }
-    ensures refused { IfErr result (StopsOrBegun mini.old mini.new) }
+        ensures around { KeepsAllAround F.tells F.write_faults mini.old mini.new result }
     ensures unwritten { IsTrue F.tells → (table_of mini.new).file.begun ≡ false
         → bytes_of mini.new ≡ bytes_of mini.old }
     ensures err { IfErr result (ChangeRefused (IsNotHeld mini.old) Unit ⊥ Unit) }
-    ensures counts { IsTrue F.tells → CountsFailure F.write_faults result
-        (table_of mini.old).file.failures (table_of mini.new).file.failures }
 {
     let room = (ids.len() as u64).saturating_mul(MINI_SECTOR_LEN as u64);
     mini.extend_mini_listed(ids, lacking)?;
@@ -239,22 +179,12 @@ pub(crate) fn grow_in_minis<F: Medium, A: Heap + Clone>(
     entry: u32,
     size: u64,
 ) -> Result<u32, Error>
-    requires stream { IsStreamOf mini.old entry }
-    requires limit { size ≤ max_stream_len (version_of mini.old) }
+        requires size_fits { IsStreamWithin entry size mini.old }
     requires small { size < mini_stream_cutoff }
     requires longer { len_of mini.old entry < size }
-    ensures turned { IsTrue F.tells
-        → IfOk result (λ start. TurnsSoundly mini.old mini.new entry size start) }
-    ensures spares { IsTrue F.tells → SparesOthers mini.old mini.new entry }
-    ensures around { KeepsAround mini.old mini.new }
-    ensures tight { OnOk result (KeepsTablesTight mini.old mini.new) }
-    ensures enough { OnOk result (LacksNumbersFor mini.old entry size → ⊥) }
-    ensures refused { IfErr result (StopsOrBegun mini.old mini.new) }
-    ensures err { IfErr result (ChangeRefused (IsNotChangeable mini.old) Unit
-        (LacksNumbersFor mini.old entry size) Unit) }
-    ensures counts { IsTrue F.tells
-        → CountsFailure (λ f. F.read_faults f || F.write_faults f) result
-        (table_of mini.old).file.failures (table_of mini.new).file.failures }
+        ensures turns { TurnsContent F.tells (λ f. F.read_faults f || F.write_faults f) entry size
+            mini.old mini.new result }
+        ensures refused { TurningRefused entry size mini.old mini.new result }
 {
     let (start, len) = content_in(mini, entry);
     let mut ids = whole_mini_chain(mini, start, len)?;
@@ -274,28 +204,13 @@ pub(crate) fn cut_in_minis<F: Medium, A: Heap + Clone>(
     entry: u32,
     size: u64,
 ) -> Result<u32, Error>
-    requires stream { IsStreamOf mini.old entry }
-    requires limit { size ≤ max_stream_len (version_of mini.old) }
+        requires size_fits { IsStreamWithin entry size mini.old }
     requires small { len_of mini.old entry < mini_stream_cutoff }
     requires shorter { size < len_of mini.old entry }
-    ensures turned { IsTrue F.tells
-        → IfOk result (λ start. TurnsSoundly mini.old mini.new entry size start) }
-    ensures spares { IsTrue F.tells → SparesOthers mini.old mini.new entry }
-    ensures around { KeepsAround mini.old mini.new }
-    ensures empty { size ≡ 0 → IfOk result (λ start. start ≡ end_of_chain) }
-    ensures first { IfErr result (AfterMedium Unit (mini.new ≡ mini.old)) }
-    ensures takes_none { length (tables_in mini.new).fat ≡ length (tables_in mini.old).fat }
-    ensures few { IfOk result (λ start. (list : List ℕ) → IsChain mini.new.minifat start list
-        → length list ≡ rounded_up size mini_sector_len) }
-    ensures tight { OnOk result (KeepsTablesTight mini.old mini.new) }
-    ensures enough { (validation : Validation) → HoldsMini validation mini.old
-        → OnOk result (LacksNumbersFor mini.old entry size → ⊥) }
-    ensures refused { IfErr result (StopsOrBegun mini.old mini.new) }
-    ensures err { IfErr result (ChangeRefused (IsNotChangeable mini.old) Unit
-        (LacksNumbersFor mini.old entry size) Unit) }
-    ensures counts { IsTrue F.tells
-        → CountsFailure (λ f. F.read_faults f || F.write_faults f) result
-        (table_of mini.old).file.failures (table_of mini.new).file.failures }
+        ensures turns { TurnsContent F.tells (λ f. F.read_faults f || F.write_faults f) entry size
+            mini.old mini.new result }
+        ensures cuts { CutsInMinis size mini.old mini.new result }
+        ensures refused { CuttingRefused entry size mini.old mini.new result }
 {
     let (start, len) = content_in(mini, entry);
     let mut ids = whole_mini_chain(mini, start, len)?;

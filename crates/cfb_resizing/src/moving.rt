@@ -1,6 +1,10 @@
 //! Contents that move between sectors and mini sectors (MS-CFB 2.6.3): the old chain is free before the new one is taken, and all memory
 //! is had before the first write.
 ghost use Rattle.std.specs.Prelude.{◌⊎◌, length, slice_index, Contains, ◌≡◌, ◌<◌, ◌≤◌, ◌/◌, ◌*◌, ◌++◌, ◌+◌, ◌||◌, [], ℕ, None, false, true, IsTrue, IfOk, IfErr, OnOk, OnErr};
+ghost use Rattle.cfb_resizing.specs.Carrying.{KeepsAllAround, CanCarryToMinis, CarriesMinis, HoldsCarriedToMinis, CarryingToMinisRefused, CanCarryToSectors, CarriesSectors, HoldsCarriedToSectors, CarryingToSectorsRefused, BeginsPadded, BeginningRefused, SparesBegun};
+ghost use Rattle.cfb_content.specs.Turning.{IsStreamWithin};
+ghost use Rattle.cfb_content.specs.Growing.{HoldsWhole};
+ghost use Rattle.cfb_resizing.specs.cfb_mini.Reading.{OnlyReadsMinis};
 ghost use Rattle.cfb_format.specs.declared.validate.Validation.{Validation};
 ghost use Rattle.cfb_format.specs.Bytes.{end_of_chain, max_stream_len, sector_len};
 ghost use Rattle.cfb_format.specs.Chain.{IsChain};
@@ -25,7 +29,7 @@ ghost use Rattle.cfb_content.specs.Contents.{IsNotChangeable, IsStreamOf, len_of
 ghost use Rattle.cfb_content.specs.Laws.{LacksNumbersFor};
 ghost use Rattle.cfb_content.specs.Room.{ComesFree};
 ghost use Rattle.cfb_content.specs.Parts.{IsThereInMinis, IsThereInSectors, StandAlong};
-ghost use Rattle.cfb_resizing.specs.Turning.{CarriesToMinis, CarriesToSectors, GoesUnnamed, IsPaddedAlong, KeepsAround, KeepsTablesTight, MovesSoundly, StopsOrBegun, TurnsSoundly};
+ghost use Rattle.cfb_resizing.specs.Turning.{CarriesToMinis, CarriesToSectors, GoesUnnamed, IsPaddedAlong, KeepsAround, KeepsTablesTight, MovesSoundly, StopsOrBegun, TurnsSoundly, TurnsContent, MovingRefused, EmptiesAtOnce, ExtendsContent};
 
 use crate::room::{room_for_move, stream_sectors};
 use cfb_content::in_minis::{get_from_minis, put_in_minis, whole_mini_chain};
@@ -114,53 +118,12 @@ fn carry_to_minis<F: Medium, A: Heap>(
     count: usize,
     bytes: &[u8],
 ) -> Result<(), Error>
-    requires chain { IsChain (tables_in mini.old).fat (first_or_end list.now) list.now }
-    requires fresh { ids.old.items ≡ [] }
-    requires some { 0 < length list.now }
-    requires room { (k : ℕ) → k < length bytes.now → k / mini_sector_len < count }
-    requires enough { IsTooFewAfterFor mini.old (length list.now) count → ⊥ }
-    ensures chain { OnOk result
-        (IsChain mini.new.minifat (first_or_end ids.new.items) ids.new.items) }
-    ensures count { OnOk result (length ids.new.items ≡ count) }
-    ensures carried { OnOk result (CarriesToMinis count list.now ids.new.items mini.old mini.new) }
-    ensures stands { IsTrue F.tells → (validation : Validation) → HoldsMini validation mini.old
-        → AreDisjoint (system_sectors mini.old) list.now
-        → IsUnnamed (tables_in mini.old).fat (first_or_end list.now) → OnOk result
-        (StandAlong (mini_place_along mini.new ids.new.items) 0 bytes.now (bytes_of mini.new)) }
-    ensures holds { IsTrue F.tells → (validation : Validation) → HoldsMini validation mini.old
-        → AreDisjoint (system_sectors mini.old) list.now
-        → IsUnnamed (tables_in mini.old).fat (first_or_end list.now)
-        → OnOk result (HoldsMini validation mini.new) }
-    ensures whole { IsTrue F.tells → (validation : Validation) → HoldsMini validation mini.old
-        → AreDisjoint (system_sectors mini.old) list.now
-        → IsUnnamed (tables_in mini.old).fat (first_or_end list.now)
-        → IsOfWholeSectors (table_of mini.old)
-        → OnOk result (IsOfWholeSectors (table_of mini.new)) }
-    ensures spares { IsTrue F.tells
-        → Spares (system_sectors mini.old ++ list.now) (table_of mini.old) (table_of mini.new) }
-    ensures mini_spares { IsTrue F.tells → (validation : Validation) → HoldsMini validation mini.old
-        → AreDisjoint (system_sectors mini.old) list.now
-        → IsUnnamed (tables_in mini.old).fat (first_or_end list.now)
-        → SparesMini [] mini.old mini.new }
-    ensures header { IsTrue F.tells → OnOk result (KeepsHeader mini.old mini.new) }
-    ensures around { KeepsAround mini.old mini.new }
-    ensures tight { OnOk result (KeepsTablesTight mini.old mini.new) }
-    ensures snug_mini { IsTrue F.tells → (validation : Validation) → HoldsMini validation mini.old
-        → AreDisjoint (system_sectors mini.old) list.now
-        → IsUnnamed (tables_in mini.old).fat (first_or_end list.now) → IsSnugMini mini.old
-        → OnOk result (IsSnugMini mini.new) }
-    ensures first { count ≡ 0 → IfErr result (AfterMedium Unit (mini.new ≡ mini.old)) }
-    ensures takes_none { count ≡ 0
-        → length (tables_in mini.new).fat ≡ length (tables_in mini.old).fat }
-    ensures begun { OnOk result ((table_of mini.new).file.begun ≡ true) }
-    ensures refused { IfErr result (StopsOrBegun mini.old mini.new) }
-    ensures unwritten { (table_of mini.new).file.begun ≡ false
-        → bytes_of mini.new ≡ bytes_of mini.old }
-    ensures err { IfErr result (ChangeRefused (IsTrue F.tells → (validation : Validation)
-        → HoldsMini validation mini.old → AreDisjoint (system_sectors mini.old) list.now
-        → IsUnnamed (tables_in mini.old).fat (first_or_end list.now) → ⊥) Unit ⊥ Unit) }
-    ensures counts { IsTrue F.tells → CountsFailure F.write_faults result
-        (table_of mini.old).file.failures (table_of mini.new).file.failures }
+        requires can_carry { CanCarryToMinis count mini.old ids.old.items list.now bytes.now }
+        ensures carried { CarriesMinis count mini.old mini.new ids.new.items list.now result }
+        ensures holds { HoldsCarriedToMinis F.tells mini.old mini.new ids.new.items list.now
+            bytes.now result }
+        ensures ends { CarryingToMinisRefused F.tells count mini.old mini.new list.now result }
+        ensures around { KeepsAllAround F.tells F.write_faults mini.old mini.new result }
 {
     mini.allocator_mut().free_listed(list)?;
     mini.extend_mini_listed(ids, count)?;
@@ -175,17 +138,13 @@ fn taken_from_sectors<F: ReadMedium, A: Heap + Clone>(
 ) -> Result<Vec<u8, A>, Error>
     requires there { (k : ℕ) → k < len
         → IsThereInSectors (version_of mini.old) list.now (table_of mini.old).file.len k }
-    ensures kept { IsStill mini.old mini.new }
+        ensures reads { OnlyReadsMinis F.tells F.read_faults mini.old mini.new result }
     ensures len { IfOk result (λ bytes. length bytes.items ≡ len) }
     ensures got { IsTrue F.tells → IfOk result (λ bytes. (k : ℕ) → k < len
         → slice_index bytes.items k
         ≡ slice_index (bytes_of mini.old) (place_along (version_of mini.old) list.now k)) }
-    ensures same { IsTrue F.tells → OnOk result (mini.new ≡ mini.old) }
-    ensures bytes { IsTrue F.tells → bytes_of mini.new ≡ bytes_of mini.old }
     ensures refused { IfErr result (AfterMedium Unit (mini.new ≡ mini.old)) }
     ensures err { IfErr result (ChangeRefused ⊥ Unit ⊥ Unit) }
-    ensures counts { IsTrue F.tells → CountsFailure F.read_faults result
-        (table_of mini.old).file.failures (table_of mini.new).file.failures }
 {
     let mut bytes = vec![in mini.heap().clone()?; 0u8; len]?;
     get_from_sectors(mini.allocator_mut(), list, &mut bytes)?;
@@ -198,29 +157,13 @@ pub(crate) fn move_to_minis<F: Medium, A: Heap + Clone>(
     entry: u32,
     size: u64,
 ) -> Result<u32, Error>
-    requires stream { IsStreamOf mini.old entry }
-    requires limit { size ≤ max_stream_len (version_of mini.old) }
+        requires size_fits { IsStreamWithin entry size mini.old }
     requires large { mini_stream_cutoff ≤ len_of mini.old entry }
     requires small { size < mini_stream_cutoff }
-    ensures turned { IsTrue F.tells
-        → IfOk result (λ start. TurnsSoundly mini.old mini.new entry size start) }
-    ensures spares { IsTrue F.tells → SparesOthers mini.old mini.new entry }
-    ensures around { KeepsAround mini.old mini.new }
-    ensures empty { size ≡ 0 → IfOk result (λ start. start ≡ end_of_chain) }
-    ensures first { IsTrue F.tells → size ≡ 0
-        → IfErr result (AfterMedium Unit (mini.new ≡ mini.old)) }
-    ensures takes_none { size ≡ 0
-        → length (tables_in mini.new).fat ≡ length (tables_in mini.old).fat }
-    ensures tight { OnOk result (KeepsTablesTight mini.old mini.new) }
-    ensures enough { OnOk result (LacksNumbersFor mini.old entry size → ⊥) }
-    ensures refused { IsTrue F.tells → IfErr result (StopsOrBegun mini.old mini.new) }
-    ensures still { OnErr result (IsStill mini.old mini.new
-        ⊎ ((table_of mini.new).file.begun ≡ true)) }
-    ensures err { IfErr result (ChangeRefused (IsTrue F.tells → IsNotChangeable mini.old) Unit
-        (LacksNumbersFor mini.old entry size) Unit) }
-    ensures counts { IsTrue F.tells
-        → CountsFailure (λ f. F.read_faults f || F.write_faults f) result
-        (table_of mini.old).file.failures (table_of mini.new).file.failures }
+        ensures turns { TurnsContent F.tells (λ f. F.read_faults f || F.write_faults f) entry size
+            mini.old mini.new result }
+        ensures emptied { EmptiesAtOnce F.tells size mini.old mini.new result }
+        ensures refused { MovingRefused F.tells entry size mini.old mini.new result }
 {
     let (start, len) = content_in(mini, entry);
     let old = whole_chain(mini.allocator(), start, len)?;
@@ -249,40 +192,11 @@ fn begin_in_sectors<F: Medium, A: Heap>(
     requires some { 0 < count }
     requires room { (k : ℕ) → k < length bytes.now
         → k / sector_len allocator.old.tables.version < count }
-    ensures chain { OnOk result
-        (IsChain allocator.new.tables.fat (first_or_end ids.new.items) ids.new.items) }
-    ensures lengthened { OnOk result
-        (Lengthens count [] ids.new.items allocator.old.tables allocator.new.tables) }
-    ensures padded { IsTrue F.tells
-        → (validation : Validation) → HoldsTables validation allocator.old
-        → OnOk result (IsPaddedAlong (length bytes.now)
-        (count * sector_len allocator.old.tables.version)
-        (λ k. k) (place_along allocator.old.tables.version ids.new.items)
-        bytes.now allocator.new.file.bytes) }
-    ensures holds { IsTrue F.tells
-        → (validation : Validation) → HoldsTables validation allocator.old
-        → OnOk result (HoldsTables validation allocator.new) }
-    ensures whole { IsTrue F.tells
-        → (validation : Validation) → HoldsTables validation allocator.old
-        → IsOfWholeSectors allocator.old → OnOk result (IsOfWholeSectors allocator.new) }
-    ensures sizes { OnOk result
-        (AreSizes allocator.new.tables.version (sizes_of allocator.new.tables)) }
-    ensures spares { IsTrue F.tells → Spares [] allocator.old allocator.new }
-    ensures changes { IsTrue F.tells → OnOk result (ChangesSectors (allocator.new.tables.fat_sectors
-        ++ allocator.new.tables.difat_sectors ++ ids.new.items) allocator.new.tables.version
-        allocator.old.file.bytes allocator.new.file.bytes) }
-    ensures header { IsTrue F.tells → (i : ℕ) → i < length allocator.old.file.bytes
-        → IsOtherHeaderByte allocator.old.tables.version i
-        → slice_index allocator.new.file.bytes i ≡ slice_index allocator.old.file.bytes i }
-    ensures version { allocator.new.tables.version ≡ allocator.old.tables.version }
-    ensures limit { allocator.new.tables.max_sectors ≡ allocator.old.tables.max_sectors }
-    ensures begun { OnOk result (allocator.new.file.begun ≡ true) }
-    ensures refused { IfErr result
-        (AfterMedium (allocator.new.file.begun ≡ true) (allocator.new ≡ allocator.old)) }
-    ensures err { IfErr result (ChangeRefused (IsUsable allocator.old.tables → ⊥) Unit
-        (IsTooFew allocator.old.tables count) Unit) }
-    ensures counts { IsTrue F.tells → CountsFailure F.write_faults result
-        allocator.old.file.failures allocator.new.file.failures }
+        ensures begins { BeginsPadded F.tells count allocator.old allocator.new ids.new.items
+            bytes.now result }
+        ensures holds { HoldsWhole F.tells allocator.old allocator.new result }
+        ensures ends { BeginningRefused count allocator.old allocator.new result }
+        ensures spares { SparesBegun F.tells F.write_faults allocator.old allocator.new result }
 {
     allocator.extend_listed_from(ids, count, SectorInit::Zero, bytes)?;
     let _len = allocator.file_len();
@@ -298,52 +212,14 @@ fn carry_to_sectors<F: Medium, A: Heap>(
     count: usize,
     bytes: &[u8],
 ) -> Result<(), Error>
-    requires chain { IsChain mini.old.minifat (first_or_end list.old.items) list.old.items }
-    requires fresh { ids.old.items ≡ [] }
-    requires some { 0 < count }
-    requires room { (k : ℕ) → k < length bytes.now → k / sector_len (version_of mini.old) < count }
-    requires usable { IsUsable (tables_in mini.old) }
-    requires enough { (given : ℕ) × ComesFree mini.old list.old.items given
-        × (IsTooFewAfter (tables_in mini.old) given count → ⊥) }
-    ensures chain { OnOk result
-        (IsChain (tables_in mini.new).fat (first_or_end ids.new.items) ids.new.items) }
-    ensures carried { (validation : Validation) → HoldsMini validation mini.old
-        → OnOk result (CarriesToSectors count list.old.items ids.new.items mini.old mini.new) }
-    ensures apart { IsTrue F.tells → (validation : Validation) → HoldsMini validation mini.old
-        → GoesUnnamed mini.old list.old.items
-        → OnOk result (AreDisjoint ids.new.items (system_sectors mini.new)) }
-    ensures padded { IsTrue F.tells → (validation : Validation) → HoldsMini validation mini.old
-        → GoesUnnamed mini.old list.old.items
-        → OnOk result (IsPaddedAlong (length bytes.now) (count * sector_len (version_of mini.old))
-        (λ k. k) (place_along (version_of mini.old) ids.new.items) bytes.now (bytes_of mini.new)) }
-    ensures holds { IsTrue F.tells → (validation : Validation) → HoldsMini validation mini.old
-        → GoesUnnamed mini.old list.old.items → OnOk result (HoldsMini validation mini.new) }
-    ensures wiped { IsTrue F.tells → (validation : Validation) → HoldsMini validation mini.old
-        → GoesUnnamed mini.old list.old.items → OnOk result ((m : ℕ) → Contains list.old.items m
-        → IsInMiniStream mini.new m → IsZeroMini mini.new m) }
-    ensures erased { IsTrue F.tells → (validation : Validation) → HoldsMini validation mini.old
-        → OnOk result ((m : ℕ) → Contains list.old.items m
-        → (Contains ids.new.items (sector_of_mini mini.old m) → ⊥)
-        → AreZeros (bytes_of mini.new) (mini_place mini.old m)) }
-    ensures whole { IsTrue F.tells → (validation : Validation) → HoldsMini validation mini.old
-        → GoesUnnamed mini.old list.old.items → IsOfWholeSectors (table_of mini.old)
-        → OnOk result (IsOfWholeSectors (table_of mini.new)) }
-    ensures spares { IsTrue F.tells
-        → Spares (system_sectors mini.old) (table_of mini.old) (table_of mini.new) }
-    ensures mini_spares { IsTrue F.tells → (validation : Validation) → HoldsMini validation mini.old
-        → GoesUnnamed mini.old list.old.items → SparesMini list.old.items mini.old mini.new }
-    ensures header { IsTrue F.tells → OnOk result (KeepsHeader mini.old mini.new) }
-    ensures around { KeepsAround mini.old mini.new }
-    ensures tight { OnOk result (KeepsTablesTight mini.old mini.new) }
-    ensures snug_mini { (validation : Validation) → HoldsMini validation mini.old
-        → IsSnugMini mini.old → OnOk result (IsSnugMini mini.new) }
-    ensures begun { OnOk result ((table_of mini.new).file.begun ≡ true) }
-    ensures refused { IfErr result (StopsOrBegun mini.old mini.new) }
-    ensures unwritten { (table_of mini.new).file.begun ≡ false
-        → bytes_of mini.new ≡ bytes_of mini.old }
-    ensures err { IfErr result (ChangeRefused (IsNotHeld mini.old) Unit ⊥ Unit) }
-    ensures counts { IsTrue F.tells → CountsFailure F.write_faults result
-        (table_of mini.old).file.failures (table_of mini.new).file.failures }
+        requires can_carry { CanCarryToSectors count mini.old ids.old.items list.old.items bytes.now
+            }
+        ensures carried { CarriesSectors F.tells count mini.old mini.new ids.new.items
+            list.old.items result }
+        ensures holds { HoldsCarriedToSectors F.tells count mini.old mini.new ids.new.items
+            list.old.items bytes.now result }
+        ensures ends { CarryingToSectorsRefused F.tells mini.old mini.new result }
+        ensures around { KeepsAllAround F.tells F.write_faults mini.old mini.new result }
 {
     mini.cut_mini_listed(list, 0)?;
     begin_in_sectors(mini.allocator_mut(), ids, count, bytes)
@@ -356,17 +232,13 @@ fn taken_from_minis<F: ReadMedium, A: Heap + Clone>(
     len: usize,
 ) -> Result<Vec<u8, A>, Error>
     requires there { (k : ℕ) → k < len → IsThereInMinis mini.old list.now k }
-    ensures kept { IsStill mini.old mini.new }
+        ensures reads { OnlyReadsMinis F.tells F.read_faults mini.old mini.new result }
     ensures len { IfOk result (λ bytes. length bytes.items ≡ len) }
     ensures got { IsTrue F.tells → IfOk result (λ bytes. (k : ℕ) → k < len
         → slice_index bytes.items k
         ≡ slice_index (bytes_of mini.old) (mini_place_along mini.old list.now k)) }
-    ensures same { IsTrue F.tells → OnOk result (mini.new ≡ mini.old) }
-    ensures bytes { IsTrue F.tells → bytes_of mini.new ≡ bytes_of mini.old }
     ensures refused { IfErr result (AfterMedium Unit (mini.new ≡ mini.old)) }
     ensures err { IfErr result (ChangeRefused ⊥ Unit ⊥ Unit) }
-    ensures counts { IsTrue F.tells → CountsFailure F.read_faults result
-        (table_of mini.old).file.failures (table_of mini.new).file.failures }
 {
     let mut bytes = vec![in mini.heap().clone()?; 0u8; len]?;
     get_from_minis(mini, list, &mut bytes)?;
@@ -382,7 +254,7 @@ fn joined_from_minis<F: ReadMedium, A: Heap + Clone>(
     bytes: &[u8],
 ) -> Result<Vec<u8, A>, Error>
     requires there { (k : ℕ) → k < len → IsThereInMinis mini.old list.now k }
-    ensures kept { IsStill mini.old mini.new }
+        ensures reads { OnlyReadsMinis F.tells F.read_faults mini.old mini.new result }
     ensures none { len ≡ 0 → IfOk result (λ joined. joined.items ≡ []) }
     ensures len { 0 < len → IfOk result (λ joined. length joined.items ≡ len + length bytes.now) }
     ensures got { IsTrue F.tells → IfOk result (λ joined. (k : ℕ) → k < len
@@ -390,12 +262,8 @@ fn joined_from_minis<F: ReadMedium, A: Heap + Clone>(
         ≡ slice_index (bytes_of mini.old) (mini_place_along mini.old list.now k)) }
     ensures put { 0 < len → IfOk result (λ joined. (k : ℕ) → k < length bytes.now
         → slice_index joined.items (len + k) ≡ slice_index bytes.now k) }
-    ensures same { IsTrue F.tells → OnOk result (mini.new ≡ mini.old) }
-    ensures bytes { IsTrue F.tells → bytes_of mini.new ≡ bytes_of mini.old }
     ensures refused { IsTrue F.tells → IfErr result (AfterMedium Unit (mini.new ≡ mini.old)) }
     ensures err { IfErr result (ChangeRefused ⊥ Unit ⊥ Unit) }
-    ensures counts { IsTrue F.tells → CountsFailure F.read_faults result
-        (table_of mini.old).file.failures (table_of mini.new).file.failures }
 {
     let mut joined = taken_from_minis(mini, list, len)?;
     if len > 0 {
@@ -421,25 +289,15 @@ pub fn move_with<F: Medium, A: Heap + Clone>(
     size: u64,
     bytes: &[u8],
 ) -> Result<u32, Error>
-    requires stream { IsStreamOf mini.old entry }
-    requires limit { size ≤ max_stream_len (version_of mini.old) }
+        requires size_fits { IsStreamWithin entry size mini.old }
     requires small { len_of mini.old entry < mini_stream_cutoff }
     requires large { mini_stream_cutoff ≤ size }
     requires fits { len_of mini.old entry + length bytes.now ≤ size }
     ensures moved { IsTrue F.tells
         → IfOk result (λ start. MovesSoundly mini.old mini.new entry size bytes.now start) }
-    ensures spares { IsTrue F.tells → SparesOthers mini.old mini.new entry }
-    ensures around { KeepsAround mini.old mini.new }
-    ensures tight { OnOk result (KeepsTablesTight mini.old mini.new) }
-    ensures enough { OnOk result (LacksNumbersFor mini.old entry size → ⊥) }
-    ensures refused { IsTrue F.tells → IfErr result (StopsOrBegun mini.old mini.new) }
-    ensures still { OnErr result (IsStill mini.old mini.new
-        ⊎ ((table_of mini.new).file.begun ≡ true)) }
-    ensures err { IfErr result (ChangeRefused (IsTrue F.tells → IsNotChangeable mini.old) Unit
-        (LacksNumbersFor mini.old entry size) Unit) }
-    ensures counts { IsTrue F.tells
-        → CountsFailure (λ f. F.read_faults f || F.write_faults f) result
-        (table_of mini.old).file.failures (table_of mini.new).file.failures }
+        ensures extends { ExtendsContent F.tells (λ f. F.read_faults f || F.write_faults f) entry
+            mini.old mini.new result }
+        ensures refused { MovingRefused F.tells entry size mini.old mini.new result }
 {
     let (start, len) = content_in(mini, entry);
     let mut old = whole_mini_chain(mini, start, len)?;
@@ -461,24 +319,12 @@ pub(crate) fn move_to_sectors<F: Medium, A: Heap + Clone>(
     entry: u32,
     size: u64,
 ) -> Result<u32, Error>
-    requires stream { IsStreamOf mini.old entry }
-    requires limit { size ≤ max_stream_len (version_of mini.old) }
+        requires size_fits { IsStreamWithin entry size mini.old }
     requires small { len_of mini.old entry < mini_stream_cutoff }
     requires large { mini_stream_cutoff ≤ size }
-    ensures turned { IsTrue F.tells
-        → IfOk result (λ start. TurnsSoundly mini.old mini.new entry size start) }
-    ensures spares { IsTrue F.tells → SparesOthers mini.old mini.new entry }
-    ensures around { KeepsAround mini.old mini.new }
-    ensures tight { OnOk result (KeepsTablesTight mini.old mini.new) }
-    ensures enough { OnOk result (LacksNumbersFor mini.old entry size → ⊥) }
-    ensures refused { IsTrue F.tells → IfErr result (StopsOrBegun mini.old mini.new) }
-    ensures still { OnErr result (IsStill mini.old mini.new
-        ⊎ ((table_of mini.new).file.begun ≡ true)) }
-    ensures err { IfErr result (ChangeRefused (IsTrue F.tells → IsNotChangeable mini.old) Unit
-        (LacksNumbersFor mini.old entry size) Unit) }
-    ensures counts { IsTrue F.tells
-        → CountsFailure (λ f. F.read_faults f || F.write_faults f) result
-        (table_of mini.old).file.failures (table_of mini.new).file.failures }
+        ensures turns { TurnsContent F.tells (λ f. F.read_faults f || F.write_faults f) entry size
+            mini.old mini.new result }
+        ensures refused { MovingRefused F.tells entry size mini.old mini.new result }
 {
     move_with(mini, entry, size, &[])
 }

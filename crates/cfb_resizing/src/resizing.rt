@@ -1,5 +1,6 @@
 //! How the content of a stream gets another length: cut, padded, and moved between sectors and mini sectors at 4096 bytes.
 ghost use Rattle.std.specs.Prelude.{◌≡◌, ◌≢◌, ◌<◌, ◌≤◌, ◌+◌, ◌||◌, ◌⊎◌, ◌↔◌, length, true, IsTrue, IfOk, IfErr, OnOk, OnErr};
+ghost use Rattle.cfb_content.specs.Turning.{IsStreamWithin};
 ghost use Rattle.cfb_format.specs.declared.validate.Validation.{Validation};
 ghost use Rattle.cfb_format.specs.Bytes.{max_stream_len, sector_len};
 ghost use Rattle.cfb_format.specs.Content.{mini_stream_cutoff};
@@ -16,7 +17,7 @@ ghost use Rattle.cfb_resizing.specs.cfb_mini.MiniSectors.{IsStill};
 ghost use Rattle.cfb_content.specs.Changed.{MovesAlone, SparesOthers, WasChanged};
 ghost use Rattle.cfb_content.specs.Contents.{IsNotChangeable, IsStreamOf, IsTooLongFor, MovesContent, len_of};
 ghost use Rattle.cfb_content.specs.Laws.{LacksNumbersFor};
-ghost use Rattle.cfb_resizing.specs.Turning.{KeepsAround, KeepsTablesTight, ResizesContent, StopsOrBegun, TrimsChain, TurnsSoundly};
+ghost use Rattle.cfb_resizing.specs.Turning.{KeepsAround, KeepsTablesTight, ResizesContent, StopsOrBegun, TrimsChain, TurnsSoundly, TurnsContent, TurnRefused, EmptiesFirst, HasSize, ResizingRefused, NamesContent, HoldsNamedContent, ChangesContent};
 
 use crate::in_place::{cut_in_minis, cut_in_sectors, grow_in_minis, grow_in_sectors};
 use crate::moving::{move_to_minis, move_to_sectors};
@@ -52,34 +53,12 @@ pub fn resize_content<F: Medium, A: Heap + Clone>(
     entry: u32,
     size: u64,
 ) -> Result<(), Error>
-    requires stream { IsStreamOf mini.old entry }
-    requires limit { size ≤ max_stream_len (version_of mini.old) }
-    ensures len { OnOk result (len_of mini.new entry ≡ size) }
-    ensures none { size ≡ len_of mini.old entry → OnErr result ⊥ × (mini.new ≡ mini.old) }
-    ensures first { IsTrue F.tells → size ≡ 0
-        → IfErr result (AfterMedium Unit (mini.new ≡ mini.old)) }
-    ensures takes_none { size ≡ 0
-        → length (tables_in mini.new).fat ≡ length (tables_in mini.old).fat }
-    ensures content { IsTrue F.tells → OnOk result (ResizesContent mini.old mini.new entry size) }
-    ensures trimmed { OnOk result (TrimsChain mini.old mini.new entry size
-        (entry_at (entries_of mini.new) entry).start_sector) }
-    ensures moves { MovesAlone mini.old mini.new entry }
-    ensures spares { IsTrue F.tells → SparesOthers mini.old mini.new entry }
-    ensures changed { IsTrue F.tells → OnOk result (WasChanged mini.old mini.new entry) }
-    ensures tight { OnOk result (KeepsTablesTight mini.old mini.new) }
-    ensures enough { size ≢ len_of mini.old entry → (validation : Validation)
-        → HoldsMini validation mini.old → OnOk result (IsTooLongFor mini.old entry size → ⊥) }
-    ensures begun { OnOk result (IsRaised (size ≢ len_of mini.old entry)
-        (table_of mini.old).file (table_of mini.new).file) }
-    ensures refused { IsTrue F.tells → IfErr result (StopsOrBegun mini.old mini.new) }
-    ensures still { OnErr result (IsStill mini.old mini.new
-        ⊎ ((table_of mini.new).file.begun ≡ true)) }
-    ensures err { IfErr result (ChangeRefused (IsTrue F.tells → IsNotChangeable mini.old) Unit
-        ((validation : Validation) → HoldsMini validation mini.old
-        → IsTooLongFor mini.old entry size) Unit) }
-    ensures counts { IsTrue F.tells
-        → CountsFailure (λ f. F.read_faults f || F.write_faults f) result
-        (table_of mini.old).file.failures (table_of mini.new).file.failures }
+        requires size_fits { IsStreamWithin entry size mini.old }
+        ensures sized { HasSize F.tells entry size mini.old mini.new result }
+        ensures emptied { EmptiesFirst F.tells size mini.old mini.new result }
+        ensures changes { ChangesContent F.tells (λ f. F.read_faults f || F.write_faults f) entry
+            mini.old mini.new result }
+        ensures refused { ResizingRefused F.tells entry size mini.old mini.new result }
 {
     let (_, len) = content_in(mini, entry);
     if size == len {
@@ -149,8 +128,7 @@ pub fn can_resize<F: ReadMedium, A: Heap + Clone>(
     entry: u32,
     size: u64,
 ) -> Result<bool, Error>
-    requires stream { IsStreamOf mini.now entry }
-    requires limit { size ≤ max_stream_len (version_of mini.now) }
+        requires size_fits { IsStreamWithin entry size mini.now }
     ensures same { size ≡ len_of mini.now entry → OnErr result ⊥ × IfOk result (λ can. can ≡ true) }
     ensures lacks { size ≢ len_of mini.now entry
         → IfOk result (λ can. IsTrue can ↔ (LacksNumbersFor mini.now entry size → ⊥)) }
@@ -177,29 +155,13 @@ fn turn<F: Medium, A: Heap + Clone>(
     entry: u32,
     size: u64,
 ) -> Result<u32, Error>
-    requires stream { IsStreamOf mini.old entry }
-    requires limit { size ≤ max_stream_len (version_of mini.old) }
+        requires size_fits { IsStreamWithin entry size mini.old }
     requires differs { size ≢ len_of mini.old entry }
-    ensures turned { IsTrue F.tells
-        → IfOk result (λ start. TurnsSoundly mini.old mini.new entry size start) }
-    ensures spares { IsTrue F.tells → SparesOthers mini.old mini.new entry }
-    ensures around { KeepsAround mini.old mini.new }
-    ensures first { IsTrue F.tells → size ≡ 0
-        → IfErr result (AfterMedium Unit (mini.new ≡ mini.old)) }
-    ensures takes_none { size ≡ 0
-        → length (tables_in mini.new).fat ≡ length (tables_in mini.old).fat }
+        ensures turns { TurnsContent F.tells (λ f. F.read_faults f || F.write_faults f) entry size
+            mini.old mini.new result }
+        ensures emptied { EmptiesFirst F.tells size mini.old mini.new result }
     ensures trimmed { IfOk result (λ start. TrimsChain mini.old mini.new entry size start) }
-    ensures tight { OnOk result (KeepsTablesTight mini.old mini.new) }
-    ensures enough { (validation : Validation) → HoldsMini validation mini.old
-        → OnOk result (LacksNumbersFor mini.old entry size → ⊥) }
-    ensures refused { IsTrue F.tells → IfErr result (StopsOrBegun mini.old mini.new) }
-    ensures still { OnErr result (IsStill mini.old mini.new
-        ⊎ ((table_of mini.new).file.begun ≡ true)) }
-    ensures err { IfErr result (ChangeRefused (IsTrue F.tells → IsNotChangeable mini.old) Unit
-        (LacksNumbersFor mini.old entry size) Unit) }
-    ensures counts { IsTrue F.tells
-        → CountsFailure (λ f. F.read_faults f || F.write_faults f) result
-        (table_of mini.old).file.failures (table_of mini.new).file.failures }
+        ensures refused { TurnRefused F.tells entry size mini.old mini.new result }
 {
     let (_, len) = content_in(mini, entry);
     let cutoff = MINI_STREAM_CUTOFF as u64;
@@ -230,27 +192,8 @@ pub fn name_content<F: Medium, A: Heap>(
 ) -> Result<(), Error>
     requires stream { IsStreamOf mini.old entry }
     requires placed { ArePlaced mini.old.directory }
-    ensures named { OnOk result (entry_at (entries_of mini.new) entry
-        ≡ record (entry_at (entries_of mini.old) entry) {
-          start_sector = start;
-          stream_len = size;
-        }) }
-    ensures entries { MovesContent mini.old mini.new entry }
-    ensures root { entry_at (entries_of mini.new) 0 ≡ entry_at (entries_of mini.old) 0 }
-    ensures system { KeepsSystem mini.old mini.new }
-    ensures mini { KeepsMini mini.old mini.new }
-    ensures limits { KeepsLimits mini.old mini.new }
-    ensures holds { IsTrue F.tells → (validation : Validation) → HoldsMini validation mini.old
-        → size ≤ max_stream_len (version_of mini.old)
-        → OnOk result (HoldsMini validation mini.new) }
-    ensures spares { IsTrue F.tells
-        → Spares mini.old.directory.sectors (table_of mini.old) (table_of mini.new) }
-    ensures header { IsTrue F.tells → KeepsWholeHeader mini.old.directory mini.new.directory }
-    ensures others { IsTrue F.tells → KeepsOtherSectors mini.old.directory mini.new.directory }
-    ensures begun { (table_of mini.new).file.begun ≡ true }
-    ensures err { IfErr result IsMediumError }
-    ensures counts { IsTrue F.tells → CountsFailure F.write_faults result
-        (table_of mini.old).file.failures (table_of mini.new).file.failures }
+        ensures names { NamesContent entry start size mini.old mini.new result }
+        ensures holds { HoldsNamedContent F.tells F.write_faults size mini.old mini.new result }
 {
     mini.with_dir_entry_mut(
         entry,

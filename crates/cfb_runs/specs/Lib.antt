@@ -4,3 +4,5 @@ pub use Rattle.cfb_alloc.specs.cfb_table_words
 pub use Rattle.cfb_alloc.specs as cfb_alloc
 pub mod Runs
 pub mod Along
+pub mod Reading
+pub mod Writing

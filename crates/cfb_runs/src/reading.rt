@@ -1,5 +1,7 @@
 //! Reading along a list of sectors (MS-CFB 2.3).
 ghost use Rattle.std.specs.Prelude.{◌≡◌, ℕ, ◌+◌, ◌/◌, ◌^◌, ◌<◌, ◌≤◌, length, take, drop, slice_index, IsTrue, IfOk, IfErr, IsErrAnd, OnOk};
+ghost use Rattle.cfb_runs.specs.Reading.{ReadsAlong, ReadsRun};
+ghost use Rattle.cfb_runs.specs.cfb_sectors.Reading.{ReadsBytesFrom};
 ghost use Rattle.cfb_format.specs.Bytes.{sector_len};
 ghost use Rattle.cfb_format.specs.Medium.{part};
 ghost use Rattle.cfb_format.specs.Refused.{CountsFailure, IsInvalidData};
@@ -40,16 +42,10 @@ fn read_listed<F: ReadMedium, A: Heap>(
 ) -> Result<usize, Error>
     requires listed { IsListed allocator.old ids.now at }
     requires there { place_in allocator.old ids.now at + length into.old ≤ allocator.old.file.len }
-    ensures kept { OnlyReads allocator.old allocator.new }
-    ensures count { IfOk result (λ n. n ≡ length into.old) }
-    ensures ok { IsTrue F.tells → IfOk result (λ n.
-        take n into.new ≡ part allocator.old.file.bytes (place_in allocator.old ids.now at) n) }
-    ensures rest { IfOk result (λ n. drop n into.new ≡ drop n into.old) }
+        ensures reads { ReadsAlong F.tells F.read_faults allocator.old allocator.new result }
+        ensures part { ReadsBytesFrom F.tells (place_in allocator.old ids.now at) into.old into.new
+            allocator.old.file.bytes (length into.old) result }
     ensures err { IfErr result IsMediumError }
-    ensures same { IsTrue F.tells → OnOk result (allocator.new ≡ allocator.old) }
-    ensures bytes { IsTrue F.tells → allocator.new.file.bytes ≡ allocator.old.file.bytes }
-    ensures counts { IsTrue F.tells → CountsFailure F.read_faults result
-        allocator.old.file.failures allocator.new.file.failures }
 {
     let len = allocator.file_len();
     let _fact = len;
@@ -70,21 +66,12 @@ pub fn read_run<F: ReadMedium, A: Heap>(
 ) -> Result<usize, Error>
     requires some { 0 < length into.old }
     requires listed { IsListed allocator.old ids.now at }
-    ensures kept { OnlyReads allocator.old allocator.new }
-    ensures count { IfOk result (λ n. IsReadAtOnce allocator.old.tables.version
-        ids.now allocator.old.file.len at (length into.old) n) }
-    ensures some { IfOk result (λ n. (0 < n) × (n ≤ length into.old)) }
-    ensures ok { IsTrue F.tells → IfOk result (λ n.
-        take n into.new ≡ part allocator.old.file.bytes (place_in allocator.old ids.now at) n) }
-    ensures rest { IfOk result (λ n. drop n into.new ≡ drop n into.old) }
+        ensures reads { ReadsAlong F.tells F.read_faults allocator.old allocator.new result }
+        ensures run { ReadsRun F.tells at allocator.old ids.now into.old into.new result }
     ensures cut { allocator.old.file.len ≤ place_in allocator.old ids.now at
         → IsErrAnd result IsInvalidData × (allocator.new ≡ allocator.old) }
     ensures there { place_in allocator.old ids.now at < allocator.old.file.len
         → IfErr result IsMediumError }
-    ensures same { IsTrue F.tells → OnOk result (allocator.new ≡ allocator.old) }
-    ensures bytes { IsTrue F.tells → allocator.new.file.bytes ≡ allocator.old.file.bytes }
-    ensures counts { IsTrue F.tells → CountsFailure F.read_faults result
-        allocator.old.file.failures allocator.new.file.failures }
 {
     let version = allocator.version();
     let start = place_of(version, ids, at);
@@ -109,16 +96,12 @@ pub fn read_along<F: ReadMedium, A: Heap>(
     requires bounded { at + length into.old < 2 ^ 64 }
     requires there { (k : ℕ) → k < length into.old
         → IsThereInSectors allocator.old.tables.version ids.now allocator.old.file.len (at + k) }
-    ensures kept { OnlyReads allocator.old allocator.new }
+        ensures reads { ReadsAlong F.tells F.read_faults allocator.old allocator.new result }
     ensures got { IsTrue F.tells
         → OnOk result ((k : ℕ) → k < length into.new → slice_index into.new k
         ≡ slice_index allocator.old.file.bytes (place_in allocator.old ids.now (at + k))) }
     ensures len { length into.new ≡ length into.old }
     ensures err { IfErr result IsMediumError }
-    ensures same { IsTrue F.tells → OnOk result (allocator.new ≡ allocator.old) }
-    ensures bytes { IsTrue F.tells → allocator.new.file.bytes ≡ allocator.old.file.bytes }
-    ensures counts { IsTrue F.tells → CountsFailure F.read_faults result
-        allocator.old.file.failures allocator.new.file.failures }
 {
     let mut done = 0;
     while done < into.len() {

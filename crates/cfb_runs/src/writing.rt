@@ -1,5 +1,7 @@
 //! Writing along a list of sectors (MS-CFB 2.3).
 ghost use Rattle.std.specs.Prelude.{◌≡◌, ℕ, ◌+◌, ◌-◌, ◌*◌, ◌/◌, ◌<◌, ◌≤◌, length, max, take, replicate, true, nat_eq, slice_index, IsTrue, IfOk, IfErr, MatchResult, OnOk, OnErr};
+ghost use Rattle.cfb_runs.specs.Writing.{WritesAlong, WritesTheRun, ZeroesTheRun, PutsAlong, CanPutRun};
+ghost use Rattle.cfb_runs.specs.cfb_sectors.Writing.{PutsBytes};
 ghost use Rattle.std.specs.List.{IsDistinct};
 ghost use Rattle.cfb_format.specs.declared.validate.Validation.{Validation};
 ghost use Rattle.cfb_format.specs.Bytes.{sector_len};
@@ -38,36 +40,17 @@ fn put_run<F: Medium, A: Heap>(
     offset: usize,
     from: &[u8],
 ) -> Result<(), Error>
-    requires some { 0 < length from.now }
-    requires short { offset < sector_len allocator.old.tables.version }
-    requires listed { index < length ids.now }
-    requires run { IsRun allocator.old.tables.version ids.now
-        (byte_in allocator.old index offset) (length from.now) }
-    requires known { (k : ℕ) → k < length from.now
-        → IsKnown allocator.old ids.now (byte_in allocator.old index offset + k) }
-    ensures kept { OnlyWrites allocator.old allocator.new }
-    ensures ok { IsTrue F.tells → OnOk result (allocator.new.file ≡ record allocator.old.file {
-      bytes = written allocator.old.file.bytes
-          (place_in allocator.old ids.now (byte_in allocator.old index offset)) from.now;
-      len = max allocator.old.file.len
-          (place_in allocator.old ids.now (byte_in allocator.old index offset) + length from.now);
-      begun = true;
-    }) }
+        requires can_put { CanPutRun index offset allocator.old ids.now from.now }
+        ensures writes { WritesAlong F.tells allocator.old allocator.new ids.now result }
+        ensures put { PutsBytes F.tells F.write_faults
+            (place_in allocator.old ids.now (byte_in allocator.old index offset)) from.now
+            allocator.old.file allocator.new.file
+            (place_in allocator.old ids.now (byte_in allocator.old index offset) + length from.now)
+            (length from.now) result }
     ensures len { MatchResult result (λ _. allocator.new.file.len ≡ max allocator.old.file.len
         (place_in allocator.old ids.now (byte_in allocator.old index offset) + length from.now))
         (λ _. allocator.new.file.len ≡ allocator.old.file.len) }
-    ensures others { IsTrue F.tells
-        → ChangesOnlyBytes (place_in allocator.old ids.now (byte_in allocator.old index offset))
-        (length from.now) allocator.old.file.bytes allocator.new.file.bytes }
-    ensures spares { IsTrue F.tells → Spares ids.now allocator.old allocator.new }
-    ensures holds { IsTrue F.tells
-        → (validation : Validation) → HoldsTables validation allocator.old
-        → AreDisjoint ids.now (table_sectors allocator.old.tables)
-        → OnOk result (HoldsTables validation allocator.new) }
     ensures begun { allocator.new.file.begun ≡ true }
-    ensures err { IfErr result IsMediumError }
-    ensures counts { IsTrue F.tells → CountsFailure F.write_faults result
-        allocator.old.file.failures allocator.new.file.failures }
 {
     let len = allocator.file_len();
     let _fact = len;
@@ -89,34 +72,12 @@ fn write_from<F: Medium, A: Heap>(
     requires known { (k : ℕ) → k < length from.now
         → IsListed allocator.old ids.now (byte_in allocator.old index offset + k)
         → IsKnown allocator.old ids.now (byte_in allocator.old index offset + k) }
-    ensures kept { OnlyWrites allocator.old allocator.new }
-    ensures count { IfOk result (λ n. IsLongestRun allocator.old.tables.version ids.now
-        (byte_in allocator.old index offset) (length from.now) n) }
-    ensures some { IfOk result (λ n. (0 < n) × (n ≤ length from.now)) }
+        ensures writes { WritesAlong F.tells allocator.old allocator.new ids.now result }
+        ensures run { WritesTheRun F.tells F.write_faults (byte_in allocator.old index offset)
+            allocator.old allocator.new ids.now from.now result }
     ensures next { IfOk result (λ n.
         index + (offset + n) / sector_len allocator.old.tables.version ≤ length ids.now) }
-    ensures ok { IsTrue F.tells → IfOk result (λ n. allocator.new.file ≡ record allocator.old.file {
-      bytes = written allocator.old.file.bytes
-          (place_in allocator.old ids.now (byte_in allocator.old index offset)) (take n from.now);
-      len = max allocator.old.file.len
-          (place_in allocator.old ids.now (byte_in allocator.old index offset) + n);
-      begun = true;
-    }) }
-    ensures len { MatchResult result (λ n. allocator.new.file.len ≡ max allocator.old.file.len
-        (place_in allocator.old ids.now (byte_in allocator.old index offset) + n))
-        (λ _. allocator.new.file.len ≡ allocator.old.file.len) }
-    ensures others { IsTrue F.tells
-        → ChangesOnlyRun allocator.old.tables.version ids.now (byte_in allocator.old index offset)
-        (length from.now) allocator.old.file.bytes allocator.new.file.bytes }
-    ensures spares { IsTrue F.tells → Spares ids.now allocator.old allocator.new }
-    ensures holds { IsTrue F.tells
-        → (validation : Validation) → HoldsTables validation allocator.old
-        → AreDisjoint ids.now (table_sectors allocator.old.tables)
-        → OnOk result (HoldsTables validation allocator.new) }
     ensures begun { allocator.new.file.begun ≡ true }
-    ensures err { IfErr result IsMediumError }
-    ensures counts { IsTrue F.tells → CountsFailure F.write_faults result
-        allocator.old.file.failures allocator.new.file.failures }
 {
     let run = run_from(allocator.version(), ids, index, offset, from.len());
     put_run(allocator, ids, index, offset, &from[..run])?;
@@ -136,30 +97,10 @@ pub fn write_run<F: Medium, A: Heap>(
     requires listed { IsListed allocator.old ids.now at }
     requires known { (k : ℕ) → k < length from.now → IsListed allocator.old ids.now (at + k)
         → IsKnown allocator.old ids.now (at + k) }
-    ensures kept { OnlyWrites allocator.old allocator.new }
-    ensures count { IfOk result (λ n.
-        IsLongestRun allocator.old.tables.version ids.now at (length from.now) n) }
-    ensures some { IfOk result (λ n. (0 < n) × (n ≤ length from.now)) }
-    ensures ok { IsTrue F.tells → IfOk result (λ n. allocator.new.file ≡ record allocator.old.file {
-      bytes = written allocator.old.file.bytes
-          (place_in allocator.old ids.now at) (take n from.now);
-      len = max allocator.old.file.len (place_in allocator.old ids.now at + n);
-      begun = true;
-    }) }
-    ensures len { MatchResult result (λ n.
-        allocator.new.file.len ≡ max allocator.old.file.len (place_in allocator.old ids.now at + n))
-        (λ _. allocator.new.file.len ≡ allocator.old.file.len) }
-    ensures others { IsTrue F.tells → ChangesOnlyRun allocator.old.tables.version ids.now at
-        (length from.now) allocator.old.file.bytes allocator.new.file.bytes }
-    ensures spares { IsTrue F.tells → Spares ids.now allocator.old allocator.new }
-    ensures holds { IsTrue F.tells
-        → (validation : Validation) → HoldsTables validation allocator.old
-        → AreDisjoint ids.now (table_sectors allocator.old.tables)
-        → OnOk result (HoldsTables validation allocator.new) }
+        ensures writes { WritesAlong F.tells allocator.old allocator.new ids.now result }
+        ensures run { WritesTheRun F.tells F.write_faults at allocator.old allocator.new ids.now
+            from.now result }
     ensures begun { allocator.new.file.begun ≡ true }
-    ensures err { IfErr result IsMediumError }
-    ensures counts { IsTrue F.tells → CountsFailure F.write_faults result
-        allocator.old.file.failures allocator.new.file.failures }
 {
     let sector_len = allocator.sector_len();
     let index = (at / sector_len as u64) as usize;
@@ -178,23 +119,11 @@ pub fn write_along<F: Medium, A: Heap>(
 ) -> Result<(), Error>
     requires placed { (k : ℕ) → k < length bytes.now → IsListed allocator.old ids.now (at + k)
         × (IsKnown allocator.old ids.now (at + k)) }
-    ensures kept { OnlyWrites allocator.old allocator.new }
+        ensures writes { WritesAlong F.tells allocator.old allocator.new ids.now result }
     ensures none { length bytes.now ≡ 0 → OnErr result ⊥ × (allocator.new ≡ allocator.old) }
-    ensures put { IsTrue F.tells → IsDistinct nat_eq ids.now → OnOk result
-        (StandAlong (place_in allocator.old ids.now) at bytes.now allocator.new.file.bytes) }
-    ensures others { IsTrue F.tells → ChangesOnlyPlaces (place_in allocator.old ids.now) at
-        (length bytes.now) allocator.old.file.bytes allocator.new.file.bytes }
-    ensures stops { IsTrue F.tells → IfErr result (λ _. StopsAlong allocator.old.tables.version
-        ids.now at bytes.now allocator.old.file.bytes allocator.new.file.bytes) }
-    ensures spares { IsTrue F.tells → Spares ids.now allocator.old allocator.new }
-    ensures holds { IsTrue F.tells
-        → (validation : Validation) → HoldsTables validation allocator.old
-        → AreDisjoint ids.now (table_sectors allocator.old.tables)
-        → OnOk result (HoldsTables validation allocator.new) }
+        ensures along { PutsAlong F.tells F.write_faults at allocator.old allocator.new ids.now
+            (place_in allocator.old ids.now) (length bytes.now) bytes.now result }
     ensures begun { 0 < length bytes.now → allocator.new.file.begun ≡ true }
-    ensures err { IfErr result IsMediumError }
-    ensures counts { IsTrue F.tells → CountsFailure F.write_faults result
-        allocator.old.file.failures allocator.new.file.failures }
 {
     let sector_len = allocator.sector_len();
     let mut index = (at / sector_len as u64) as usize;
@@ -223,29 +152,10 @@ pub fn zero_run<F: Medium, A: Heap>(
     requires listed { IsListed allocator.old ids.now at }
     requires known { (k : ℕ) → k < count → IsListed allocator.old ids.now (at + k)
         → IsKnown allocator.old ids.now (at + k) }
-    ensures kept { OnlyWrites allocator.old allocator.new }
-    ensures count { IfOk result (λ n.
-        IsLongestRun allocator.old.tables.version ids.now at count n) }
-    ensures some { IfOk result (λ n. (0 < n) × (n ≤ count)) }
-    ensures ok { IsTrue F.tells → IfOk result (λ n. allocator.new.file ≡ record allocator.old.file {
-      bytes = written allocator.old.file.bytes (place_in allocator.old ids.now at) (replicate n 0);
-      len = max allocator.old.file.len (place_in allocator.old ids.now at + n);
-      begun = true;
-    }) }
-    ensures len { MatchResult result (λ n.
-        allocator.new.file.len ≡ max allocator.old.file.len (place_in allocator.old ids.now at + n))
-        (λ _. allocator.new.file.len ≡ allocator.old.file.len) }
-    ensures others { IsTrue F.tells → ChangesOnlyRun allocator.old.tables.version ids.now at count
-        allocator.old.file.bytes allocator.new.file.bytes }
-    ensures spares { IsTrue F.tells → Spares ids.now allocator.old allocator.new }
-    ensures holds { IsTrue F.tells
-        → (validation : Validation) → HoldsTables validation allocator.old
-        → AreDisjoint ids.now (table_sectors allocator.old.tables)
-        → OnOk result (HoldsTables validation allocator.new) }
+        ensures writes { WritesAlong F.tells allocator.old allocator.new ids.now result }
+        ensures run { ZeroesTheRun F.tells F.write_faults at count allocator.old allocator.new
+            ids.now result }
     ensures begun { allocator.new.file.begun ≡ true }
-    ensures err { IfErr result IsMediumError }
-    ensures counts { IsTrue F.tells → CountsFailure F.write_faults result
-        allocator.old.file.failures allocator.new.file.failures }
 {
     let bytes = zeros(count);
     let done = write_run(allocator, ids, at, bytes)?;
@@ -262,24 +172,11 @@ pub fn zero_along<F: Medium, A: Heap>(
 ) -> Result<(), Error>
     requires placed { (k : ℕ) → from ≤ k → k < to → IsListed allocator.old ids.now k
         × IsKnown allocator.old ids.now k }
-    ensures kept { OnlyWrites allocator.old allocator.new }
+        ensures writes { WritesAlong F.tells allocator.old allocator.new ids.now result }
     ensures none { to ≤ from → OnErr result ⊥ × (allocator.new ≡ allocator.old) }
-    ensures put { IsTrue F.tells → IsDistinct nat_eq ids.now
-        → OnOk result (StandAlong (place_in allocator.old ids.now) from
-        (replicate (to - from) 0) allocator.new.file.bytes) }
-    ensures others { IsTrue F.tells → ChangesOnlyPlaces (place_in allocator.old ids.now) from
-        (to - from) allocator.old.file.bytes allocator.new.file.bytes }
-    ensures stops { IsTrue F.tells → IfErr result (λ _. StopsAlong allocator.old.tables.version
-        ids.now from (replicate (to - from) 0) allocator.old.file.bytes allocator.new.file.bytes) }
-    ensures spares { IsTrue F.tells → Spares ids.now allocator.old allocator.new }
-    ensures holds { IsTrue F.tells
-        → (validation : Validation) → HoldsTables validation allocator.old
-        → AreDisjoint ids.now (table_sectors allocator.old.tables)
-        → OnOk result (HoldsTables validation allocator.new) }
+        ensures along { PutsAlong F.tells F.write_faults from allocator.old allocator.new ids.now
+            (place_in allocator.old ids.now) (to - from) (replicate (to - from) 0) result }
     ensures begun { from < to → allocator.new.file.begun ≡ true }
-    ensures err { IfErr result IsMediumError }
-    ensures counts { IsTrue F.tells → CountsFailure F.write_faults result
-        allocator.old.file.failures allocator.new.file.failures }
 {
     let mut at = from;
     while at < to {

@@ -1,5 +1,7 @@
 //! A medium as sectors (MS-CFB 2.1).
 ghost use Rattle.std.specs.Prelude.{◌≡◌, ◌≢◌, ◌+◌, ◌^◌, ◌*◌, ◌<◌, ◌≤◌, ◌-◌, ℕ, Bool, true, false, min, max, length, take, drop, replicate, IsTrue, OnOk, OnErr, IfOk, IfErr, IsErrAnd, MatchResult, Ok};
+ghost use Rattle.cfb_sectors.specs.Writing.{WriteRefusedBehind, WriteRefusedAtSector, ChangesOnlyThere, ChangesOneSector, WritesOnlyUntil, WritesBeganUntil, PutsBytes};
+ghost use Rattle.cfb_sectors.specs.Reading.{OnlyReadsSectors, ReadsBytesFrom, RefusedBehind};
 ghost use Rattle.cfb_format.specs.Bytes.{sector_len, words_per_sector, sector_words, words, word_at};
 ghost use Rattle.cfb_format.specs.Medium.{part, written, ChangesOnlyBytes};
 ghost use Rattle.cfb_format.specs.DirectoryEntry.{entry_bytes, unallocated_entry};
@@ -209,17 +211,10 @@ impl<F: ReadMedium> Sectors<F> {
 
     /// Reads what is there of the bytes from `at` on, as far as `into` has room.
     pub fn read_at(&mut self, at: u64, into: &mut [u8]) -> Result<usize, Error>
-        ensures kept { self.new
-            ≡ record self.old { bytes = self.new.bytes; failures = self.new.failures } }
-        ensures count { IfOk result (λ n. n ≡ min (length into.old) (self.old.len - at)) }
-        ensures ok { IsTrue F.tells
-            → IfOk result (λ n. take n into.new ≡ part self.old.bytes at n) }
-        ensures rest { IfOk result (λ n. drop n into.new ≡ drop n into.old) }
+        ensures reads { OnlyReadsSectors F.tells F.read_faults self.old self.new result }
+        ensures part { ReadsBytesFrom F.tells at into.old into.new self.old.bytes
+            (min (length into.old) (self.old.len - at)) result }
         ensures err { IfErr result IsMediumError }
-        ensures same { IsTrue F.tells → OnOk result (self.new ≡ self.old) }
-        ensures bytes { IsTrue F.tells → self.new.bytes ≡ self.old.bytes }
-        ensures counts { IsTrue F.tells
-            → CountsFailure F.read_faults result self.old.failures self.new.failures }
     {
         let there = self.len.saturating_sub(at);
         let count = (into.len() as u64).min(there) as usize;
@@ -242,21 +237,13 @@ impl<F: ReadMedium> Sectors<F> {
         into: &mut [u8],
     ) -> Result<usize, Error>
         requires { offset ≤ sector_len self.old.version }
-        ensures kept { self.new
-            ≡ record self.old { bytes = self.new.bytes; failures = self.new.failures } }
-        ensures count { IfOk result (λ n. n
-            ≡ min (length into.old) (self.old.len - place_in_sector self.old sector offset)) }
-        ensures ok { IsTrue F.tells → IfOk result (λ n. take n into.new
-            ≡ part self.old.bytes (place_in_sector self.old sector offset) n) }
-        ensures rest { IfOk result (λ n. drop n into.new ≡ drop n into.old) }
-        ensures past { sectors_end self.old < place_in_sector self.old sector offset
-            + length into.old → IsErrAnd result IsInvalidData × (self.new ≡ self.old) }
-        ensures inside { place_in_sector self.old sector offset + length into.old
-            ≤ sectors_end self.old → IfErr result IsMediumError }
-        ensures same { IsTrue F.tells → OnOk result (self.new ≡ self.old) }
-        ensures bytes { IsTrue F.tells → self.new.bytes ≡ self.old.bytes }
-        ensures counts { IsTrue F.tells
-            → CountsFailure F.read_faults result self.old.failures self.new.failures }
+        ensures reads { OnlyReadsSectors F.tells F.read_faults self.old self.new result }
+        ensures part { ReadsBytesFrom F.tells (place_in_sector self.old sector offset) into.old
+            into.new self.old.bytes
+            (min (length into.old) (self.old.len - place_in_sector self.old sector offset)) result }
+        ensures error { RefusedBehind self.old self.new
+            (place_in_sector self.old sector offset + length into.old) (sectors_end self.old) result
+            }
     {
         let at = self.place_of(sector, offset, into.len())?;
         self.read_at(at, into)
@@ -266,18 +253,11 @@ impl<F: ReadMedium> Sectors<F> {
     /// exactly where the file ends before that, and `Medium` where the medium fails.
     pub fn read_exact(&mut self, sector: u32, offset: usize, into: &mut [u8]) -> Result<(), Error>
         requires { offset ≤ sector_len self.old.version }
-        ensures kept { self.new
-            ≡ record self.old { bytes = self.new.bytes; failures = self.new.failures } }
+        ensures reads { OnlyReadsSectors F.tells F.read_faults self.old self.new result }
         ensures ok { IsTrue F.tells → OnOk result (into.new
             ≡ part self.old.bytes (place_in_sector self.old sector offset) (length into.old)) }
-        ensures past { self.old.len < place_in_sector self.old sector offset + length into.old
-            → IsErrAnd result IsInvalidData × (self.new ≡ self.old) }
-        ensures inside { place_in_sector self.old sector offset + length into.old ≤ self.old.len
-            → IfErr result IsMediumError }
-        ensures same { IsTrue F.tells → OnOk result (self.new ≡ self.old) }
-        ensures bytes { IsTrue F.tells → self.new.bytes ≡ self.old.bytes }
-        ensures counts { IsTrue F.tells
-            → CountsFailure F.read_faults result self.old.failures self.new.failures }
+        ensures error { RefusedBehind self.old self.new
+            (place_in_sector self.old sector offset + length into.old) self.old.len result }
     {
         let at = self.place(sector, offset);
         if at > self.len || into.len() as u64 > self.len - at {
@@ -291,18 +271,11 @@ impl<F: ReadMedium> Sectors<F> {
     #[tactic(auto, using(crate::proofs::WordLemmas::word_of_part))]
     pub fn read_word(&mut self, sector: u32, index: usize) -> Result<u32, Error>
         requires { index < words_per_sector self.old.version }
-        ensures kept { self.new
-            ≡ record self.old { bytes = self.new.bytes; failures = self.new.failures } }
+        ensures reads { OnlyReadsSectors F.tells F.read_faults self.old self.new result }
         ensures ok { IsTrue F.tells → IfOk result (λ word. word
             ≡ word_at self.old.bytes (place_in_sector self.old sector (4 * index))) }
-        ensures past { self.old.len < place_in_sector self.old sector (4 * index) + 4
-            → IsErrAnd result IsInvalidData × (self.new ≡ self.old) }
-        ensures inside { place_in_sector self.old sector (4 * index) + 4 ≤ self.old.len
-            → IfErr result IsMediumError }
-        ensures same { IsTrue F.tells → OnOk result (self.new ≡ self.old) }
-        ensures bytes { IsTrue F.tells → self.new.bytes ≡ self.old.bytes }
-        ensures counts { IsTrue F.tells
-            → CountsFailure F.read_faults result self.old.failures self.new.failures }
+        ensures error { RefusedBehind self.old self.new
+            (place_in_sector self.old sector (4 * index) + 4) self.old.len result }
     {
         let mut bytes = [0; 4];
         self.read_exact(sector, 4 * index, &mut bytes)?;
@@ -313,18 +286,11 @@ impl<F: ReadMedium> Sectors<F> {
     /// and `Medium` where the medium fails.
     pub fn read_words(&mut self, sector: u32, into: &mut [u32]) -> Result<(), Error>
         requires { length into.old ≡ words_per_sector self.old.version }
-        ensures kept { self.new
-            ≡ record self.old { bytes = self.new.bytes; failures = self.new.failures } }
+        ensures reads { OnlyReadsSectors F.tells F.read_faults self.old self.new result }
         ensures ok { IsTrue F.tells
             → OnOk result (into.new ≡ sector_words self.old.version self.old.bytes sector) }
-        ensures past { self.old.len < place_in_sector self.old sector (sector_len self.old.version)
-            → IsErrAnd result IsInvalidData × (self.new ≡ self.old) }
-        ensures inside { place_in_sector self.old sector (sector_len self.old.version)
-            ≤ self.old.len → IfErr result IsMediumError }
-        ensures same { IsTrue F.tells → OnOk result (self.new ≡ self.old) }
-        ensures bytes { IsTrue F.tells → self.new.bytes ≡ self.old.bytes }
-        ensures counts { IsTrue F.tells
-            → CountsFailure F.read_faults result self.old.failures self.new.failures }
+        ensures error { RefusedBehind self.old self.new
+            (place_in_sector self.old sector (sector_len self.old.version)) self.old.len result }
     {
         let mut buffer = zeros();
         let len = self.sector_len();
@@ -341,23 +307,9 @@ impl<F: Medium> Sectors<F> {
     pub fn write_at(&mut self, at: u64, from: &[u8]) -> Result<(), Error>
         requires some { 0 < length from.now }
         requires inside { at + length from.now ≤ sectors_end self.old }
-        ensures ok { IsTrue F.tells → OnOk result (self.new ≡ record self.old {
-          bytes = written self.old.bytes at from.now;
-          len = max self.old.len (at + length from.now);
-          begun = true;
-        }) }
-        ensures kept { self.new ≡ record self.old {
-          len = self.new.len;
-          bytes = self.new.bytes;
-          failures = self.new.failures;
-          begun = true;
-        } }
-        ensures len { MatchResult result (λ _. self.new.len ≡ max self.old.len (at
-            + length from.now)) (λ e. IsMediumError e × (self.new.len ≡ self.old.len)) }
-        ensures others { IsTrue F.tells
-            → ChangesOnlyBytes at (length from.now) self.old.bytes self.new.bytes }
-        ensures counts { IsTrue F.tells
-            → CountsFailure F.write_faults result self.old.failures self.new.failures }
+        ensures put { PutsBytes F.tells F.write_faults at from.now self.old self.new
+            (at + length from.now) (length from.now) result }
+        ensures kept { WritesBeganUntil self.old self.new (at + length from.now) result }
     {
         self.begun = true;
         write_all_at(&mut self.medium, at, from).map_err(Error::Medium)?;
@@ -377,28 +329,13 @@ impl<F: Medium> Sectors<F> {
           len = max self.old.len (place_in_sector self.old sector offset + length from.now);
           begun = true;
         }) }
-        ensures kept { self.new ≡ record self.old {
-          len = self.new.len;
-          bytes = self.new.bytes;
-          failures = self.new.failures;
-          begun = self.new.begun;
-        } }
-        ensures len { MatchResult result (λ _. self.new.len
-            ≡ max self.old.len (place_in_sector self.old sector offset + length from.now)) (λ _.
-            self.new.len ≡ self.old.len) }
-        ensures past { sectors_end self.old < place_in_sector self.old sector offset
-            + length from.now → IsErrAnd result IsInvalidData × (self.new ≡ self.old) }
-        ensures inside { place_in_sector self.old sector offset + length from.now
-            ≤ sectors_end self.old → IfErr result IsMediumError × (self.new.begun ≡ true) }
-        ensures others { IsTrue F.tells → ChangesOnlyBytes (place_in_sector self.old sector offset)
-            (length from.now) self.old.bytes self.new.bytes }
-        ensures sectors { IsTrue F.tells
-            → OtherSectorsStay self.old.version (place_in_sector self.old sector offset)
-            (length from.now) self.old.bytes self.new.bytes }
-        ensures words { IsTrue F.tells → OtherWordsStay (place_in_sector self.old sector offset)
-            (length from.now) self.old.bytes self.new.bytes }
-        ensures counts { IsTrue F.tells
-            → CountsFailure F.write_faults result self.old.failures self.new.failures }
+        ensures kept { WritesOnlyUntil self.old self.new
+            (place_in_sector self.old sector offset + length from.now) result }
+        ensures error { WriteRefusedBehind self.old self.new
+            (place_in_sector self.old sector offset + length from.now) (sectors_end self.old) result
+            }
+        ensures there { ChangesOnlyThere F.tells F.write_faults self.old self.new
+            (place_in_sector self.old sector offset) (length from.now) result }
     {
         let at = self.place_of(sector, offset, from.len())?;
         self.write_at(at, from)
@@ -415,27 +352,11 @@ impl<F: Medium> Sectors<F> {
           len = max self.old.len (place_in_sector self.old sector (4 * index) + 4);
           begun = true;
         }) }
-        ensures kept { self.new ≡ record self.old {
-          len = self.new.len;
-          bytes = self.new.bytes;
-          failures = self.new.failures;
-          begun = self.new.begun;
-        } }
-        ensures len { MatchResult result (λ _. self.new.len
-            ≡ max self.old.len (place_in_sector self.old sector (4 * index) + 4)) (λ _. self.new.len
-            ≡ self.old.len) }
-        ensures past { self.old.num_sectors ≤ sector
-            → IsErrAnd result IsInvalidData × (self.new ≡ self.old) }
-        ensures inside { sector < self.old.num_sectors
-            → IfErr result IsMediumError × (self.new.begun ≡ true) }
-        ensures others { IsTrue F.tells → ChangesOnlyBytes (place_in_sector self.old sector (4
-            * index)) 4 self.old.bytes self.new.bytes }
-        ensures sectors { IsTrue F.tells
-            → (i : ℕ) → i ≢ sector → SectorStays self.old.version i self.old.bytes self.new.bytes }
-        ensures words { IsTrue F.tells → OtherWordsStay (place_in_sector self.old sector (4
-            * index)) 4 self.old.bytes self.new.bytes }
-        ensures counts { IsTrue F.tells
-            → CountsFailure F.write_faults result self.old.failures self.new.failures }
+        ensures kept { WritesOnlyUntil self.old self.new
+            (place_in_sector self.old sector (4 * index) + 4) result }
+        ensures error { WriteRefusedAtSector sector self.old self.new result }
+        ensures there { ChangesOneSector F.tells F.write_faults sector self.old self.new
+            (place_in_sector self.old sector (4 * index)) 4 result }
     {
         self.write_contiguous(sector, 4 * index, &value.to_le_bytes())
     }
@@ -490,14 +411,8 @@ impl<F: Medium> Sectors<F> {
         ensures len { MatchResult result (λ _. self.new.len
             ≡ max self.old.len (place_in_sector self.old sector (sector_len self.old.version)))
             (λ _. self.new.len ≡ self.old.len) }
-        ensures others { IsTrue F.tells → ChangesOnlyBytes (place_in_sector self.old sector 0)
-            (sector_len self.old.version) self.old.bytes self.new.bytes }
-        ensures sectors { IsTrue F.tells
-            → (i : ℕ) → i ≢ sector → SectorStays self.old.version i self.old.bytes self.new.bytes }
-        ensures words { IsTrue F.tells → OtherWordsStay (place_in_sector self.old sector 0)
-            (sector_len self.old.version) self.old.bytes self.new.bytes }
-        ensures counts { IsTrue F.tells
-            → CountsFailure F.write_faults result self.old.failures self.new.failures }
+        ensures there { ChangesOneSector F.tells F.write_faults sector self.old self.new
+            (place_in_sector self.old sector 0) (sector_len self.old.version) result }
     {
         let num_sectors = self.num_sectors();
         if sector > num_sectors {
@@ -511,24 +426,11 @@ impl<F: Medium> Sectors<F> {
     /// Writes what a fresh sector holds at `at`.
     fn write_fresh(&mut self, at: u64, init: SectorInit) -> Result<(), Error>
         requires { at + sector_len self.old.version ≤ sectors_end self.old }
-        ensures ok { IsTrue F.tells → OnOk result (self.new ≡ record self.old {
-          bytes = written self.old.bytes at (init_bytes self.old.version init);
-          len = max self.old.len (at + sector_len self.old.version);
-          begun = true;
-        }) }
-        ensures kept { self.new ≡ record self.old {
-          len = self.new.len;
-          bytes = self.new.bytes;
-          failures = self.new.failures;
-          begun = true;
-        } }
-        ensures len { MatchResult result
-            (λ _. self.new.len ≡ max self.old.len (at + sector_len self.old.version))
-            (λ e. IsMediumError e × (self.new.len ≡ self.old.len)) }
-        ensures others { IsTrue F.tells
-            → ChangesOnlyBytes at (sector_len self.old.version) self.old.bytes self.new.bytes }
-        ensures counts { IsTrue F.tells
-            → CountsFailure F.write_faults result self.old.failures self.new.failures }
+        ensures put { PutsBytes F.tells F.write_faults at (init_bytes self.old.version init)
+            self.old self.new (at + sector_len self.old.version) (sector_len self.old.version)
+            result }
+        ensures kept { WritesBeganUntil self.old self.new (at + sector_len self.old.version) result
+            }
     {
         match init {
             SectorInit::Zero => self.write_at(at, zero_sector(self.version())),
@@ -682,6 +584,7 @@ pub struct Sector<'a, F: ReadMedium> {
 impl<F: ReadMedium> Sectors<F> {
     ghost use Rattle.std.specs.Borrow.{sem};
     ghost use Rattle.cfb_sectors.specs.Lent.{file_of, start_of, len_of, offset_of, sectors_rest};
+    ghost use Rattle.cfb_sectors.specs.Lending.{IsLentSector};
 
     /// Lends the header, from this byte on.
     pub fn seek_within_header(&mut self, offset: usize) -> Sector<'_, F>
@@ -707,8 +610,7 @@ impl<F: ReadMedium> Sectors<F> {
         ensures file { IfOk result (λ s. (file_of s).now ≡ self.old) }
         ensures there { IfOk result (λ s. (start_of s ≡ place_in_sector self.old sector 0)
             × (len_of s ≡ sector_len self.old.version) × (offset_of s ≡ 0)) }
-        ensures known { IfOk result (λ s. sector < self.old.num_sectors) }
-        ensures past { IfErr result (λ e. IsInvalidData e × (self.old.num_sectors ≤ sector)) }
+        ensures sector { IsLentSector sector self.old.num_sectors result }
     {
         self.seek_within_sector(sector, 0)
     }
@@ -721,8 +623,7 @@ impl<F: ReadMedium> Sectors<F> {
         ensures file { IfOk result (λ s. (file_of s).now ≡ self.old) }
         ensures there { IfOk result (λ s. (start_of s ≡ place_in_sector self.old sector 0)
             × (len_of s ≡ sector_len self.old.version) × (offset_of s ≡ offset)) }
-        ensures known { IfOk result (λ s. sector < self.old.num_sectors) }
-        ensures past { IfErr result (λ e. IsInvalidData e × (self.old.num_sectors ≤ sector)) }
+        ensures sector { IsLentSector sector self.old.num_sectors result }
     {
         if sector >= self.num_sectors() {
             return Err(beyond(sector, self.num_sectors()));
@@ -740,6 +641,7 @@ impl<F: ReadMedium> Sectors<F> {
 
 impl<'a, F: ReadMedium> Sector<'a, F> {
     ghost use Rattle.cfb_sectors.specs.Lent.{file_of, start_of, len_of, offset_of, place_of, room_of};
+    ghost use Rattle.cfb_sectors.specs.Lending.{MovesOn};
 
     /// How long it is, in bytes.
     pub fn len(&self) -> usize
@@ -794,29 +696,14 @@ impl<'a, F: ReadMedium> Sector<'a, F> {
     /// file goes, goes on behind it, and answers how many bytes it is. `Medium` where the medium
     /// fails.
     pub fn read(&mut self, into: &mut [u8]) -> Result<usize, Error>
-        ensures same_file { (file_of self.new).ghost_name ≡ (file_of self.old).ghost_name }
-        ensures place { (start_of self.new ≡ start_of self.old)
-            × (len_of self.new ≡ len_of self.old) }
-        ensures kept { (file_of self.new).now
-            ≡ record (file_of self.old).now {
-              bytes = (file_of self.new).now.bytes;
-              failures = (file_of self.new).now.failures;
-            } }
-        ensures count { IfOk result (λ n. n
-            ≡ min (min (length into.old) (room_of self.old)) ((file_of self.old).now.len
-            - place_of self.old)) }
-        ensures offset { MatchResult result (λ n. offset_of self.new
-            ≡ offset_of self.old + n) (λ _. offset_of self.new ≡ offset_of self.old) }
-        ensures ok { IsTrue F.tells → IfOk result (λ n. take n into.new
-            ≡ part (file_of self.old).now.bytes (place_of self.old) n) }
-        ensures rest { IfOk result (λ n. drop n into.new ≡ drop n into.old) }
+        ensures moves { MovesOn self.old self.new result }
+        ensures reads { OnlyReadsSectors F.tells F.read_faults (file_of self.old).now
+            (file_of self.new).now result }
+        ensures part { ReadsBytesFrom F.tells (place_of self.old) into.old into.new
+            (file_of self.old).now.bytes
+            (min (min (length into.old) (room_of self.old)) ((file_of self.old).now.len -
+            place_of self.old)) result }
         ensures err { IfErr result IsMediumError }
-        ensures same { IsTrue F.tells
-            → OnOk result ((file_of self.new).now ≡ (file_of self.old).now) }
-        ensures bytes { IsTrue F.tells
-            → (file_of self.new).now.bytes ≡ (file_of self.old).now.bytes }
-        ensures counts { IsTrue F.tells → CountsFailure F.read_faults result
-            (file_of self.old).now.failures (file_of self.new).now.failures }
     {
         let room = into.len().min(self.remaining());
         let count = self
@@ -829,46 +716,18 @@ impl<'a, F: ReadMedium> Sector<'a, F> {
 
 impl<'a, F: Medium> Sector<'a, F> {
     ghost use Rattle.cfb_sectors.specs.Lent.{file_of, start_of, len_of, offset_of, place_of, room_of};
+    ghost use Rattle.cfb_sectors.specs.Lending.{MovesOn, WritesIn};
 
     /// Writes a beginning of `from` at its place, as far as the sector has room, goes on behind it,
     /// and answers how many bytes it is. `Medium` where the medium fails: then no byte has changed
     /// but where that beginning was to go, and past the old end.
     pub fn write(&mut self, from: &[u8]) -> Result<usize, Error>
-        ensures same_file { (file_of self.new).ghost_name ≡ (file_of self.old).ghost_name }
-        ensures place { (start_of self.new ≡ start_of self.old)
-            × (len_of self.new ≡ len_of self.old) }
-        ensures count { IfOk result (λ n. n ≡ min (length from.now) (room_of self.old)) }
-        ensures offset { MatchResult result (λ n. offset_of self.new
-            ≡ offset_of self.old + n) (λ _. offset_of self.new ≡ offset_of self.old) }
-        ensures ok { IsTrue F.tells
-            → IfOk result (λ n. 0 < n → (file_of self.new).now ≡ record (file_of self.old).now {
-              bytes = written (file_of self.old).now.bytes (place_of self.old) (take n from.now);
-              len = max (file_of self.old).now.len (place_of self.old + n);
-              begun = true;
-            }) }
-        ensures none { min (length from.now) (room_of self.old) ≡ 0
-            → (result ≡ Ok 0) × ((file_of self.new).now ≡ (file_of self.old).now) }
-        ensures kept { 0 < min (length from.now) (room_of self.old) → (file_of self.new).now
-            ≡ record (file_of self.old).now {
-              len = (file_of self.new).now.len;
-              bytes = (file_of self.new).now.bytes;
-              failures = (file_of self.new).now.failures;
-              begun = true;
-            } }
-        ensures len { MatchResult result (λ n. 0 < n → (file_of self.new).now.len
-            ≡ max (file_of self.old).now.len (place_of self.old + n)) (λ e. IsMediumError e
-            × ((file_of self.new).now.len ≡ (file_of self.old).now.len)) }
-        ensures others { IsTrue F.tells
-            → ChangesOnlyBytes (place_of self.old) (min (length from.now) (room_of self.old))
-            (file_of self.old).now.bytes (file_of self.new).now.bytes }
-        ensures sectors { IsTrue F.tells → OtherSectorsStay (file_of self.old).now.version
-            (place_of self.old) (min (length from.now) (room_of self.old))
-            (file_of self.old).now.bytes (file_of self.new).now.bytes }
-        ensures words { IsTrue F.tells
-            → OtherWordsStay (place_of self.old) (min (length from.now) (room_of self.old))
-            (file_of self.old).now.bytes (file_of self.new).now.bytes }
-        ensures counts { IsTrue F.tells → CountsFailure F.write_faults result
-            (file_of self.old).now.failures (file_of self.new).now.failures }
+        ensures moves { MovesOn self.old self.new result }
+        ensures written { WritesIn F.tells from.now (file_of self.old).now (file_of self.new).now
+            (min (length from.now) (room_of self.old)) (place_of self.old) result }
+        ensures there { ChangesOnlyThere F.tells F.write_faults (file_of self.old).now
+            (file_of self.new).now (place_of self.old) (min (length from.now) (room_of self.old))
+            result }
     {
         let count = from.len().min(self.remaining());
         if count == 0 {

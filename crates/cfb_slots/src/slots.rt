@@ -1,5 +1,6 @@
 //! The slots of the directory, by their places in its sectors (MS-CFB 2.6).
 ghost use Rattle.std.specs.Prelude.{◌≡◌, ◌↔◌, ℕ, List, ◌∷◌, [], ◌++◌, ◌+◌, ◌*◌, ◌/◌, ◌^◌, ◌<◌, ◌≤◌, true, length, nat_eq, slice_index, Contains, IsTrue, IfErr, OnOk};
+ghost use Rattle.cfb_slots.specs.Writing.{WritesSlot, WritesAmongSectors, PutsEntry};
 ghost use Rattle.std.specs.List.{IsDistinct};
 ghost use Rattle.cfb_format.specs.declared.validate.Validation.{Validation};
 ghost use Rattle.cfb_format.specs.Bytes.{entries_per_sector, sector_start};
@@ -49,30 +50,11 @@ fn write_slot<F: Medium, A: Heap>(
 ) -> Result<(), Error>
     requires there { sector < length allocator.old.tables.fat }
     requires within { index < entries_per_sector allocator.old.tables.version }
-    ensures tables { allocator.new.tables ≡ allocator.old.tables }
-    ensures kept { allocator.new.file ≡ record allocator.old.file {
-      len = allocator.new.file.len;
-      bytes = allocator.new.file.bytes;
-      failures = allocator.new.file.failures;
-      begun = allocator.new.file.begun;
-    } }
-    ensures ok { IsTrue F.tells → OnOk result (allocator.new.file.bytes
-        ≡ written allocator.old.file.bytes (sector_start allocator.old.tables.version sector
-        + index * 128) slot.now) }
-    ensures begun { allocator.new.file.begun ≡ true }
-    ensures err { IfErr result (HasReason (record no_error {
-      medium = λ f. allocator.new.file.begun
-          ≡ true;
-    })) }
+        ensures writes { WritesSlot F.tells F.write_faults sector index allocator.old allocator.new
+            slot.now result }
     ensures holds { IsTrue F.tells → (validation : Validation)
         → HoldsTables validation allocator.old → IsNoTableSector allocator.old.tables sector
         → OnOk result (HoldsTables validation allocator.new) }
-    ensures spares { IsTrue F.tells → Spares (sector ∷ []) allocator.old allocator.new }
-    ensures others { IsTrue F.tells
-        → ChangesOnlyBytes (sector_start allocator.old.tables.version sector
-        + index * 128) 128 allocator.old.file.bytes allocator.new.file.bytes }
-    ensures counts { IsTrue F.tells → CountsFailure
-        F.write_faults result allocator.old.file.failures allocator.new.file.failures }
 {
     let len = allocator.file_len();
     let _fact = len;
@@ -99,25 +81,10 @@ pub fn write_entry<F: Medium, A: Heap>(
         ≤ max_name_len }
     requires places { HavePlaces allocator.old.tables.version sectors.now
         (length entries.now) (length allocator.old.tables.fat) }
-    ensures tables { allocator.new.tables ≡ allocator.old.tables }
-    ensures kept { allocator.new.file ≡ record allocator.old.file {
-      len = allocator.new.file.len;
-      bytes = allocator.new.file.bytes;
-      failures = allocator.new.file.failures;
-      begun = allocator.new.file.begun;
-    } }
-    ensures ok { IsTrue F.tells → OnOk result (allocator.new.file.bytes
-        ≡ written allocator.old.file.bytes (slot_place allocator.old.tables.version
-        sectors.now number) (entry_bytes (entry_at (entries_of entries.now) number))) }
-    ensures begun { allocator.new.file.begun ≡ true }
-    ensures err { IfErr result (HasReason (record no_error {
-      medium = λ f. allocator.new.file.begun
-          ≡ true;
-    })) }
-    ensures holds { IsTrue F.tells
-        → (validation : Validation) → HoldsTables validation allocator.old
-        → ((i : ℕ) → Contains sectors.now i → IsNoTableSector allocator.old.tables i)
-        → OnOk result (HoldsTables validation allocator.new) }
+        ensures among { WritesAmongSectors F.tells F.write_faults allocator.old allocator.new
+            sectors.now result }
+        ensures puts { PutsEntry F.tells number allocator.old allocator.new sectors.now
+            (entries_of entries.now) result }
     ensures slots { IsTrue F.tells
         → (validation : Validation) → (late : List ℕ) → HoldSlotsBut (number ∷ late) validation
         allocator.old.tables.version allocator.old.file.bytes sectors.now (entries_of entries.now)
@@ -126,11 +93,6 @@ pub fn write_entry<F: Medium, A: Heap>(
         → IsDistinct nat_eq sectors.now
         → OnOk result (HoldSlotsBut late validation allocator.old.tables.version
         allocator.new.file.bytes sectors.now (entries_of entries.now)) }
-    ensures spares { IsTrue F.tells → Spares sectors.now allocator.old allocator.new }
-    ensures others { IsTrue F.tells → ChangesSlots (number ∷ [])
-        allocator.old.tables.version sectors.now allocator.old.file.bytes allocator.new.file.bytes }
-    ensures counts { IsTrue F.tells → CountsFailure
-        F.write_faults result allocator.old.file.failures allocator.new.file.failures }
 {
     let entry = &entries[number as usize];
     entry_fits(entry);
@@ -154,23 +116,14 @@ pub fn write_entries<F: Medium, A: Heap>(
         → length (utf16_units (entry_at (entries_of entries.now) k).name) ≤ max_name_len }
     requires places { HavePlaces allocator.old.tables.version sectors.now
         (length entries.now) (length allocator.old.tables.fat) }
-    ensures tables { allocator.new.tables ≡ allocator.old.tables }
-    ensures kept { allocator.new.file ≡ record allocator.old.file {
-      len = allocator.new.file.len;
-      bytes = allocator.new.file.bytes;
-      failures = allocator.new.file.failures;
-      begun = allocator.new.file.begun;
-    } }
+        ensures among { WritesAmongSectors F.tells F.write_faults allocator.old allocator.new
+            sectors.now result }
     ensures begun { OnOk result (IsRaised (0
         < length touched.now) allocator.old.file allocator.new.file) }
     ensures err { IfErr result (HasReason (record no_error {
       medium = λ f. allocator.new.file.begun
           ≡ true;
     })) }
-    ensures holds { IsTrue F.tells
-        → (validation : Validation) → HoldsTables validation allocator.old
-        → ((i : ℕ) → Contains sectors.now i → IsNoTableSector allocator.old.tables i)
-        → OnOk result (HoldsTables validation allocator.new) }
     ensures slots { IsTrue F.tells
         → (validation : Validation) → (late : List ℕ) → HoldSlotsBut (touched.now
         ++ late) validation allocator.old.tables.version allocator.old.file.bytes sectors.now
@@ -180,11 +133,8 @@ pub fn write_entries<F: Medium, A: Heap>(
         → IsDistinct nat_eq sectors.now
         → OnOk result (HoldSlotsBut late validation allocator.old.tables.version
         allocator.new.file.bytes sectors.now (entries_of entries.now)) }
-    ensures spares { IsTrue F.tells → Spares sectors.now allocator.old allocator.new }
     ensures others { IsTrue F.tells → ChangesSlots touched.now
         allocator.old.tables.version sectors.now allocator.old.file.bytes allocator.new.file.bytes }
-    ensures counts { IsTrue F.tells → CountsFailure
-        F.write_faults result allocator.old.file.failures allocator.new.file.failures }
 {
     for number in touched {
         write_entry(allocator, sectors, entries, *number)?;

@@ -2,3 +2,4 @@ pub use Rattle.cfb_rules.specs as cfb_rules
 pub mod Contents
 pub mod Buffers
 pub mod Touched
+pub mod Steps

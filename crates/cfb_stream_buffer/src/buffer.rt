@@ -1,5 +1,6 @@
 //! A piece of a stream in memory. Places and lengths are in bytes.
 ghost use Rattle.std.specs.Prelude.{◌≡◌, ◌+◌, ◌*◌, ◌-◌, ◌<◌, ◌≤◌, min, max, [], OnOk, OnErr, IfOk, IfErr, length, take, drop, ◌++◌, replicate, vec_len, vec_capacity};
+ghost use Rattle.cfb_stream_buffer.specs.Steps.{ReadsStored, RefillRefused, ReadsFront, FrontRefused};
 ghost use Rattle.cfb_stream_buffer.specs.Contents.{IsRefusedRead, ReadsPart};
 ghost use Rattle.cfb_stream_buffer.specs.Touched.{HasSameFlags, IsRead};
 ghost use Rattle.cfb_stream_buffer.specs.Buffers.{bytes_in, room_in, emptied, put_over, RefilledFrom, RefillStays};
@@ -198,14 +199,8 @@ impl<A: Allocator> StreamBuffer<A> {
         ensures most { OnOk result (length self.new.filled ≤ left) }
         ensures stays { RefillStays self.old self.new }
         ensures emptied { OnErr result (self.new ≡ emptied self.old) }
-        ensures there { C.has content.new id }
-        ensures any { HasSameFlags C.ReadContents content.old content.new id }
-        ensures around { C.tells content.old
-            → IsRead C.ReadContents content.old content.new id result }
-        ensures ok { C.tells content.old → at < (C.stored content.old id).size
-            → OnOk result (RefilledFrom (C.stored content.old id).content at self.new) }
-        ensures refused { C.tells content.old → at < (C.stored content.old id).size
-            → IfErr result (IsRefusedRead (C.stored content.old id) at) }
+        ensures reads { ReadsStored C.ReadContents content.old content.new id result }
+        ensures stored { RefillRefused C.ReadContents at content.old id self.new result }
     {
         let Some(memory) = &mut self.memory else {
             unreachable!()
@@ -229,16 +224,9 @@ pub fn read_front<C: ReadContents>(
     requires there { C.has content.old id }
     requires some { 0 < left }
     requires room { 0 < length into.old }
-    ensures bound { IfOk result (λ n. n ≤ length into.new) }
-    ensures rest { IfOk result (λ n. drop n into.new ≡ drop n into.old) }
-    ensures most { IfOk result (λ n. n ≤ left) }
-    ensures there { C.has content.new id }
-    ensures any { HasSameFlags C.ReadContents content.old content.new id }
-    ensures around { C.tells content.old → IsRead C.ReadContents content.old content.new id result }
-    ensures ok { C.tells content.old → at < (C.stored content.old id).size
-        → IfOk result (ReadsPart (C.stored content.old id).content at into.new) }
-    ensures refused { C.tells content.old → at < (C.stored content.old id).size
-        → IfErr result (IsRefusedRead (C.stored content.old id) at) }
+        ensures front { ReadsFront left into.old into.new result }
+        ensures reads { ReadsStored C.ReadContents content.old content.new id result }
+        ensures stored { FrontRefused C.ReadContents at content.old id into.new result }
 {
     let most = into.len().min(left as usize);
     content.read_at(id, at, &mut into[..most])

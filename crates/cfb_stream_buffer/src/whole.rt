@@ -1,5 +1,6 @@
 //! Contents that are read and written whole, call by call, and given up.
 ghost use Rattle.std.specs.Prelude.{◌≡◌, ◌+◌, ◌-◌, ◌^◌, ◌<◌, ◌≤◌, ◌++◌, ◌||◌, ℕ, true, false, OnOk, OnErr, IfErr, length, take, drop};
+ghost use Rattle.cfb_stream_buffer.specs.Steps.{ReadsStored, StaysBefore, ReadsInto, ReadsWhole, GivesUp, WritesStored, WritesStoredInside, TakesNoRoom, WritesAllStored, WritesInsideStored};
 ghost use Rattle.cfb_format.specs.Refused.{CountsFailure, IsBreak};
 ghost use Rattle.cfb_stream_buffer.specs.Contents.{Fails, SameLimits, TakesBytes, stored_after_write};
 ghost use Rattle.cfb_stream_buffer.specs.Touched.{HasMayFail, HasSameFlags, IsRead, LacksRoomUpTo};
@@ -11,17 +12,7 @@ use std::alloc::Allocator;
 /// The file has failed where that is to be.
 pub fn give_up<C: Contents>(content: &mut C, id: u32, is_lost: bool)
     requires there { C.has content.old id }
-    ensures there { C.has content.new id }
-    ensures setting { C.setting content.new ≡ C.setting content.old }
-    ensures told { C.tells content.old → C.tells content.new }
-    ensures others { C.tells content.old → (first : C) → C.keeps id first content.old
-        → C.keeps id first content.new }
-    ensures tight { C.tells content.old → (first : C) → C.tight first content.old
-        → C.tight first content.new }
-    ensures failures { C.tells content.old → C.failures content.new ≡ C.failures content.old }
-    ensures full { C.is_full content.old → C.is_full content.new }
-    ensures too_long { (len : ℕ) → C.is_too_long content.old id len
-        → C.is_too_long content.new id len }
+        ensures stays { GivesUp C.ReadContents C.Contents.own content.old content.new id }
     ensures lost { is_lost ≡ true → Fails (C.stored content.old id) (C.stored content.new id) }
     ensures kept { is_lost ≡ false → content.new ≡ content.old }
 {
@@ -41,21 +32,10 @@ pub fn read_into<C: ReadContents, A: Allocator>(
     requires there { C.has content.old id }
     requires within { start ≤ length into.old.items }
     requires bound { at + (length into.old.items - start) < 2 ^ 64 }
-    ensures there { C.has content.new id }
-    ensures any { HasSameFlags C.ReadContents content.old content.new id }
-    ensures around { C.tells content.old → IsRead C.ReadContents content.old content.new id result }
-    ensures ok { C.tells content.old
-        → at + (length into.old.items - start) ≤ length (C.stored content.old id).content
-        → length (C.stored content.old id).content ≤ (C.stored content.old id).size
-        → OnOk result (into.new.items ≡ take start into.old.items
-        ++ take (length into.old.items - start) (drop at (C.stored content.old id).content)) }
-    ensures refused { C.tells content.old
-        → at + (length into.old.items - start) ≤ length (C.stored content.old id).content
-        → length (C.stored content.old id).content ≤ (C.stored content.old id).size
-        → IfErr result (IsBreak ⊥) }
-    ensures len { OnOk result (length into.new.items ≡ length into.old.items) }
-    ensures first { OnOk result (take start into.new.items ≡ take start into.old.items) }
-    ensures cut { OnErr result (into.new.items ≡ take start into.old.items) }
+        ensures reads { ReadsStored C.ReadContents content.old content.new id result }
+        ensures stored { ReadsInto C.ReadContents at start content.old id into.old.items
+            into.new.items result }
+        ensures list { StaysBefore start into.old.items into.new.items result }
 {
     match read_tail(content, id, at, start, into) {
         Ok(()) => Ok(()),
@@ -78,18 +58,8 @@ fn read_tail<C: ReadContents>(
     requires there { C.has content.old id }
     requires within { start ≤ length into.old }
     requires bound { at + (length into.old - start) < 2 ^ 64 }
-    ensures there { C.has content.new id }
-    ensures any { HasSameFlags C.ReadContents content.old content.new id }
-    ensures around { C.tells content.old → IsRead C.ReadContents content.old content.new id result }
-    ensures ok { C.tells content.old
-        → at + (length into.old - start) ≤ length (C.stored content.old id).content
-        → length (C.stored content.old id).content ≤ (C.stored content.old id).size
-        → OnOk result (into.new ≡ take start into.old
-        ++ take (length into.old - start) (drop at (C.stored content.old id).content)) }
-    ensures refused { C.tells content.old
-        → at + (length into.old - start) ≤ length (C.stored content.old id).content
-        → length (C.stored content.old id).content ≤ (C.stored content.old id).size
-        → IfErr result (IsBreak ⊥) }
+        ensures reads { ReadsStored C.ReadContents content.old content.new id result }
+        ensures stored { ReadsInto C.ReadContents at start content.old id into.old into.new result }
     ensures first { take start into.new ≡ take start into.old }
 {
     read_whole(content, id, at, &mut into[start..])
@@ -105,18 +75,8 @@ fn read_whole<C: ReadContents>(
 ) -> Result<(), Error>
     requires there { C.has content.old id }
     requires bound { at + length into.old < 2 ^ 64 }
-    ensures there { C.has content.new id }
-    ensures any { HasSameFlags C.ReadContents content.old content.new id }
-    ensures around { C.tells content.old → IsRead C.ReadContents content.old content.new id result }
-    ensures ok { C.tells content.old
-        → at + length into.old ≤ length (C.stored content.old id).content
-        → length (C.stored content.old id).content ≤ (C.stored content.old id).size
-        → OnOk result (into.new
-        ≡ take (length into.old) (drop at (C.stored content.old id).content)) }
-    ensures refused { C.tells content.old
-        → at + length into.old ≤ length (C.stored content.old id).content
-        → length (C.stored content.old id).content ≤ (C.stored content.old id).size
-        → IfErr result (IsBreak ⊥) }
+        ensures reads { ReadsStored C.ReadContents content.old content.new id result }
+        ensures stored { ReadsWhole C.ReadContents at content.old id into.old into.new result }
 {
     let mut done = 0;
     while done < into.len() {
@@ -135,35 +95,12 @@ fn read_whole<C: ReadContents>(
 pub fn write_all<C: Contents>(content: &mut C, id: u32, at: u64, bytes: &[u8]) -> Result<(), Error>
     requires there { C.has content.old id }
     requires bound { at + length bytes.now < 2 ^ 64 }
-    ensures there { C.has content.new id }
-    ensures any { HasMayFail C.ReadContents content.old content.new id result }
-    ensures told { C.tells content.old → C.tells content.new }
-    ensures others { C.tells content.old → (first : C) → C.keeps id first content.old
-        → C.keeps id first content.new }
-    ensures tight { C.tells content.old → C.tight content.old content.new }
-    ensures within { C.tells content.old → at + length bytes.now ≤ (C.stored content.old id).size
-        → (first : C) → C.tight first content.old → C.tight first content.new }
-    ensures takes_none { C.tells content.old
-        → at + length bytes.now ≤ (C.stored content.old id).size → OnOk result ((len : ℕ)
-        → C.is_too_long content.new id len → C.is_too_long content.old id len) }
-    ensures counts { C.tells content.old
-        → CountsFailure (λ f. C.read_faults f || C.write_faults f) result
-        (C.failures content.old) (C.failures content.new) }
-    ensures ok { C.tells content.old → TakesBytes (C.stored content.old id) at (length bytes.now)
-        → length (C.stored content.old id).content ≡ (C.stored content.old id).size
-        → OnOk result (C.stored content.new id
-        ≡ stored_after_write (C.stored content.old id) at bytes.now) }
-    ensures refused { C.tells content.old
-        → TakesBytes (C.stored content.old id) at (length bytes.now)
-        → length (C.stored content.old id).content ≡ (C.stored content.old id).size
-        → IfErr result (λ e.
-        IsBreak (((C.stored content.old id).size < at + length bytes.now) × C.is_full content.new) e
-        × SameLimits (C.stored content.old id) (C.stored content.new id)) }
-    ensures foreseen { C.tells content.old
-        → TakesBytes (C.stored content.old id) at (length bytes.now)
-        → length (C.stored content.old id).content ≡ (C.stored content.old id).size
-        → IfErr result (λ e. e ≡ Error.Full
-        → LacksRoomUpTo C.ReadContents C.Contents.own content.old id (at + length bytes.now)) }
+        ensures writes { WritesStored C.ReadContents C.Contents.own content.old content.new id
+            result }
+        ensures no_room { TakesNoRoom C.ReadContents C.Contents.own at bytes.now content.old
+            content.new id result }
+        ensures stored { WritesAllStored C.ReadContents C.Contents.own at bytes.now content.old
+            content.new id result }
 {
     let room = content.len(id).saturating_sub(at) as usize;
     let inside = bytes.len().min(room);
@@ -178,26 +115,12 @@ fn write_inside<C: Contents>(content: &mut C, id: u32, at: u64, bytes: &[u8]) ->
     requires bound { at + length bytes.now < 2 ^ 64 }
     requires inside { 0 < length bytes.now
         → at + length bytes.now ≤ (C.stored content.old id).size }
-    ensures there { C.has content.new id }
-    ensures any { HasMayFail C.ReadContents content.old content.new id result }
-    ensures told { C.tells content.old → C.tells content.new }
-    ensures others { C.tells content.old → (first : C) → C.keeps id first content.old
-        → C.keeps id first content.new }
-    ensures tight { C.tells content.old → (first : C) → C.tight first content.old
-        → C.tight first content.new }
+        ensures writes { WritesStoredInside C.ReadContents C.Contents.own content.old content.new id
+            result }
     ensures takes_none { C.tells content.old → OnOk result ((len : ℕ)
         → C.is_too_long content.new id len → C.is_too_long content.old id len) }
-    ensures counts { C.tells content.old
-        → CountsFailure (λ f. C.read_faults f || C.write_faults f) result
-        (C.failures content.old) (C.failures content.new) }
-    ensures ok { C.tells content.old → TakesBytes (C.stored content.old id) at (length bytes.now)
-        → at ≤ length (C.stored content.old id).content
-        → OnOk result (C.stored content.new id
-        ≡ stored_after_write (C.stored content.old id) at bytes.now) }
-    ensures refused { C.tells content.old
-        → TakesBytes (C.stored content.old id) at (length bytes.now)
-        → at ≤ length (C.stored content.old id).content → IfErr result (λ e.
-        IsBreak ⊥ e × SameLimits (C.stored content.old id) (C.stored content.new id)) }
+        ensures stored { WritesInsideStored C.ReadContents at bytes.now content.old content.new id
+            result }
 {
     let mut done = 0;
     while done < bytes.len() {

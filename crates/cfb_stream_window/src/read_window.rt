@@ -1,5 +1,7 @@
 //! The buffered stream that is only read. Lengths and places are in bytes.
 ghost use Rattle.std.specs.Prelude.{◌≡◌, ◌+◌, ◌-◌, ◌<◌, ◌≤◌, ◌==◌, ◌⊎◌, ◌++◌, min, max, ℕ, false, OnOk, OnErr, IfOk, IfErr, length, take, drop, Some, None, ⊤};
+ghost use Rattle.cfb_stream_window.specs.Calls.{ReadingAnswers, ReadingLeaves, AppendsToList, SeekingAnswers, FillingAnswers, FillingLeaves, ReadingToEndAnswers, ReadingToEndLeaves};
+ghost use Rattle.cfb_stream_window.specs.Steps.{IsReadOut, HasRest, StaysInside, GrowsBuffer, ReadsPast, KeepsBuffer};
 ghost use Rattle.cfb_stream_window.specs.Leaves.{ReadsContents, StaysOpenToRead};
 ghost use Rattle.cfb_format.specs.Refused.{HasReason, IsMemory, no_error};
 ghost use Rattle.cfb_stream_window.specs.cfb_rules.StreamCalls.{StreamStep, read, fill_buf, consume, seek, read_to_end, ask_len, ask_position, ask_is_empty, ready, got, offset, answered, opened};
@@ -108,21 +110,12 @@ impl<A: Allocator> ReadWindow<A> {
         requires there { C.has content.old id }
         requires behind { self.old.base + self.old.cursor < self.old.size }
         ensures reads { ReadsContents C.ReadContents content.old content.new id result }
-        ensures ok { IsReady C.ReadContents content.old id self.old → OnOk result
-            (Carries (C.stored content.old id) self.old (C.stored content.new id) self.new) }
-        ensures some { IsReady C.ReadContents content.old id self.old
-            → OnOk result (self.new.cursor < length self.new.filled) }
-        ensures held { self.old.cursor < length self.old.filled → content.new ≡ content.old }
-        ensures stays { self.old.cursor < length self.old.filled → self.new ≡ self.old }
+        ensures rest { HasRest C.ReadContents content.old content.new id self.old self.new result }
+        ensures inside { StaysInside content.old content.new self.old self.new }
         ensures refused { IsReady C.ReadContents content.old id self.old → IfErr result (λ e.
             ReadBrokeOff ⊥ (C.stored content.old id) self.old (C.stored content.new id) self.new e
             ⊎ Unreadable (C.stored content.old id) self.old (C.stored content.new id) self.new e) }
-        ensures grown { self.new.room
-            < min (self.old.size - (self.old.base + self.old.cursor)) self.old.bound
-            → content.new ≡ content.old }
-        ensures bound { self.new.bound ≡ self.old.bound }
-        ensures lean { self.new.room ≤ max self.old.room
-            (min (self.old.size - (self.old.base + self.old.cursor)) self.old.bound) }
+        ensures grown { GrowsBuffer content.old content.new self.old self.new }
     {
         if self.window.has_rest() {
             return Ok(());
@@ -139,19 +132,15 @@ impl<A: Allocator> ReadWindow<A> {
         into: &mut [u8],
     ) -> Result<usize, Error>
         requires there { C.has content.old id }
-        requires behind { self.old.base + self.old.cursor < self.old.size }
-        requires unread { self.old.ahead ≡ 0 }
+        requires read_out { IsReadOut self.old }
         requires some { 0 < length into.old }
         ensures reads { ReadsContents C.ReadContents content.old content.new id result }
-        ensures most { IfOk result (λ n. n ≤ length into.new) }
-        ensures rest { IfOk result (λ n. drop n into.new ≡ drop n into.old) }
-        ensures ok { IsReady C.ReadContents content.old id self.old → IfOk result (ReadPast into.new
-            (C.stored content.old id) self.old (C.stored content.new id) self.new) }
+        ensures past { ReadsPast C.ReadContents content.old content.new id self.old self.new
+            into.old into.new result }
         ensures refused { IsReady C.ReadContents content.old id self.old → IfErr result (λ e.
             ReadBrokeOff ⊥ (C.stored content.old id) self.old (C.stored content.new id) self.new e
             ⊎ Unreadable (C.stored content.old id) self.old (C.stored content.new id) self.new e) }
-        ensures room { self.new.room ≡ self.old.room }
-        ensures bound { self.new.bound ≡ self.old.bound }
+        ensures kept { KeepsBuffer self.old self.new }
     {
         let count = self.window.read_past(content, id, into)?;
         Ok(count)
@@ -168,22 +157,9 @@ impl<A: Allocator> ReadWindow<A> {
         requires there { C.has content.old id }
         ensures open { StaysOpenToRead C.ReadContents content.old id self.old result content.new
             self.new }
-        ensures most { IfOk result (λ n. n ≤ length into.new) }
-        ensures rest { IfOk result (λ n. drop n into.new ≡ drop n into.old) }
-        ensures runs { IsOpen C.ReadContents content.old id self.old
-            → IfOk result (λ n. RunsReading C.ReadContents content.old id self.old
-            (read (length into.old)) (got (take n into.new)) content.new self.new) }
-        ensures refused { IsOpen C.ReadContents content.old id self.old
-            → IfErr result (IsRefusedReading C.ReadContents content.old id self.old
-            (read (length into.old)) content.new self.new) }
-        ensures none { length into.old ≡ 0 → content.new ≡ content.old }
-        ensures held { StandsInside self.old → content.new ≡ content.old }
-        ensures grown { length into.old < 65536
-            → self.new.room < min (self.old.size - (self.old.base + self.old.cursor)) self.old.bound
-            → content.new ≡ content.old }
-        ensures straight { 65536 ≤ length into.old → self.new.room ≡ self.old.room }
-        ensures lean { self.new.room ≤ max self.old.room
-            (min (self.old.size - (self.old.base + self.old.cursor)) self.old.bound) }
+        ensures answers { ReadingAnswers C.ReadContents content.old content.new id self.old self.new
+            into.old into.new result }
+        ensures leaves { ReadingLeaves content.old content.new self.old self.new into.old }
         ensures around { C.tells content.old
             → IsRead C.ReadContents content.old content.new id result }
     {
@@ -212,18 +188,9 @@ impl<A: Allocator> ReadWindow<A> {
         requires there { C.has content.old id }
         ensures open { StaysOpenToRead C.ReadContents content.old id self.old result content.new
             self.new }
-        ensures runs { IsOpen C.ReadContents content.old id self.old
-            → OnOk result (RunsReading C.ReadContents content.old id self.old fill_buf
-            (got (drop self.new.cursor self.new.filled)) content.new self.new) }
-        ensures refused { IsOpen C.ReadContents content.old id self.old
-            → IfErr result (IsRefusedReading C.ReadContents
-            content.old id self.old fill_buf content.new self.new) }
-        ensures held { StandsInside self.old → content.new ≡ content.old }
-        ensures grown { self.new.room
-            < min (self.old.size - (self.old.base + self.old.cursor)) self.old.bound
-            → content.new ≡ content.old }
-        ensures lean { self.new.room ≤ max self.old.room
-            (min (self.old.size - (self.old.base + self.old.cursor)) self.old.bound) }
+        ensures answers { FillingAnswers C.ReadContents content.old content.new id self.old self.new
+            result }
+        ensures leaves { FillingLeaves content.old content.new self.old self.new }
         ensures around { C.tells content.old
             → IsRead C.ReadContents content.old content.new id result }
     {
@@ -249,14 +216,8 @@ impl<A: Allocator> ReadWindow<A> {
         requires there { C.has content.now id }
         ensures any { HeedsReading C.ReadContents
             content.now id self.old result content.now self.new }
-        ensures runs { IsOpen C.ReadContents content.now id self.old
-            → IfOk result (λ at. RunsReading C.ReadContents content.now id self.old
-            (seek (whence_of to)) (offset at) content.now self.new) }
-        ensures refused { IsOpen C.ReadContents content.now id self.old
-            → IfErr result (IsRefusedReading C.ReadContents content.now id self.old
-            (seek (whence_of to)) content.now self.new) }
-        ensures kinds { IfErr result
-            (HasReason (record no_error { failed = ⊤; invalid_input = ⊤ })) }
+        ensures answers { SeekingAnswers C.ReadContents (whence_of to) content.now id self.old
+            self.new result }
         ensures goes_on { IsOpen C.ReadContents content.now id self.old
             → GoesOn C.ReadContents content.now content.now id self.new }
         ensures sure { (C.stored content.now id).failed ≡ false
@@ -265,8 +226,7 @@ impl<A: Allocator> ReadWindow<A> {
             → target_of self.old.size (self.old.base + self.old.cursor) to ≡ Some at
             → self.old.base ≤ at → at ≤ self.old.base + length self.old.filled
             → (self.new.base ≡ self.old.base) × (self.new.filled ≡ self.old.filled) }
-        ensures bound { self.new.bound ≡ self.old.bound }
-        ensures room { self.new.room ≡ self.old.room }
+        ensures kept { KeepsBuffer self.old self.new }
     {
         if content.is_failed(id) {
             return Err(Error::Failed);
@@ -283,8 +243,7 @@ impl<A: Allocator> ReadWindow<A> {
         ensures went { (s : Stored) → LiesOver s self.old → WentTo at s self.old s self.new }
         ensures stays { self.old.base ≤ at → at ≤ self.old.base + length self.old.filled
             → (self.new.base ≡ self.old.base) × (self.new.filled ≡ self.old.filled) }
-        ensures bound { self.new.bound ≡ self.old.bound }
-        ensures room { self.new.room ≡ self.old.room }
+        ensures kept { KeepsBuffer self.old self.new }
     {
         let _at = self.window.position();
         if self.window.holds(at) {
@@ -305,18 +264,10 @@ impl<A: Allocator> ReadWindow<A> {
         requires there { C.has content.old id }
         ensures open { StaysOpenToRead C.ReadContents content.old id self.old result content.new
             self.new }
-        ensures appends { IfOk result (λ n. (length into.new.items ≡ length into.old.items + n)
-            × (into.new.items ≡ into.old.items ++ drop (length into.old.items) into.new.items)) }
-        ensures nothing { OnErr result (into.new.items ≡ into.old.items) }
-        ensures runs { IsOpen C.ReadContents content.old id self.old
-            → OnOk result (RunsReading C.ReadContents content.old id self.old read_to_end
-            (got (drop (length into.old.items) into.new.items)) content.new self.new) }
-        ensures refused { IsOpen C.ReadContents content.old id self.old
-            → IfErr result (IsRefusedReading C.ReadContents
-            content.old id self.old read_to_end content.new self.new) }
-        ensures held { self.old.base + length self.old.filled ≡ self.old.size
-            → content.new ≡ content.old }
-        ensures room { self.new.room ≡ self.old.room }
+        ensures list { AppendsToList into.old.items into.new.items result }
+        ensures answers { ReadingToEndAnswers C.ReadContents content.old content.new id self.old
+            self.new into.old.items into.new.items result }
+        ensures leaves { ReadingToEndLeaves content.old content.new self.old self.new }
         ensures around { C.tells content.old
             → IsRead C.ReadContents content.old content.new id result }
     {

@@ -1,5 +1,7 @@
 //! The buffered stream: a window in memory over what is stored. Lengths and places are in bytes.
 ghost use Rattle.std.specs.Prelude.{◌≡◌, ◌+◌, ◌-◌, ◌<◌, ◌≤◌, ◌==◌, ◌⊎◌, ◌↔◌, ◌++◌, min, max, [], false, IsTrue, OnOk, OnErr, IfOk, IfErr, IfSome, length, take, drop, nat_lt};
+ghost use Rattle.cfb_stream_window.specs.Steps.{IsReadOut, HasRest, GrowsBuffer, ReadsPast, KeepsBuffer, AppendsStored, AppendsCounted, AppendsRest};
+ghost use Rattle.cfb_stream_buffer.specs.Steps.{StaysBefore};
 ghost use Rattle.cfb_stream_window.specs.Leaves.{ReadsContents};
 ghost use Rattle.cfb_format.specs.Refused.{IsInvalidOrMemory, IsMemory};
 ghost use Rattle.cfb_stream_window.specs.cfb_rules.StreamCalls.{StreamStep, consume, ask_len, ask_position, ask_is_empty, ready, offset, answered, opened};
@@ -239,24 +241,15 @@ impl<A: Allocator> Window<A> {
     pub(crate) fn refill<C: ReadContents>(&mut self, content: &mut C, id: u32) -> Result<(), Error>
         requires there { C.has content.old id }
         requires calm { self.old.pending ≡ false }
-        requires behind { self.old.base + self.old.cursor < self.old.size }
-        requires unread { self.old.ahead ≡ 0 }
+        requires read_out { IsReadOut self.old }
         ensures reads { ReadsContents C.ReadContents content.old content.new id result }
         ensures calm { self.new.pending ≡ false }
-        ensures ok { IsReady C.ReadContents content.old id self.old → OnOk result
-            (Carries (C.stored content.old id) self.old (C.stored content.new id) self.new) }
-        ensures some { IsReady C.ReadContents content.old id self.old
-            → OnOk result (self.new.cursor < length self.new.filled) }
+        ensures rest { HasRest C.ReadContents content.old content.new id self.old self.new result }
         ensures refused { IsReady C.ReadContents content.old id self.old → IfErr result (λ e.
             CalmBrokeOff (C.stored content.old id) self.old (C.stored content.new id) self.new e
             ⊎ Unreadable (C.stored content.old id) self.old (C.stored content.new id) self.new e) }
         ensures room { self.old.room ≤ self.new.room }
-        ensures grown { self.new.room
-            < min (self.old.size - (self.old.base + self.old.cursor)) self.old.bound
-            → content.new ≡ content.old }
-        ensures bound { self.new.bound ≡ self.old.bound }
-        ensures lean { self.new.room ≤ max self.old.room
-            (min (self.old.size - (self.old.base + self.old.cursor)) self.old.bound) }
+        ensures grown { GrowsBuffer content.old content.new self.old self.new }
     {
         self.grow_for_rest()?;
         self.let_go();
@@ -292,20 +285,16 @@ impl<A: Allocator> Window<A> {
     ) -> Result<usize, Error>
         requires there { C.has content.old id }
         requires calm { self.old.pending ≡ false }
-        requires behind { self.old.base + self.old.cursor < self.old.size }
-        requires unread { self.old.ahead ≡ 0 }
+        requires read_out { IsReadOut self.old }
         requires some { 0 < length into.old }
         ensures reads { ReadsContents C.ReadContents content.old content.new id result }
         ensures calm { self.new.pending ≡ false }
-        ensures most { IfOk result (λ n. n ≤ length into.new) }
-        ensures rest { IfOk result (λ n. drop n into.new ≡ drop n into.old) }
-        ensures ok { IsReady C.ReadContents content.old id self.old → IfOk result (ReadPast into.new
-            (C.stored content.old id) self.old (C.stored content.new id) self.new) }
+        ensures past { ReadsPast C.ReadContents content.old content.new id self.old self.new
+            into.old into.new result }
         ensures refused { IsReady C.ReadContents content.old id self.old → IfErr result (λ e.
             CalmBrokeOff (C.stored content.old id) self.old (C.stored content.new id) self.new e
             ⊎ Unreadable (C.stored content.old id) self.old (C.stored content.new id) self.new e) }
-        ensures room { self.new.room ≡ self.old.room }
-        ensures bound { self.new.bound ≡ self.old.bound }
+        ensures kept { KeepsBuffer self.old self.new }
     {
         self.let_go();
         let at = self.base;
@@ -450,20 +439,10 @@ impl<A: Allocator> Window<A> {
             ≡ start + (self.old.size - (self.old.base + self.old.cursor)) }
         ensures reads { ReadsContents C.ReadContents content.old content.new id result }
         ensures calm { self.new.pending ≡ false }
-        ensures len { OnOk result (length into.new.items ≡ length into.old.items) }
-        ensures first { OnOk result (take start into.new.items ≡ take start into.old.items) }
-        ensures cut { OnErr result (into.new.items ≡ take start into.old.items) }
-        ensures ok { IsReady C.ReadContents content.old id self.old
-            → IsReadable (C.stored content.old id) self.old
-            → self.old.base + self.old.cursor < self.old.size
-            → OnOk result (Appended (take start into.old.items) into.new.items
-            (C.stored content.old id) self.old (C.stored content.new id) self.new) }
-        ensures refused { IsReady C.ReadContents content.old id self.old
-            → IsReadable (C.stored content.old id) self.old
-            → self.old.base + self.old.cursor < self.old.size → IfErr result
-            (CalmBrokeOff (C.stored content.old id) self.old (C.stored content.new id) self.new) }
-        ensures bound { self.new.bound ≡ self.old.bound }
-        ensures room { self.new.room ≡ self.old.room }
+        ensures list { StaysBefore start into.old.items into.new.items result }
+        ensures stored { AppendsStored C.ReadContents start content.old content.new id self.old
+            self.new into.old.items into.new.items result }
+        ensures kept { KeepsBuffer self.old self.new }
     {
         let _at = self.position();
         self.let_go();
@@ -483,21 +462,10 @@ impl<A: Allocator> Window<A> {
         requires calm { self.old.pending ≡ false }
         ensures reads { ReadsContents C.ReadContents content.old content.new id result }
         ensures calm { self.new.pending ≡ false }
-        ensures count { IfOk result (λ n. length into.new.items ≡ length into.old.items + n) }
-        ensures before { OnOk result (into.new.items
-            ≡ into.old.items ++ drop (length into.old.items) into.new.items) }
-        ensures nothing { OnErr result (into.new.items ≡ into.old.items) }
-        ensures ok { IsReady C.ReadContents content.old id self.old
-            → IsReadable (C.stored content.old id) self.old
-            → self.old.base + self.old.cursor < self.old.size
-            → OnOk result (Appended into.old.items into.new.items
-            (C.stored content.old id) self.old (C.stored content.new id) self.new) }
-        ensures refused { IsReady C.ReadContents content.old id self.old
-            → IsReadable (C.stored content.old id) self.old
-            → self.old.base + self.old.cursor < self.old.size → IfErr result
-            (CalmBrokeOff (C.stored content.old id) self.old (C.stored content.new id) self.new) }
-        ensures bound { self.new.bound ≡ self.old.bound }
-        ensures room { self.new.room ≡ self.old.room }
+        ensures list { AppendsCounted into.old.items into.new.items result }
+        ensures stored { AppendsRest C.ReadContents content.old content.new id self.old self.new
+            into.old.items into.new.items result }
+        ensures kept { KeepsBuffer self.old self.new }
     {
         let start = into.len();
         let left = (self.size - self.position()) as usize;

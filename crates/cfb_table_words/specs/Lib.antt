@@ -5,3 +5,4 @@ pub mod Holding
 pub mod Stretches
 pub mod Runs
 pub mod Along
+pub mod Writing

@@ -1,6 +1,7 @@
 //! New sectors: the bytes that they are given, and behind these what fresh sectors hold. Sectors that follow each other in the file are
 //! written by one call of the medium (MS-CFB 2.3).
 ghost use Rattle.std.specs.Prelude.{◌≡◌, ℕ, ◌+◌, ◌*◌, ◌/◌, ◌%◌, ◌<◌, ◌≤◌, length, drop, take, true, nat_eq, replicate, slice_index, Contains, IsTrue, IfErr, IfOk, OnOk};
+ghost use Rattle.cfb_table_words.specs.Writing.{FillsSectors, PutsInSectors, RunAlong};
 ghost use Rattle.std.specs.List.{IsDistinct};
 ghost use Rattle.cfb_format.specs.Bytes.{sector_len};
 ghost use Rattle.cfb_format.specs.Medium.{written};
@@ -39,28 +40,12 @@ fn put_run<F: Medium>(
     requires short { offset < sector_len sectors.old.version }
     requires listed { index < length numbers.now }
     requires below { (i : ℕ) → Contains numbers.now i → i < sectors.old.num_sectors }
-    ensures kept { sectors.new ≡ record sectors.old {
-      len = sectors.new.len;
-      bytes = sectors.new.bytes;
-      failures = sectors.new.failures;
-      begun = true;
-    } }
-    ensures some { IfOk result (λ n. (0 < n) × (n ≤ length from.now)) }
-    ensures next { IfOk result (λ n. index + (offset + n) / sector_len sectors.old.version
-        ≤ length numbers.now) }
-    ensures longest { IfOk result (λ n. IsLongestRun sectors.old.version numbers.now
-        (index * sector_len sectors.old.version + offset) (length from.now) n) }
+        ensures writes { PutsInSectors F.tells F.write_faults sectors.old sectors.new numbers.now
+            result }
+        ensures run { RunAlong index offset from.now sectors.old numbers.now result }
     ensures ok { IsTrue F.tells → IfOk result (λ n. sectors.new.bytes ≡ written sectors.old.bytes
         (place_along sectors.old.version numbers.now (index * sector_len sectors.old.version
         + offset)) (take n from.now)) }
-    ensures measured { IsTrue F.tells
-        → IsMeasured sectors.old → OnOk result (IsMeasured sectors.new) }
-    ensures changes { IsTrue F.tells
-        → ChangesSectors numbers.now sectors.old.version sectors.old.bytes sectors.new.bytes }
-    ensures front { IsTrue F.tells → RangeStays 0 512 sectors.old.bytes sectors.new.bytes }
-    ensures err { IfErr result IsMediumError }
-    ensures counts { IsTrue F.tells
-        → CountsFailure F.write_faults result sectors.old.failures sectors.new.failures }
 {
     let run = run_from(sectors.version(), numbers, index, offset, from.len());
     let start = (numbers[index] as u64 + 1) * sectors.sector_len() as u64;
@@ -99,27 +84,13 @@ fn fill_along<F: Medium>(
     requires long { sector_len sectors.old.version ≤ length fresh.now }
     requires repeats { (j : ℕ) → j < length fresh.now → slice_index fresh.now j
         ≡ slice_index fresh.now (j % sector_len sectors.old.version) }
-    ensures kept { sectors.new ≡ record sectors.old {
-      len = sectors.new.len;
-      bytes = sectors.new.bytes;
-      failures = sectors.new.failures;
-      begun = sectors.new.begun;
-    } }
-    ensures measured { IsTrue F.tells
-        → IsMeasured sectors.old → OnOk result (IsMeasured sectors.new) }
+        ensures fills { FillsSectors F.tells F.write_faults sectors.old sectors.new numbers.now
+            result }
     ensures filled { IsTrue F.tells → IsDistinct nat_eq numbers.now → OnOk result ((k : ℕ)
         → k < length numbers.now * sector_len sectors.old.version
         → (place_along sectors.old.version numbers.now k < length sectors.new.bytes)
         × (slice_index sectors.new.bytes (place_along sectors.old.version numbers.now k)
         ≡ byte_given from.now fresh.now (sector_len sectors.old.version) k)) }
-    ensures changes { IsTrue F.tells
-        → ChangesSectors numbers.now sectors.old.version sectors.old.bytes sectors.new.bytes }
-    ensures front { IsTrue F.tells → RangeStays 0 512 sectors.old.bytes sectors.new.bytes }
-    ensures raised { OnOk result (IsRaised (0 < length numbers.now) sectors.old sectors.new) }
-    ensures err { IfErr result IsMediumError }
-    ensures begun { IfErr result (λ e. sectors.new.begun ≡ true) }
-    ensures counts { IsTrue F.tells
-        → CountsFailure F.write_faults result sectors.old.failures sectors.new.failures }
 {
     let sector_len = sectors.sector_len();
     let mut left = from;
@@ -144,24 +115,10 @@ pub(crate) fn fill_sectors<F: Medium>(
     from: &[u8],
 ) -> Result<(), Error>
     requires below { (i : ℕ) → Contains numbers.now i → i < sectors.old.num_sectors }
-    ensures kept { sectors.new ≡ record sectors.old {
-      len = sectors.new.len;
-      bytes = sectors.new.bytes;
-      failures = sectors.new.failures;
-      begun = sectors.new.begun;
-    } }
-    ensures measured { IsTrue F.tells
-        → IsMeasured sectors.old → OnOk result (IsMeasured sectors.new) }
+        ensures fills { FillsSectors F.tells F.write_faults sectors.old sectors.new numbers.now
+            result }
     ensures filled { IsTrue F.tells → IsDistinct nat_eq numbers.now → OnOk result
         (AreFilledFrom sectors.old.version init from.now sectors.new.bytes numbers.now) }
-    ensures changes { IsTrue F.tells
-        → ChangesSectors numbers.now sectors.old.version sectors.old.bytes sectors.new.bytes }
-    ensures front { IsTrue F.tells → RangeStays 0 512 sectors.old.bytes sectors.new.bytes }
-    ensures raised { OnOk result (IsRaised (0 < length numbers.now) sectors.old sectors.new) }
-    ensures err { IfErr result IsMediumError }
-    ensures begun { IfErr result (λ e. sectors.new.begun ≡ true) }
-    ensures counts { IsTrue F.tells
-        → CountsFailure F.write_faults result sectors.old.failures sectors.new.failures }
 {
     match init {
         SectorInit::Zero => fill_along(sectors, numbers, zeros(), from),
@@ -177,24 +134,10 @@ fn fill_others<F: Medium>(
     from: &[u8],
 ) -> Result<(), Error>
     requires below { (i : ℕ) → Contains numbers.now i → i < sectors.old.num_sectors }
-    ensures kept { sectors.new ≡ record sectors.old {
-      len = sectors.new.len;
-      bytes = sectors.new.bytes;
-      failures = sectors.new.failures;
-      begun = sectors.new.begun;
-    } }
-    ensures measured { IsTrue F.tells
-        → IsMeasured sectors.old → OnOk result (IsMeasured sectors.new) }
+        ensures fills { FillsSectors F.tells F.write_faults sectors.old sectors.new numbers.now
+            result }
     ensures filled { IsTrue F.tells → IsDistinct nat_eq numbers.now → OnOk result
         (AreFilledFrom sectors.old.version init from.now sectors.new.bytes numbers.now) }
-    ensures changes { IsTrue F.tells
-        → ChangesSectors numbers.now sectors.old.version sectors.old.bytes sectors.new.bytes }
-    ensures front { IsTrue F.tells → RangeStays 0 512 sectors.old.bytes sectors.new.bytes }
-    ensures raised { OnOk result (IsRaised (0 < length numbers.now) sectors.old sectors.new) }
-    ensures err { IfErr result IsMediumError }
-    ensures begun { IfErr result (λ e. sectors.new.begun ≡ true) }
-    ensures counts { IsTrue F.tells
-        → CountsFailure F.write_faults result sectors.old.failures sectors.new.failures }
 {
     let len = sectors.sector_len();
     let fresh = fresh_sector(sectors.version(), init);

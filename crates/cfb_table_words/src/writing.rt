@@ -1,5 +1,6 @@
 //! Writing what has changed in the tables to the sectors that hold them (MS-CFB 2.3 and 2.5).
 ghost use Rattle.std.specs.Prelude.{◌≡◌, ◌%◌, ℕ, List, [], ◌∷◌, ◌++◌, ◌+◌, ◌*◌, ◌-◌, ◌<◌, ◌≤◌, length, take, drop, true, IsTrue, Contains, OnOk, IfErr, IfOk, nat_eq, nat_lt, slice_index, max, ◌^◌, ◌⊎◌, if◌then◌else◌};
+ghost use Rattle.cfb_table_words.specs.Writing.{PutsInSectors, WritesTableSectors, WritesWords, WritesHeaderWords, MayWriteTables, MayWriteWords, RaisesWords, CanWriteAt, TablesFit, ArePlacedTables, CanListNext, CanWriteTaken, HoldsAdded};
 ghost use Rattle.std.specs.List.{IsDistinct};
 ghost use Rattle.cfb_format.specs.declared.validate.Validation.{Validation};
 ghost use Rattle.cfb_format.specs.Bytes.{max_regular_sector, is_whole_sector, sector_start, sector_len, word_bytes, words_per_sector};
@@ -48,22 +49,10 @@ fn fill_sector<F: Medium>(
     init: SectorInit,
 ) -> Result<(), Error>
     requires below { number < sectors.old.num_sectors }
-    ensures kept { sectors.new ≡ record sectors.old {
-      len = sectors.new.len;
-      bytes = sectors.new.bytes;
-      failures = sectors.new.failures;
-      begun = true;
-    } }
-    ensures measured { IsTrue F.tells
-        → IsMeasured sectors.old → OnOk result (IsMeasured sectors.new) }
+        ensures writes { PutsInSectors F.tells F.write_faults sectors.old sectors.new (number ∷ [])
+            result }
     ensures filled { IsTrue F.tells
         → OnOk result (IsAsFilled sectors.old.version init sectors.new.bytes number) }
-    ensures changes { IsTrue F.tells
-        → ChangesSectors (number ∷ []) sectors.old.version sectors.old.bytes sectors.new.bytes }
-    ensures front { IsTrue F.tells → RangeStays 0 512 sectors.old.bytes sectors.new.bytes }
-    ensures err { IfErr result IsMediumError }
-    ensures counts { IsTrue F.tells
-        → CountsFailure F.write_faults result sectors.old.failures sectors.new.failures }
 {
     let _fact = sectors.num_sectors();
     sectors.init_sector(number, init)
@@ -77,15 +66,9 @@ fn write_word_in<F: Medium>(
     index: usize,
     value: u32,
 ) -> Result<(), Error>
-    requires place { place < length list.now }
-    requires index { index < words_per_sector sectors.old.version }
-    requires below { (i : ℕ) → Contains list.now i → i < sectors.old.num_sectors }
-    ensures kept { sectors.new ≡ record sectors.old {
-      len = sectors.new.len;
-      bytes = sectors.new.bytes;
-      failures = sectors.new.failures;
-      begun = true;
-    } }
+        requires place { CanWriteAt list.now place index sectors.old }
+        ensures writes { WritesTableSectors F.tells F.write_faults sectors.old sectors.new list.now
+            result }
     ensures ok { IsTrue F.tells → OnOk result (sectors.new.bytes
         ≡ with_word sectors.old.bytes (sector_start sectors.old.version (slice_index list.now place)
         + 4 * index) value) }
@@ -95,13 +78,6 @@ fn write_word_in<F: Medium>(
     ensures only { IsTrue F.tells
         → ChangesOnlyBytes (sector_start sectors.old.version (slice_index list.now place)
         + 4 * index) 4 sectors.old.bytes sectors.new.bytes }
-    ensures measured { IsTrue F.tells
-        → IsMeasured sectors.old → OnOk result (IsMeasured sectors.new) }
-    ensures changes { IsTrue F.tells
-        → ChangesSectors list.now sectors.old.version sectors.old.bytes sectors.new.bytes }
-    ensures err { IfErr result IsMediumError }
-    ensures counts { IsTrue F.tells
-        → CountsFailure F.write_faults result sectors.old.failures sectors.new.failures }
 {
     sectors.write_word(list[place], index, value)
 }
@@ -113,20 +89,9 @@ fn write_tables_word<F: Medium>(
     value: u32,
 ) -> Result<(), Error>
     requires word { IsTablesWord offset }
-    ensures kept { sectors.new ≡ record sectors.old {
-      bytes = sectors.new.bytes;
-      failures = sectors.new.failures;
-      begun = true;
-    } }
+        ensures writes { WritesHeaderWords F.tells F.write_faults sectors.old sectors.new result }
     ensures ok { IsTrue F.tells
         → OnOk result (sectors.new.bytes ≡ with_word sectors.old.bytes offset value) }
-    ensures measured { IsTrue F.tells
-        → IsMeasured sectors.old → OnOk result (IsMeasured sectors.new) }
-    ensures changes { IsTrue F.tells
-        → ChangesSectors [] sectors.old.version sectors.old.bytes sectors.new.bytes }
-    ensures err { IfErr result IsMediumError }
-    ensures counts { IsTrue F.tells
-        → CountsFailure F.write_faults result sectors.old.failures sectors.new.failures }
 {
     let _fact = sectors.num_sectors();
     sectors.write_header_word(offset, value)
@@ -144,24 +109,15 @@ fn write_words_in<F: Medium>(
     requires place { place < length list.now }
     requires inside { 4 * index + length from.now ≤ sector_len sectors.old.version }
     requires below { (i : ℕ) → Contains list.now i → i < sectors.old.num_sectors }
-    ensures kept { sectors.new ≡ record sectors.old {
-      len = sectors.new.len;
-      bytes = sectors.new.bytes;
-      failures = sectors.new.failures;
-      begun = true;
-    } }
+        ensures writes { WritesWords F.tells F.write_faults sectors.old sectors.new list.now result
+            }
     ensures ok { IsTrue F.tells → OnOk result (sectors.new.bytes
         ≡ written sectors.old.bytes (sector_start sectors.old.version (slice_index list.now place)
         + 4 * index) from.now) }
     ensures len { IsTrue F.tells → OnOk result (sectors.new.len
         ≡ max sectors.old.len (sector_start sectors.old.version (slice_index list.now place)
         + 4 * index + length from.now)) }
-    ensures changes { IsTrue F.tells
-        → ChangesSectors list.now sectors.old.version sectors.old.bytes sectors.new.bytes }
     ensures header { sector_len sectors.old.version ≤ sectors.old.len }
-    ensures err { IfErr result IsMediumError }
-    ensures counts { IsTrue F.tells
-        → CountsFailure F.write_faults result sectors.old.failures sectors.new.failures }
 {
     let _count = sectors.num_sectors();
     sectors.write_contiguous(list[place], 4 * index, from)
@@ -179,24 +135,15 @@ fn put_words_in<F: Medium>(
     requires place { place < length list.now }
     requires inside { index + length words.now ≤ words_per_sector sectors.old.version }
     requires below { (i : ℕ) → Contains list.now i → i < sectors.old.num_sectors }
-    ensures kept { sectors.new ≡ record sectors.old {
-      len = sectors.new.len;
-      bytes = sectors.new.bytes;
-      failures = sectors.new.failures;
-      begun = true;
-    } }
+        ensures writes { WritesWords F.tells F.write_faults sectors.old sectors.new list.now result
+            }
     ensures ok { IsTrue F.tells → OnOk result (sectors.new.bytes
         ≡ written sectors.old.bytes (sector_start sectors.old.version (slice_index list.now place)
         + 4 * index) (word_bytes words.now)) }
     ensures len { IsTrue F.tells → OnOk result (sectors.new.len
         ≡ max sectors.old.len (sector_start sectors.old.version (slice_index list.now place)
         + 4 * index + 4 * length words.now)) }
-    ensures changes { IsTrue F.tells
-        → ChangesSectors list.now sectors.old.version sectors.old.bytes sectors.new.bytes }
     ensures header { sector_len sectors.old.version ≤ sectors.old.len }
-    ensures err { IfErr result IsMediumError }
-    ensures counts { IsTrue F.tells
-        → CountsFailure F.write_faults result sectors.old.failures sectors.new.failures }
 {
     // Mostly there is one word, and a buffer of a sector is as dear as the call.
     if words.len() <= FEW_WORDS {
@@ -223,27 +170,17 @@ fn write_run<F: Medium, A: Allocator>(
     tables: &Tables<A>,
     run: Stretch,
 ) -> Result<(), Error>
-    requires placed { IsPlaced sectors.old tables.now }
-    requires covered { IsCovered tables.now }
+        requires tables { ArePlacedTables tables.now sectors.old }
     requires some { 0 < run.count }
     requires together { run.first % words_per_sector sectors.old.version + run.count
         ≤ words_per_sector sectors.old.version }
     requires below { run.first + run.count ≤ length tables.now.fat }
-    ensures kept { sectors.new ≡ record sectors.old {
-      len = sectors.new.len;
-      bytes = sectors.new.bytes;
-      failures = sectors.new.failures;
-      begun = true;
-    } }
+        ensures writes { WritesWords F.tells F.write_faults sectors.old sectors.new
+            tables.now.fat_sectors result }
     ensures ok { IsTrue F.tells → (validation : Validation) (before late : List ℕ)
         → LateBut run.first run.count before late
         → HoldsBut validation before sectors.old tables.now
         → OnOk result (HoldsBut validation late sectors.new tables.now) }
-    ensures changes { IsTrue F.tells → ChangesSectors
-        tables.now.fat_sectors sectors.old.version sectors.old.bytes sectors.new.bytes }
-    ensures err { IfErr result IsMediumError }
-    ensures counts { IsTrue F.tells
-        → CountsFailure F.write_faults result sectors.old.failures sectors.new.failures }
 {
     let words = sectors.version().words_per_sector();
     let first = run.first;
@@ -264,25 +201,13 @@ pub fn write_values<F: Medium, A: Allocator>(
     tables: &Tables<A>,
     numbers: &[u32],
 ) -> Result<(), Error>
-    requires placed { IsPlaced sectors.old tables.now }
-    requires covered { IsCovered tables.now }
+        requires tables { ArePlacedTables tables.now sectors.old }
     requires below { (i : ℕ) → Contains numbers.now i → i < length tables.now.fat }
-    ensures kept { sectors.new ≡ record sectors.old {
-      len = sectors.new.len;
-      bytes = sectors.new.bytes;
-      failures = sectors.new.failures;
-      begun = sectors.new.begun;
-    } }
+        ensures writes { RaisesWords F.tells F.write_faults sectors.old sectors.new
+            tables.now.fat_sectors numbers.now result }
     ensures ok { IsTrue F.tells → (validation : Validation) (late : List ℕ)
         → HoldsBut validation (numbers.now ++ late) sectors.old tables.now
         → OnOk result (HoldsBut validation late sectors.new tables.now) }
-    ensures changes { IsTrue F.tells → ChangesSectors
-        tables.now.fat_sectors sectors.old.version sectors.old.bytes sectors.new.bytes }
-    ensures raised { OnOk result (IsRaised (0 < length numbers.now) sectors.old sectors.new) }
-    ensures err { IfErr result IsMediumError }
-    ensures begun { IfErr result (λ e. sectors.new.begun ≡ true) }
-    ensures counts { IsTrue F.tells
-        → CountsFailure F.write_faults result sectors.old.failures sectors.new.failures }
 {
     let version = sectors.version();
     let mut done = 0;
@@ -326,20 +251,9 @@ fn list_in_header<F: Medium>(
     number: u32,
 ) -> Result<(), Error>
     requires place { index < header_difat_len }
-    ensures kept { sectors.new ≡ record sectors.old {
-      bytes = sectors.new.bytes;
-      failures = sectors.new.failures;
-      begun = true;
-    } }
+        ensures writes { WritesHeaderWords F.tells F.write_faults sectors.old sectors.new result }
     ensures ok { IsTrue F.tells
         → OnOk result (sectors.new.bytes ≡ listed_in_header sectors.old.bytes index number) }
-    ensures measured { IsTrue F.tells
-        → IsMeasured sectors.old → OnOk result (IsMeasured sectors.new) }
-    ensures changes { IsTrue F.tells
-        → ChangesSectors [] sectors.old.version sectors.old.bytes sectors.new.bytes }
-    ensures err { IfErr result IsMediumError }
-    ensures counts { IsTrue F.tells
-        → CountsFailure F.write_faults result sectors.old.failures sectors.new.failures }
 {
     free_place_behind(sectors, index)?;
     write_tables_word(sectors, HEADER_DIFAT + 4 * index, number)?;
@@ -357,23 +271,12 @@ fn list_in_difat_sector<F: Medium>(
     requires place { index < difat_places sectors.old.version (length difat_sectors.now) }
     requires short { index < max_regular_sector }
     requires below { (i : ℕ) → Contains difat_sectors.now i → i < sectors.old.num_sectors }
-    ensures kept { sectors.new ≡ record sectors.old {
-      len = sectors.new.len;
-      bytes = sectors.new.bytes;
-      failures = sectors.new.failures;
-      begun = true;
-    } }
+        ensures writes { WritesTableSectors F.tells F.write_faults sectors.old sectors.new
+            difat_sectors.now result }
     ensures ok { IsTrue F.tells → OnOk result (sectors.new.bytes
         ≡ listed_in_sector sectors.old.version sectors.old.bytes difat_sectors.now index number) }
     ensures len { IsTrue F.tells → OnOk result (sectors.new.len
         ≡ max sectors.old.len (difat_place sectors.old.version difat_sectors.now index + 4)) }
-    ensures measured { IsTrue F.tells
-        → IsMeasured sectors.old → OnOk result (IsMeasured sectors.new) }
-    ensures changes { IsTrue F.tells
-        → ChangesSectors difat_sectors.now sectors.old.version sectors.old.bytes sectors.new.bytes }
-    ensures err { IfErr result IsMediumError }
-    ensures counts { IsTrue F.tells
-        → CountsFailure F.write_faults result sectors.old.failures sectors.new.failures }
 {
     let entries = sectors.version().words_per_sector() - 1;
     let place = index - NUM_DIFAT_ENTRIES_IN_HEADER;
@@ -395,21 +298,10 @@ fn link_difat_sector<F: Medium>(
 ) -> Result<(), Error>
     requires short { length before.now < max_regular_sector }
     requires below { (i : ℕ) → Contains before.now i → i < sectors.old.num_sectors }
-    ensures kept { sectors.new ≡ record sectors.old {
-      len = sectors.new.len;
-      bytes = sectors.new.bytes;
-      failures = sectors.new.failures;
-      begun = true;
-    } }
+        ensures writes { WritesTableSectors F.tells F.write_faults sectors.old sectors.new
+            before.now result }
     ensures ok { IsTrue F.tells → OnOk result (sectors.new.bytes
         ≡ linked sectors.old.version sectors.old.bytes before.now number) }
-    ensures measured { IsTrue F.tells
-        → IsMeasured sectors.old → OnOk result (IsMeasured sectors.new) }
-    ensures changes { IsTrue F.tells
-        → ChangesSectors before.now sectors.old.version sectors.old.bytes sectors.new.bytes }
-    ensures err { IfErr result IsMediumError }
-    ensures counts { IsTrue F.tells
-        → CountsFailure F.write_faults result sectors.old.failures sectors.new.failures }
 {
     let _fact = sectors.num_sectors();
     name_difat_sector(sectors, before, number)?;
@@ -423,21 +315,10 @@ fn name_difat_sector<F: Medium>(
     number: u32,
 ) -> Result<(), Error>
     requires below { (i : ℕ) → Contains before.now i → i < sectors.old.num_sectors }
-    ensures kept { sectors.new ≡ record sectors.old {
-      len = sectors.new.len;
-      bytes = sectors.new.bytes;
-      failures = sectors.new.failures;
-      begun = true;
-    } }
+        ensures writes { WritesTableSectors F.tells F.write_faults sectors.old sectors.new
+            before.now result }
     ensures ok { IsTrue F.tells → OnOk result (sectors.new.bytes
         ≡ with_word sectors.old.bytes (link_place sectors.old.version before.now) number) }
-    ensures measured { IsTrue F.tells
-        → IsMeasured sectors.old → OnOk result (IsMeasured sectors.new) }
-    ensures changes { IsTrue F.tells
-        → ChangesSectors before.now sectors.old.version sectors.old.bytes sectors.new.bytes }
-    ensures err { IfErr result IsMediumError }
-    ensures counts { IsTrue F.tells
-        → CountsFailure F.write_faults result sectors.old.failures sectors.new.failures }
 {
     let _fact = sectors.num_sectors();
     if before.is_empty() {
@@ -456,25 +337,14 @@ fn add_difat_sector<F: Medium>(
     requires short { length before.now < max_regular_sector }
     requires below { (i : ℕ) → Contains before.now i → i < sectors.old.num_sectors }
     requires there { number < sectors.old.num_sectors }
-    ensures kept { sectors.new ≡ record sectors.old {
-      len = sectors.new.len;
-      bytes = sectors.new.bytes;
-      failures = sectors.new.failures;
-      begun = true;
-    } }
+        ensures writes { WritesTableSectors F.tells F.write_faults sectors.old sectors.new
+            (before.now ++ number ∷ []) result }
     ensures listed { IsTrue F.tells → (validation : Validation) (list : List ℕ)
         → ListsTables validation sectors.old.version sectors.old.bytes list before.now
         → IsMeasured sectors.old → difat_places sectors.old.version (length before.now)
         ≤ length list → (Contains before.now number → ⊥)
         → OnOk result (ListsTables validation sectors.old.version sectors.new.bytes list (before.now
         ++ number ∷ [])) }
-    ensures measured { IsTrue F.tells
-        → IsMeasured sectors.old → OnOk result (IsMeasured sectors.new) }
-    ensures changes { IsTrue F.tells → ChangesSectors (before.now
-        ++ number ∷ []) sectors.old.version sectors.old.bytes sectors.new.bytes }
-    ensures err { IfErr result IsMediumError }
-    ensures counts { IsTrue F.tells
-        → CountsFailure F.write_faults result sectors.old.failures sectors.new.failures }
 {
     let _fact = sectors.num_sectors();
     fill_sector(sectors, number, SectorInit::Difat)?;
@@ -492,25 +362,14 @@ fn list_fat_sector<F: Medium>(
     requires short { index < max_regular_sector }
     requires below { (i : ℕ) → Contains difat_sectors.now i → i < sectors.old.num_sectors }
     requires there { number < sectors.old.num_sectors }
-    ensures kept { sectors.new ≡ record sectors.old {
-      len = sectors.new.len;
-      bytes = sectors.new.bytes;
-      failures = sectors.new.failures;
-      begun = true;
-    } }
+        ensures writes { WritesTableSectors F.tells F.write_faults sectors.old sectors.new
+            difat_sectors.now result }
     ensures listed { IsTrue F.tells → (validation : Validation) (list : List ℕ)
         → ListsTables validation sectors.old.version sectors.old.bytes list difat_sectors.now
         → IsMeasured sectors.old
         → length list ≡ index → is_whole_sector sectors.old.version sectors.old.bytes number ≡ true
         → OnOk result (ListsTables validation sectors.old.version sectors.new.bytes (list
         ++ number ∷ []) difat_sectors.now) }
-    ensures measured { IsTrue F.tells
-        → IsMeasured sectors.old → OnOk result (IsMeasured sectors.new) }
-    ensures changes { IsTrue F.tells
-        → ChangesSectors difat_sectors.now sectors.old.version sectors.old.bytes sectors.new.bytes }
-    ensures err { IfErr result IsMediumError }
-    ensures counts { IsTrue F.tells
-        → CountsFailure F.write_faults result sectors.old.failures sectors.new.failures }
 {
     let _fact = sectors.num_sectors();
     if index < NUM_DIFAT_ENTRIES_IN_HEADER {
@@ -528,18 +387,9 @@ fn grow_difat<F: Medium>(
     listed: usize,
     index: usize,
 ) -> Result<usize, Error>
-    requires short { length difat_sectors.now ≤ max_regular_sector }
-    requires listed { listed ≤ length difat_sectors.now }
-    requires full { difat_places sectors.old.version listed ≤ index
-        → listed < length difat_sectors.now }
-    requires within { index ≤ difat_places sectors.old.version listed }
-    requires below { (i : ℕ) → Contains difat_sectors.now i → i < sectors.old.num_sectors }
-    ensures kept { sectors.new ≡ record sectors.old {
-      len = sectors.new.len;
-      bytes = sectors.new.bytes;
-      failures = sectors.new.failures;
-      begun = sectors.new.begun;
-    } }
+        requires next { CanListNext difat_sectors.now listed index sectors.old }
+        ensures writes { MayWriteTables F.tells F.write_faults sectors.old sectors.new
+            difat_sectors.now result }
     ensures answer { IfOk result (λ n. n
         ≡ (if nat_lt index (difat_places sectors.old.version listed) then listed else listed + 1)) }
     ensures place { IfOk result (λ n. (index < difat_places sectors.old.version n)
@@ -550,15 +400,8 @@ fn grow_difat<F: Medium>(
         → IsMeasured sectors.old → index ≤ length list → IsDistinct nat_eq difat_sectors.now
         → IfOk result (λ n. ListsTables validation sectors.old.version sectors.new.bytes list
         (take n difat_sectors.now)) }
-    ensures measured { IsTrue F.tells
-        → IsMeasured sectors.old → OnOk result (IsMeasured sectors.new) }
-    ensures changes { IsTrue F.tells
-        → ChangesSectors difat_sectors.now sectors.old.version sectors.old.bytes sectors.new.bytes }
     ensures raised { OnOk result (IsRaised (difat_places sectors.old.version listed
         ≤ index) sectors.old sectors.new) }
-    ensures err { IfErr result (λ e. IsMediumError e × (sectors.new.begun ≡ true)) }
-    ensures counts { IsTrue F.tells
-        → CountsFailure F.write_faults result sectors.old.failures sectors.new.failures }
 {
     let entries = sectors.version().words_per_sector() - 1;
     if index < NUM_DIFAT_ENTRIES_IN_HEADER + listed * entries {
@@ -578,20 +421,11 @@ fn add_fat_sector<F: Medium>(
     index: usize,
 ) -> Result<usize, Error>
     requires few { length fat_sectors.now ≤ max_regular_sector }
-    requires short { length difat_sectors.now ≤ max_regular_sector }
+        requires next { CanListNext difat_sectors.now listed index sectors.old }
     requires index { index < length fat_sectors.now }
-    requires listed { listed ≤ length difat_sectors.now }
-    requires full { difat_places sectors.old.version listed ≤ index
-        → listed < length difat_sectors.now }
-    requires within { index ≤ difat_places sectors.old.version listed }
-    requires below { (i : ℕ) → Contains difat_sectors.now i → i < sectors.old.num_sectors }
     requires there { slice_index fat_sectors.now index < sectors.old.num_sectors }
-    ensures kept { sectors.new ≡ record sectors.old {
-      len = sectors.new.len;
-      bytes = sectors.new.bytes;
-      failures = sectors.new.failures;
-      begun = true;
-    } }
+        ensures writes { WritesTableSectors F.tells F.write_faults sectors.old sectors.new
+            (slice_index fat_sectors.now index ∷ difat_sectors.now) result }
     ensures answer { IfOk result (λ n. n
         ≡ (if nat_lt index (difat_places sectors.old.version listed) then listed else listed + 1)) }
     ensures listed { IsTrue F.tells
@@ -602,13 +436,6 @@ fn add_fat_sector<F: Medium>(
         (take (index + 1) fat_sectors.now) (take n difat_sectors.now)) }
     ensures filled { IsTrue F.tells → AreDisjoint fat_sectors.now difat_sectors.now → OnOk result
         (IsAsFilled sectors.old.version Fat sectors.new.bytes (slice_index fat_sectors.now index)) }
-    ensures measured { IsTrue F.tells
-        → IsMeasured sectors.old → OnOk result (IsMeasured sectors.new) }
-    ensures changes { IsTrue F.tells → ChangesSectors (slice_index fat_sectors.now index
-        ∷ difat_sectors.now) sectors.old.version sectors.old.bytes sectors.new.bytes }
-    ensures err { IfErr result IsMediumError }
-    ensures counts { IsTrue F.tells
-        → CountsFailure F.write_faults result sectors.old.failures sectors.new.failures }
 {
     let _fact = sectors.num_sectors();
     let number = fat_sectors[index];
@@ -627,20 +454,9 @@ fn write_table_sectors<F: Medium>(
     fats: usize,
     difats: usize,
 ) -> Result<(), Error>
-    requires few { length fat_sectors.now ≤ max_regular_sector }
-    requires short { length difat_sectors.now ≤ max_regular_sector }
-    requires from { fats ≤ length fat_sectors.now }
-    requires places { fats ≤ difat_places sectors.old.version difats }
-    requires counted { length difat_sectors.now ≡ max difats (rounded_up (length fat_sectors.now
-        - header_difat_len) (words_per_sector sectors.old.version - 1)) }
-    requires below { (i : ℕ) → Contains difat_sectors.now i → i < sectors.old.num_sectors }
-    requires there { (i : ℕ) → Contains fat_sectors.now i → i < sectors.old.num_sectors }
-    ensures kept { sectors.new ≡ record sectors.old {
-      len = sectors.new.len;
-      bytes = sectors.new.bytes;
-      failures = sectors.new.failures;
-      begun = sectors.new.begun;
-    } }
+        requires tables { TablesFit fat_sectors.now difat_sectors.now sectors.old fats difats }
+        ensures writes { MayWriteTables F.tells F.write_faults sectors.old sectors.new
+            (drop fats fat_sectors.now ++ difat_sectors.now) result }
     ensures listed { IsTrue F.tells
         → (validation : Validation) → ListsTables validation sectors.old.version sectors.old.bytes
         (take fats fat_sectors.now) (take difats difat_sectors.now)
@@ -651,15 +467,8 @@ fn write_table_sectors<F: Medium>(
         → IsDistinct nat_eq fat_sectors.now → AreDisjoint fat_sectors.now difat_sectors.now
         → OnOk result ((k : ℕ) → fats ≤ k → k < length fat_sectors.now
         → IsAsFilled sectors.old.version Fat sectors.new.bytes (slice_index fat_sectors.now k)) }
-    ensures measured { IsTrue F.tells
-        → IsMeasured sectors.old → OnOk result (IsMeasured sectors.new) }
-    ensures changes { IsTrue F.tells → ChangesSectors (drop fats fat_sectors.now
-        ++ difat_sectors.now) sectors.old.version sectors.old.bytes sectors.new.bytes }
     ensures raised { OnOk result (IsRaised (fats
         < length fat_sectors.now) sectors.old sectors.new) }
-    ensures err { IfErr result (λ e. IsMediumError e × (sectors.new.begun ≡ true)) }
-    ensures counts { IsTrue F.tells
-        → CountsFailure F.write_faults result sectors.old.failures sectors.new.failures }
 {
     let mut listed = difats;
     for index in fats..fat_sectors.len() {
@@ -679,45 +488,16 @@ fn add_sectors<F: Medium>(
     init: SectorInit,
     from: &[u8],
 ) -> Result<(), Error>
-    requires few { length fat_sectors.now ≤ max_regular_sector }
-    requires short { length difat_sectors.now ≤ max_regular_sector }
-    requires from { before.fats ≤ length fat_sectors.now }
-    requires places { before.fats ≤ difat_places sectors.old.version before.difats }
-    requires counted { length difat_sectors.now
-        ≡ max before.difats (rounded_up (length fat_sectors.now
-        - header_difat_len) (words_per_sector sectors.old.version - 1)) }
-    requires below { (i : ℕ) → Contains difat_sectors.now i → i < sectors.old.num_sectors }
-    requires there { (i : ℕ) → Contains fat_sectors.now i → i < sectors.old.num_sectors }
+        requires tables { TablesFit fat_sectors.now difat_sectors.now sectors.old before.fats
+            before.difats }
     requires more { (i : ℕ) → Contains more.now i → i < sectors.old.num_sectors }
-    ensures kept { sectors.new ≡ record sectors.old {
-      len = sectors.new.len;
-      bytes = sectors.new.bytes;
-      failures = sectors.new.failures;
-      begun = sectors.new.begun;
-    } }
-    ensures listed { IsTrue F.tells
-        → (validation : Validation) → ListsTables validation sectors.old.version sectors.old.bytes
-        (take before.fats fat_sectors.now) (take before.difats difat_sectors.now)
-        → IsMeasured sectors.old
-        → IsDistinct nat_eq difat_sectors.now → AreDisjoint fat_sectors.now difat_sectors.now
-        → AreDisjoint difat_sectors.now more.now → OnOk result (ListsTables
-        validation sectors.old.version sectors.new.bytes fat_sectors.now difat_sectors.now) }
-    ensures fats { IsTrue F.tells → IsDistinct nat_eq fat_sectors.now
-        → AreDisjoint fat_sectors.now difat_sectors.now → AreDisjoint fat_sectors.now more.now
-        → OnOk result ((k : ℕ) → before.fats ≤ k → k < length fat_sectors.now
-        → IsAsFilled sectors.old.version Fat sectors.new.bytes (slice_index fat_sectors.now k)) }
-    ensures filled { IsTrue F.tells → IsDistinct nat_eq more.now → OnOk result
-        (AreFilledFrom sectors.old.version init from.now sectors.new.bytes more.now) }
-    ensures measured { IsTrue F.tells
-        → IsMeasured sectors.old → OnOk result (IsMeasured sectors.new) }
-    ensures changes { IsTrue F.tells → ChangesSectors (drop before.fats fat_sectors.now
-        ++ difat_sectors.now ++ more.now) sectors.old.version sectors.old.bytes sectors.new.bytes }
+        ensures writes { MayWriteTables F.tells F.write_faults sectors.old sectors.new
+            (drop before.fats fat_sectors.now ++ difat_sectors.now ++ more.now) result }
+        ensures added { HoldsAdded F.tells fat_sectors.now difat_sectors.now more.now init from.now
+            sectors.old sectors.new before.fats before.difats result }
     ensures end { OnOk result (sectors.new.len ≤ sectors_end sectors.new) }
     ensures long { sector_len sectors.old.version ≤ sectors.old.len }
     ensures raised { OnOk result (IsRaised (0 < length more.now) sectors.old sectors.new) }
-    ensures err { IfErr result (λ e. IsMediumError e × (sectors.new.begun ≡ true)) }
-    ensures counts { IsTrue F.tells
-        → CountsFailure F.write_faults result sectors.old.failures sectors.new.failures }
 {
     let _fact = sectors.num_sectors();
     write_table_sectors(
@@ -748,30 +528,20 @@ fn write_late<F: Medium, A: Allocator>(
     touched: &[u32],
     more: &[u32],
 ) -> Result<(), Error>
-    requires placed { IsPlaced sectors.old tables.now }
-    requires covered { IsCovered tables.now }
+        requires tables { ArePlacedTables tables.now sectors.old }
     requires from { before.fats ≤ length tables.now.fat_sectors }
     requires difats { before.difats ≤ length tables.now.difat_sectors }
     requires touched { (i : ℕ) → Contains touched.now i → i < length tables.now.fat }
     requires more { (i : ℕ) → Contains more.now i → i < length tables.now.fat }
-    ensures kept { sectors.new ≡ record sectors.old {
-      len = sectors.new.len;
-      bytes = sectors.new.bytes;
-      failures = sectors.new.failures;
-      begun = sectors.new.begun;
-    } }
+        ensures writes { MayWriteWords F.tells F.write_faults sectors.old sectors.new
+            sectors.old.version tables.now.fat_sectors result }
     ensures ok { IsTrue F.tells → (validation : Validation) (late : List ℕ)
         → HoldsBut validation (drop before.difats tables.now.difat_sectors
         ++ (drop before.fats tables.now.fat_sectors
         ++ (more.now ++ (touched.now ++ late)))) sectors.old tables.now
         → OnOk result (HoldsBut validation late sectors.new tables.now) }
-    ensures changes { IsTrue F.tells → ChangesSectors
-        tables.now.fat_sectors sectors.old.version sectors.old.bytes sectors.new.bytes }
     ensures raised { OnOk result (IsRaised (0
         < length touched.now + length more.now) sectors.old sectors.new) }
-    ensures err { IfErr result (λ e. IsMediumError e × (sectors.new.begun ≡ true)) }
-    ensures counts { IsTrue F.tells
-        → CountsFailure F.write_faults result sectors.old.failures sectors.new.failures }
 {
     write_values(sectors, tables, &tables.difat_sectors()[before.difats..])?;
     write_values(sectors, tables, &tables.fat_sectors()[before.fats..])?;
@@ -790,22 +560,11 @@ pub fn write_taken<F: Medium, A: Allocator>(
     init: SectorInit,
     from: &[u8],
 ) -> Result<(), Error>
-    requires placed { IsPlaced sectors.old tables.now }
-    requires covered { IsCovered tables.now }
-    requires few { length tables.now.fat_sectors ≤ length tables.now.fat }
-    requires from { before.fats ≤ length tables.now.fat_sectors }
-    requires places { before.fats ≤ difat_places tables.now.version before.difats }
-    requires counted { length tables.now.difat_sectors
-        ≡ max before.difats (rounded_up (length tables.now.fat_sectors
-        - header_difat_len) (words_per_sector tables.now.version - 1)) }
-    requires touched { (i : ℕ) → Contains touched.now i → i < length tables.now.fat }
-    requires more { (i : ℕ) → Contains more.now i → i < length tables.now.fat }
-    ensures kept { sectors.new ≡ record sectors.old {
-      len = sectors.new.len;
-      bytes = sectors.new.bytes;
-      failures = sectors.new.failures;
-      begun = sectors.new.begun;
-    } }
+        requires tables { ArePlacedTables tables.now sectors.old }
+        requires taken { CanWriteTaken touched.now more.now tables.now before.fats before.difats }
+        ensures writes { MayWriteWords F.tells F.write_faults sectors.old sectors.new
+            tables.now.version (tables.now.fat_sectors ++ tables.now.difat_sectors ++ more.now)
+            result }
     ensures holds { IsTrue F.tells → (validation : Validation) (old : TableState)
         → HasTaken old tables.now touched.now more.now
         → IsClean tables.now.fat → before.fats ≡ length old.fat_sectors
@@ -819,14 +578,8 @@ pub fn write_taken<F: Medium, A: Allocator>(
         AreFilledFrom tables.now.version init from.now sectors.new.bytes more.now
         ⊎ ChangesSectors (drop before.fats tables.now.fat_sectors ++ tables.now.difat_sectors
         ++ more.now) tables.now.version sectors.old.bytes sectors.new.bytes) }
-    ensures changes { IsTrue F.tells
-        → ChangesSectors (tables.now.fat_sectors ++ tables.now.difat_sectors
-        ++ more.now) tables.now.version sectors.old.bytes sectors.new.bytes }
     ensures raised { OnOk result (IsRaised (0
         < length touched.now + length more.now) sectors.old sectors.new) }
-    ensures err { IfErr result (λ e. IsMediumError e × (sectors.new.begun ≡ true)) }
-    ensures counts { IsTrue F.tells
-        → CountsFailure F.write_faults result sectors.old.failures sectors.new.failures }
 {
     let _fact = tables.len();
     add_sectors(

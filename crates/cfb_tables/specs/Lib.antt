@@ -9,3 +9,7 @@ pub mod Listed
 pub mod ReadWords
 pub mod Consecutive
 pub mod Spares
+pub mod Freeing
+pub mod Taking
+pub mod Growing
+pub mod Free

@@ -1,17 +1,13 @@
 //! Numbers that follow each other.
 ghost use Rattle.std.specs.Prelude.{◌≢◌, ◌+◌, ◌<◌, ◌≤◌, length, slice_index};
+ghost use Rattle.cfb_tables.specs.Free.{CountsThatFollow};
 ghost use Rattle.cfb_tables.specs.Consecutive.{FollowOn};
 
 /// How many of these numbers, from that index on, follow each other; it looks at no more than `most`.
 pub fn count_consecutive(numbers: &[u32], index: usize, most: usize) -> usize
     requires listed { index < length numbers.now }
     requires some { 0 < most }
-    ensures some { 0 < result }
-    ensures most { result ≤ most }
-    ensures listed { index + result ≤ length numbers.now }
-    ensures follow { FollowOn numbers.now index result }
-    ensures longest { result < most → index + result < length numbers.now
-        → slice_index numbers.now (index + result) ≢ slice_index numbers.now index + result }
+        ensures run { CountsThatFollow numbers.now index most result }
 {
     let first = numbers[index] as usize;
     let bound = most.min(numbers.len() - index);

@@ -1,5 +1,6 @@
 //! The numbers of a table that are free.
 ghost use Rattle.std.specs.Prelude.{◌≡◌, ◌≤◌, length, IfOk, IfErr, vec_len, vec_capacity};
+ghost use Rattle.cfb_tables.specs.Free.{ListsFreeNumbers};
 ghost use Rattle.cfb_format.specs.Bytes.{max_regular_sector};
 ghost use Rattle.cfb_format.specs.Full.{free_count};
 ghost use Rattle.cfb_tables.specs.Changes.{ListsFree, TakesLastFirst};
@@ -13,10 +14,7 @@ use std::alloc::Allocator;
 pub fn free_below<A: Allocator>(alloc: A, table: &[u32], end: usize) -> Result<Vec<u32, A>, Error>
     requires short { length table.now ≤ max_regular_sector }
     requires within { end ≤ length table.now }
-    ensures ok { IfOk result (λ free. ListsFree end free.items table.now) }
-    ensures next { IfOk result (λ free. TakesLastFirst end free.items table.now) }
-    ensures room { IfOk result (λ free. length table.now ≤ vec_capacity free) }
-    ensures err { IfErr result (TableRefused ⊥ Unit ⊥) }
+        ensures lists { ListsFreeNumbers table.now end result }
 {
     let mut free = Vec::with_capacity(alloc, table.len())?;
     for number in 0..end {
@@ -30,11 +28,8 @@ pub fn free_below<A: Allocator>(alloc: A, table: &[u32], end: usize) -> Result<V
 /// The numbers that are free, in order, in a list that has room for all numbers. `Memory`.
 pub fn free_numbers<A: Allocator>(alloc: A, table: &[u32]) -> Result<Vec<u32, A>, Error>
     requires short { length table.now ≤ max_regular_sector }
-    ensures ok { IfOk result (λ free. ListsFree (length table.now) free.items table.now) }
+        ensures lists { ListsFreeNumbers table.now (length table.now) result }
     ensures counted { IfOk result (λ free. vec_len free ≡ free_count table.now) }
-    ensures next { IfOk result (λ free. TakesLastFirst (length table.now) free.items table.now) }
-    ensures room { IfOk result (λ free. length table.now ≤ vec_capacity free) }
-    ensures err { IfErr result (TableRefused ⊥ Unit ⊥) }
 {
     let free = free_below(alloc, table, table.len())?;
     Ok(free)

@@ -1,6 +1,9 @@
 //! The lists that the tables are made of. Each growth of memory is reserved here before anything changes, and what was
 //! reserved for cannot fail.
 ghost use Rattle.std.specs.Prelude.{◌≡◌, ◌≢◌, ◌↔◌, IsTrue, ℕ, nat_eq, List, Contains, ◌+◌, ◌-◌, ◌*◌, ◌<◌, ◌≤◌, [], ◌∷◌, ◌++◌, length, take, drop, min, slice_set, IfOk, IfErr, IfSome, IfNone, OnErr, OnOk, vec_len, vec_capacity};
+ghost use Rattle.cfb_tables.specs.Growing.{HaveRoomFor, GrowLists};
+ghost use Rattle.cfb_tables.specs.Taking.{LengthensList, LengthensTheList, FewAreRefused, TooFewAreRefused, ExtendingRefused, TakesNumbers, AttachesNumbers, TakesNumber, AttachesNumber, ExtendsBy, CanBeAttachedTo, TakesAllPrepared, HasPrepared};
+ghost use Rattle.cfb_tables.specs.Freeing.{FreesChain, FreesChainAfter, CutsListed, CanCut};
 ghost use Rattle.cfb_format.specs.Bytes.{max_regular_sector, end_of_chain, free_sector, words_per_sector};
 ghost use Rattle.cfb_format.specs.Chain.{value, IsChain};
 ghost use Rattle.cfb_format.specs.Full.{free_count};
@@ -178,20 +181,11 @@ fn grow<A: Allocator>(
 ) -> u32
     requires some { 0 < numbers }
     requires few { numbers < 4 }
-    requires room { vec_len fat.old + numbers ≤ vec_capacity fat.old }
-    requires fat_room { (1 < numbers) → vec_len fat_sectors.old < vec_capacity fat_sectors.old }
-    requires difat_room { (2 < numbers)
-        → vec_len difat_sectors.old < vec_capacity difat_sectors.old }
+        requires room { HaveRoomFor fat.old fat_sectors.old difat_sectors.old numbers }
     requires short { vec_len fat.old + numbers ≤ max_regular_sector }
     ensures number { result + 1 ≡ vec_len fat.old + numbers }
-    ensures fat { fat.new.items ≡ fat.old.items ++ grown numbers }
-    ensures fat_sectors { fat_sectors.new.items
-        ≡ fat_sectors.old.items ++ grown_fats numbers (vec_len fat.old) }
-    ensures difat_sectors { difat_sectors.new.items
-        ≡ difat_sectors.old.items ++ grown_difats numbers (vec_len fat.old) }
-    ensures capacity { vec_capacity fat.new ≡ vec_capacity fat.old }
-    ensures fat_capacity { vec_capacity fat_sectors.new ≡ vec_capacity fat_sectors.old }
-    ensures difat_capacity { vec_capacity difat_sectors.new ≡ vec_capacity difat_sectors.old }
+        ensures grown { GrowLists numbers fat.old fat.new fat_sectors.old fat_sectors.new
+            difat_sectors.old difat_sectors.new }
 {
     if numbers < 2 {
         return append(fat, END_OF_CHAIN);
@@ -349,9 +343,7 @@ impl<A: Allocator> Lists<A> {
           difats_capacity = self.new.difats_capacity;
           free_capacity = self.new.free_capacity;
         } }
-        ensures err { IfErr result (TableRefused ⊥ (IsTooFew self.old.state count
-            → ⊥) (IsTooFew self.old.state count)) }
-        ensures enough { OnOk result (IsTooFew self.old.state count → ⊥) }
+        ensures error { TooFewAreRefused count self.old.state result }
     {
         let missing = self.missing(count);
         let sizes = self
@@ -420,10 +412,8 @@ impl<A: Allocator> Lists<A> {
 
     /// Adds so many sectors at the end of a chain, with the memory that was prepared for them, and appends them to the list.
     pub fn attach_prepared(&mut self, last: u32, count: usize, list: &mut Vec<u32, A>)
-        requires prepared { IsPrepared self.old count }
-        requires sizes { AreSizes self.old.state.version (sizes_of self.old.state) }
-        requires ended { value self.old.state.fat last ≡ end_of_chain }
-        requires regular { last ≤ max_regular_sector }
+        requires prepared { HasPrepared count self.old }
+        requires last { CanBeAttachedTo last self.old.state.fat }
         requires room { vec_len list.old + count ≤ vec_capacity list.old }
         ensures added { Added self.old.state self.new.state last list.old.items list.new.items }
         ensures count { vec_len list.new ≡ vec_len list.old + count }
@@ -442,15 +432,12 @@ impl<A: Allocator> Lists<A> {
 
     /// Takes so many sectors as a new chain, with the memory that was prepared for them, and lists them.
     fn take_all_prepared(&mut self, count: usize, list: &mut Vec<u32, A>)
-        requires prepared { IsPrepared self.old count }
-        requires sizes { AreSizes self.old.state.version (sizes_of self.old.state) }
+        requires prepared { HasPrepared count self.old }
         requires room { count ≤ vec_capacity list.old }
         requires empty { list.old.items ≡ [] }
-        ensures taken { HasTaken self.old.state self.new.state [] list.new.items }
-        ensures chain { IsChain self.new.state.fat (first_or_end list.new.items) list.new.items }
+        ensures list { TakesAllPrepared count list.old.items list.new.items self.old.state
+            self.new.state }
         ensures count { vec_len list.new ≡ count }
-        ensures none { count ≡ 0
-            → (self.new.state ≡ self.old.state) × (list.new.items ≡ list.old.items) }
     {
         if count > 0 {
             let first = self.take_prepared();
@@ -462,21 +449,11 @@ impl<A: Allocator> Lists<A> {
     /// Adds so many sectors behind the last of the listed ones, which ends a chain, or as a new chain where none is listed, with
     /// the memory that was prepared for them, and appends them to the list.
     fn extend_prepared(&mut self, list: &mut Vec<u32, A>, count: usize)
-        requires prepared { IsPrepared self.old count }
-        requires sizes { AreSizes self.old.state.version (sizes_of self.old.state) }
+        requires prepared { HasPrepared count self.old }
         requires ends { EndsChain self.old.state.fat list.old.items }
         requires room { vec_len list.old + count ≤ vec_capacity list.old }
-        ensures listed { list.new.items ≡ list.old.items ++ gained list.old.items list.new.items }
-        ensures count { length (gained list.old.items list.new.items) ≡ count }
-        ensures taken { HasTaken self.old.state self.new.state
-            (ends_of list.old.items) (gained list.old.items list.new.items) }
-        ensures behind { IsChain self.new.state.fat (first_or_end (ends_of list.old.items
-            ++ gained list.old.items list.new.items)) (ends_of list.old.items
-            ++ gained list.old.items list.new.items) }
-        ensures chain { IsChain self.old.state.fat (first_or_end list.old.items) list.old.items
-            → IsChain self.new.state.fat (first_or_end list.new.items) list.new.items }
-        ensures none { count ≡ 0
-            → (self.new.state ≡ self.old.state) × (list.new.items ≡ list.old.items) }
+        ensures extends { LengthensTheList list.old.items list.new.items count self.old.state
+            self.new.state }
     {
         if list.is_empty() {
             return self.take_all_prepared(count, list);
@@ -502,12 +479,8 @@ impl<A: Allocator> Lists<A> {
     /// Takes a sector, as the only one of a new chain. `Full` and `Memory`.
     pub fn take(&mut self) -> Result<u32, Error>
         ensures sizes { AreSizes self.old.state.version (sizes_of self.old.state) }
-        ensures taken { IfOk result (λ x. HasTaken self.old.state self.new.state [] (x ∷ [])) }
-        ensures chain { IfOk result (λ x. IsChain self.new.state.fat x (x ∷ [])) }
-        ensures enough { OnOk result (IsTooFew self.old.state 1 → ⊥) }
-        ensures unchanged { OnErr result (self.new.state ≡ self.old.state) }
-        ensures err { IfErr result (TableRefused ⊥ (IsTooFew self.old.state 1
-            → ⊥) (IsTooFew self.old.state 1)) }
+        ensures number { TakesNumber self.old.state self.new.state result }
+        ensures error { FewAreRefused 1 self.old.state self.new.state result }
     {
         self.prepare(1)?;
         Ok(self.take_prepared())
@@ -515,15 +488,9 @@ impl<A: Allocator> Lists<A> {
 
     /// Adds a sector behind the last one of a chain. `Full` and `Memory`.
     pub fn attach(&mut self, last: u32) -> Result<u32, Error>
-        requires ended { value self.old.state.fat last ≡ end_of_chain }
-        requires regular { last ≤ max_regular_sector }
-        ensures taken { IfOk result (λ x.
-            HasTaken self.old.state self.new.state (last ∷ []) (x ∷ [])) }
-        ensures chain { IfOk result (λ x. IsChain self.new.state.fat last (last ∷ x ∷ [])) }
-        ensures enough { OnOk result (IsTooFew self.old.state 1 → ⊥) }
-        ensures unchanged { OnErr result (self.new.state ≡ self.old.state) }
-        ensures err { IfErr result (TableRefused ⊥ (IsTooFew self.old.state 1
-            → ⊥) (IsTooFew self.old.state 1)) }
+        requires last { CanBeAttachedTo last self.old.state.fat }
+        ensures number { AttachesNumber last self.old.state self.new.state result }
+        ensures error { FewAreRefused 1 self.old.state self.new.state result }
     {
         let sector = self.take()?;
         self.link(last, sector);
@@ -534,9 +501,7 @@ impl<A: Allocator> Lists<A> {
     /// `Full` and `Memory`.
     pub fn extend(&mut self, start: u32) -> Result<u32, Error>
         ensures ok { IfOk result (λ x. Extended self.old.state self.new.state start (x ∷ [])) }
-        ensures enough { OnOk result (IsTooFew self.old.state 1 → ⊥) }
-        ensures unchanged { OnErr result (self.new.state ≡ self.old.state) }
-        ensures err { IfErr result (ExtendRefused self.old.state start 1) }
+        ensures error { ExtendingRefused start 1 self.old.state self.new.state result }
     {
         let last = self.last(start)?;
         let sector = self.attach(last)?;
@@ -554,16 +519,9 @@ impl<A: Allocator> Lists<A> {
 
     /// Adds so many sectors behind the last one of a chain, and gives their numbers. `Full` and `Memory`.
     pub fn attach_by(&mut self, alloc: A, last: u32, count: usize) -> Result<Vec<u32, A>, Error>
-        requires ended { value self.old.state.fat last ≡ end_of_chain }
-        requires regular { last ≤ max_regular_sector }
-        ensures taken { IfOk result (λ list.
-            HasTaken self.old.state self.new.state (last ∷ []) list.items) }
-        ensures chain { IfOk result (λ list. IsChain self.new.state.fat last (last ∷ list.items)) }
-        ensures count { IfOk result (λ list. vec_len list ≡ count) }
-        ensures enough { OnOk result (IsTooFew self.old.state count → ⊥) }
-        ensures unchanged { OnErr result (self.new.state ≡ self.old.state) }
-        ensures err { IfErr result (TableRefused ⊥ (IsTooFew self.old.state count
-            → ⊥) (IsTooFew self.old.state count)) }
+        requires last { CanBeAttachedTo last self.old.state.fat }
+        ensures list { AttachesNumbers last count self.old.state self.new.state result }
+        ensures error { FewAreRefused count self.old.state self.new.state result }
     {
         self.prepare(count)?;
         let mut list = Vec::with_capacity(alloc, count)?;
@@ -573,14 +531,8 @@ impl<A: Allocator> Lists<A> {
 
     /// Takes so many sectors, as a new chain, and gives their numbers. `Full` and `Memory`.
     pub fn take_by(&mut self, alloc: A, count: usize) -> Result<Vec<u32, A>, Error>
-        ensures taken { IfOk result (λ list. HasTaken self.old.state self.new.state [] list.items) }
-        ensures chain { IfOk result (λ list.
-            IsChain self.new.state.fat (first_or_end list.items) list.items) }
-        ensures count { IfOk result (λ list. vec_len list ≡ count) }
-        ensures enough { OnOk result (IsTooFew self.old.state count → ⊥) }
-        ensures unchanged { OnErr result (self.new.state ≡ self.old.state) }
-        ensures err { IfErr result (TableRefused ⊥ (IsTooFew self.old.state count
-            → ⊥) (IsTooFew self.old.state count)) }
+        ensures list { TakesNumbers count self.old.state self.new.state result }
+        ensures error { FewAreRefused count self.old.state self.new.state result }
     {
         self.prepare(count)?;
         let mut list = Vec::with_capacity(alloc, count)?;
@@ -591,11 +543,8 @@ impl<A: Allocator> Lists<A> {
     /// Adds so many sectors at the end of the chain from `start`, and gives their numbers. `InvalidData` where there is no
     /// such chain and where it is empty, `Full` and `Memory`.
     pub fn extend_by(&mut self, alloc: A, start: u32, count: usize) -> Result<Vec<u32, A>, Error>
-        ensures ok { IfOk result (λ list. Extended self.old.state self.new.state start list.items) }
-        ensures count { IfOk result (λ list. vec_len list ≡ count) }
-        ensures enough { OnOk result (IsTooFew self.old.state count → ⊥) }
-        ensures unchanged { OnErr result (self.new.state ≡ self.old.state) }
-        ensures err { IfErr result (ExtendRefused self.old.state start count) }
+        ensures list { ExtendsBy start count self.old.state self.new.state result }
+        ensures error { ExtendingRefused start count self.old.state self.new.state result }
     {
         let last = self.last(start)?;
         let list = self.attach_by(alloc, last, count)?;
@@ -634,12 +583,7 @@ impl<A: Allocator> Lists<A> {
     /// Frees the chain from `start`, and gives the numbers that it had. `InvalidData` where there is no such chain, and
     /// `Memory`.
     pub fn free(&mut self, alloc: A, start: u32) -> Result<Vec<u32, A>, Error>
-        ensures ok { IfOk result (λ list. IsChain self.old.state.fat start list.items) }
-        ensures freed { IfOk result (λ list.
-            GivesBack [] list.items self.old.state.fat self.new.state.fat) }
-        ensures rest { self.new.state ≡ record self.old.state { fat = self.new.state.fat } }
-        ensures unchanged { OnErr result (self.new.state ≡ self.old.state) }
-        ensures err { IfErr result (WalkRefused self.old.state.fat start) }
+        ensures frees { FreesChain start self.old.state self.new.state result }
     {
         let list = self.chain(alloc, start)?;
         self.free_all(&list);
@@ -650,14 +594,7 @@ impl<A: Allocator> Lists<A> {
     /// on from the sector, and `Memory`.
     pub fn free_after(&mut self, alloc: A, sector: u32) -> Result<Vec<u32, A>, Error>
         requires below { sector < length self.old.state.fat }
-        ensures ok { IfOk result (λ list.
-            IsChain self.old.state.fat (value self.old.state.fat sector) list.items) }
-        ensures cut { IfOk result (λ list.
-            GivesBack (sector ∷ []) list.items self.old.state.fat self.new.state.fat) }
-        ensures rest { self.new.state ≡ record self.old.state { fat = self.new.state.fat } }
-        ensures unchanged { OnErr result (self.new.state ≡ self.old.state) }
-        ensures err { IfErr result
-            (WalkRefused self.old.state.fat (value self.old.state.fat sector)) }
+        ensures frees { FreesChainAfter sector self.old.state self.new.state result }
     {
         let list = self.behind(alloc, sector)?;
         self.end(sector);
@@ -669,24 +606,9 @@ impl<A: Allocator> Lists<A> {
     /// appends them to the list. `Full` and `Memory`: then nothing has changed.
     pub fn extend_listed(&mut self, list: &mut Vec<u32, A>, count: usize) -> Result<(), Error>
         requires ends { EndsChain self.old.state.fat list.old.items }
-        ensures listed { OnOk result (list.new.items
-            ≡ list.old.items ++ gained list.old.items list.new.items) }
-        ensures count { OnOk result (length (gained list.old.items list.new.items) ≡ count) }
-        ensures taken { OnOk result (HasTaken self.old.state self.new.state
-            (ends_of list.old.items) (gained list.old.items list.new.items)) }
-        ensures behind { OnOk result
-            (IsChain self.new.state.fat (first_or_end (ends_of list.old.items
-            ++ gained list.old.items list.new.items)) (ends_of list.old.items
-            ++ gained list.old.items list.new.items)) }
-        ensures chain { IsChain self.old.state.fat (first_or_end list.old.items) list.old.items
-            → IsChain self.new.state.fat (first_or_end list.new.items) list.new.items }
-        ensures none { count ≡ 0
-            → (self.new.state ≡ self.old.state) × (list.new.items ≡ list.old.items) }
-        ensures enough { OnOk result (IsTooFew self.old.state count → ⊥) }
-        ensures unchanged { OnErr result ((self.new.state ≡ self.old.state)
-            × (list.new.items ≡ list.old.items)) }
-        ensures err { IfErr result (TableRefused ⊥ (IsTooFew self.old.state count
-            → ⊥) (IsTooFew self.old.state count)) }
+        ensures extends { LengthensList list.old.items list.new.items count self.old.state
+            self.new.state result }
+        ensures error { TooFewAreRefused count self.old.state result }
     {
         self.prepare(count)?;
         list.reserve(count)?;
@@ -705,11 +627,8 @@ impl<A: Allocator> Lists<A> {
 
     /// Leaves so many sectors of the chain that has just these, and frees the ones behind them. It asks for no memory.
     pub fn cut_listed(&mut self, list: &[u32], left: usize)
-        requires chain { IsChain self.old.state.fat (first_or_end list.now) list.now }
-        requires fewer { left ≤ length list.now }
-        ensures cut { GivesBack (ends_of (take left list.now))
-            (drop left list.now) self.old.state.fat self.new.state.fat }
-        ensures rest { self.new.state ≡ record self.old.state { fat = self.new.state.fat } }
+        requires can_cut { CanCut list.now left self.old.state }
+        ensures cuts { CutsListed list.now left self.old.state self.new.state }
     {
         if left == 0 {
             return self.free_all(list);

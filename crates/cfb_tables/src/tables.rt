@@ -1,6 +1,8 @@
 //! The tables of a file in memory: the value of each sector, the FAT sectors and the DIFAT sectors (MS-CFB 2.3 and 2.5). A
 //! change is made whole: what can be refused is refused before it begins.
 ghost use Rattle.std.specs.Prelude.{◌≡◌, ◌≢◌, ◌↔◌, ℕ, ◌+◌, ◌-◌, ◌<◌, ◌≤◌, [], ◌∷◌, ◌++◌, List, length, take, drop, min, IsTrue, IfOk, IfErr, OnErr, OnOk, vec_len};
+ghost use Rattle.cfb_tables.specs.Taking.{LengthensList, FewAreRefused, TooFewAreRefused, ExtendingRefused, TakesNumbers, AttachesNumbers, TakesNumber, AttachesNumber, ExtendsBy, CanBeAttachedTo};
+ghost use Rattle.cfb_tables.specs.Freeing.{FreesChain, FreesChainAfter, CutsListed, CanCut};
 ghost use Rattle.cfb_format.specs.Bytes.{max_regular_sector, end_of_chain};
 ghost use Rattle.cfb_format.specs.Chain.{IsChain, value};
 ghost use Rattle.cfb_tables.specs.Changes.{IsNextOf, GivesBack};
@@ -124,12 +126,8 @@ impl<A: Allocator> Tables<A> {
     /// the tables grow where they are full (MS-CFB 2.3 and 2.5). `Full` where there is no number for them, and `Memory`; the
     /// tables then stay as they were.
     pub fn take(&mut self) -> Result<u32, Error>
-        ensures taken { IfOk result (λ x. HasTaken self.old self.new [] (x ∷ [])) }
-        ensures chain { IfOk result (λ x. IsChain self.new.fat x (x ∷ [])) }
-        ensures enough { OnOk result (IsTooFew self.old 1 → ⊥) }
-        ensures unchanged { OnErr result (self.new ≡ self.old) }
-        ensures err { IfErr result (TableRefused ⊥ (IsTooFew self.old 1
-            → ⊥) (IsTooFew self.old 1)) }
+        ensures number { TakesNumber self.old self.new result }
+        ensures error { FewAreRefused 1 self.old self.new result }
     {
         self.lists.take()
     }
@@ -137,14 +135,8 @@ impl<A: Allocator> Tables<A> {
     /// Takes so many sectors, as a new chain, and gives their numbers: none for 0, and then nothing changes. `Full` where there
     /// are too few numbers, and `Memory`; the tables then stay as they were.
     pub fn take_by(&mut self, alloc: A, count: usize) -> Result<Vec<u32, A>, Error>
-        ensures taken { IfOk result (λ list. HasTaken self.old self.new [] list.items) }
-        ensures chain { IfOk result (λ list.
-            IsChain self.new.fat (first_or_end list.items) list.items) }
-        ensures count { IfOk result (λ list. vec_len list ≡ count) }
-        ensures enough { OnOk result (IsTooFew self.old count → ⊥) }
-        ensures unchanged { OnErr result (self.new ≡ self.old) }
-        ensures err { IfErr result (TableRefused ⊥ (IsTooFew self.old count
-            → ⊥) (IsTooFew self.old count)) }
+        ensures list { TakesNumbers count self.old self.new result }
+        ensures error { FewAreRefused count self.old self.new result }
     {
         self.lists.take_by(alloc, count)
     }
@@ -152,14 +144,9 @@ impl<A: Allocator> Tables<A> {
     /// Adds a sector behind the last one of a chain. `Full` where there is no number for it, and `Memory`; the tables then stay
     /// as they were.
     pub fn attach(&mut self, last: u32) -> Result<u32, Error>
-        requires ended { value self.old.fat last ≡ end_of_chain }
-        requires regular { last ≤ max_regular_sector }
-        ensures taken { IfOk result (λ x. HasTaken self.old self.new (last ∷ []) (x ∷ [])) }
-        ensures chain { IfOk result (λ x. IsChain self.new.fat last (last ∷ x ∷ [])) }
-        ensures enough { OnOk result (IsTooFew self.old 1 → ⊥) }
-        ensures unchanged { OnErr result (self.new ≡ self.old) }
-        ensures err { IfErr result (TableRefused ⊥ (IsTooFew self.old 1
-            → ⊥) (IsTooFew self.old 1)) }
+        requires last { CanBeAttachedTo last self.old.fat }
+        ensures number { AttachesNumber last self.old self.new result }
+        ensures error { FewAreRefused 1 self.old self.new result }
     {
         self.lists.attach(last)
     }
@@ -168,9 +155,7 @@ impl<A: Allocator> Tables<A> {
     /// `Full` where there is no number for it, and `Memory`; the tables then stay as they were.
     pub fn extend(&mut self, start: u32) -> Result<u32, Error>
         ensures ok { IfOk result (λ x. Extended self.old self.new start (x ∷ [])) }
-        ensures enough { OnOk result (IsTooFew self.old 1 → ⊥) }
-        ensures unchanged { OnErr result (self.new ≡ self.old) }
-        ensures err { IfErr result (ExtendRefused self.old start 1) }
+        ensures error { ExtendingRefused start 1 self.old self.new result }
     {
         self.lists.extend(start)
     }
@@ -187,15 +172,9 @@ impl<A: Allocator> Tables<A> {
     /// Adds so many sectors behind the last one of a chain, and gives their numbers. `Full` where there are too few numbers,
     /// and `Memory`; the tables then stay as they were.
     pub fn attach_by(&mut self, alloc: A, last: u32, count: usize) -> Result<Vec<u32, A>, Error>
-        requires ended { value self.old.fat last ≡ end_of_chain }
-        requires regular { last ≤ max_regular_sector }
-        ensures taken { IfOk result (λ list. HasTaken self.old self.new (last ∷ []) list.items) }
-        ensures chain { IfOk result (λ list. IsChain self.new.fat last (last ∷ list.items)) }
-        ensures count { IfOk result (λ list. vec_len list ≡ count) }
-        ensures enough { OnOk result (IsTooFew self.old count → ⊥) }
-        ensures unchanged { OnErr result (self.new ≡ self.old) }
-        ensures err { IfErr result (TableRefused ⊥ (IsTooFew self.old count
-            → ⊥) (IsTooFew self.old count)) }
+        requires last { CanBeAttachedTo last self.old.fat }
+        ensures list { AttachesNumbers last count self.old self.new result }
+        ensures error { FewAreRefused count self.old self.new result }
     {
         self.lists.attach_by(alloc, last, count)
     }
@@ -204,11 +183,8 @@ impl<A: Allocator> Tables<A> {
     /// such chain and where it is empty, `Full` where there are too few numbers, and `Memory`; the tables then stay as they
     /// were.
     pub fn extend_by(&mut self, alloc: A, start: u32, count: usize) -> Result<Vec<u32, A>, Error>
-        ensures ok { IfOk result (λ list. Extended self.old self.new start list.items) }
-        ensures count { IfOk result (λ list. vec_len list ≡ count) }
-        ensures enough { OnOk result (IsTooFew self.old count → ⊥) }
-        ensures unchanged { OnErr result (self.new ≡ self.old) }
-        ensures err { IfErr result (ExtendRefused self.old start count) }
+        ensures list { ExtendsBy start count self.old self.new result }
+        ensures error { ExtendingRefused start count self.old self.new result }
     {
         self.lists.extend_by(alloc, start, count)
     }
@@ -216,11 +192,7 @@ impl<A: Allocator> Tables<A> {
     /// Frees the chain from `start`, and gives the numbers that it had. `InvalidData` where there is no such chain, and
     /// `Memory`; the tables then stay as they were.
     pub fn free(&mut self, alloc: A, start: u32) -> Result<Vec<u32, A>, Error>
-        ensures ok { IfOk result (λ list. IsChain self.old.fat start list.items) }
-        ensures freed { IfOk result (λ list. GivesBack [] list.items self.old.fat self.new.fat) }
-        ensures rest { self.new ≡ record self.old { fat = self.new.fat } }
-        ensures unchanged { OnErr result (self.new ≡ self.old) }
-        ensures err { IfErr result (WalkRefused self.old.fat start) }
+        ensures frees { FreesChain start self.old self.new result }
     {
         self.lists.free(alloc, start)
     }
@@ -229,13 +201,7 @@ impl<A: Allocator> Tables<A> {
     /// on from the sector, and `Memory`; the tables then stay as they were.
     pub fn free_after(&mut self, alloc: A, sector: u32) -> Result<Vec<u32, A>, Error>
         requires below { sector < length self.old.fat }
-        ensures ok { IfOk result (λ list.
-            IsChain self.old.fat (value self.old.fat sector) list.items) }
-        ensures cut { IfOk result (λ list.
-            GivesBack (sector ∷ []) list.items self.old.fat self.new.fat) }
-        ensures rest { self.new ≡ record self.old { fat = self.new.fat } }
-        ensures unchanged { OnErr result (self.new ≡ self.old) }
-        ensures err { IfErr result (WalkRefused self.old.fat (value self.old.fat sector)) }
+        ensures frees { FreesChainAfter sector self.old self.new result }
     {
         self.lists.free_after(alloc, sector)
     }
@@ -259,10 +225,8 @@ impl<A: Allocator> Tables<A> {
     /// Asks for the memory that taking so many sectors needs, so that taking them, at once or in parts, asks for none. `Full`
     /// where there are too few numbers, and `Memory`. The tables stay as they were.
     pub fn reserve(&mut self, count: usize) -> Result<(), Error>
-        ensures enough { OnOk result (IsTooFew self.old count → ⊥) }
+        ensures error { TooFewAreRefused count self.old result }
         ensures unchanged { self.new ≡ self.old }
-        ensures err { IfErr result (TableRefused ⊥ (IsTooFew self.old count
-            → ⊥) (IsTooFew self.old count)) }
     {
         self.lists.prepare(count)
     }
@@ -273,22 +237,9 @@ impl<A: Allocator> Tables<A> {
     /// it and the list has room. `Full` where there are too few numbers, and `Memory`; tables and list then stay as they were.
     pub fn extend_listed(&mut self, list: &mut Vec<u32, A>, count: usize) -> Result<(), Error>
         requires ends { EndsChain self.old.fat list.old.items }
-        ensures listed { OnOk result (list.new.items
-            ≡ list.old.items ++ gained list.old.items list.new.items) }
-        ensures count { OnOk result (length (gained list.old.items list.new.items) ≡ count) }
-        ensures taken { OnOk result (HasTaken self.old self.new
-            (ends_of list.old.items) (gained list.old.items list.new.items)) }
-        ensures behind { OnOk result (IsChain self.new.fat (first_or_end (ends_of list.old.items
-            ++ gained list.old.items list.new.items)) (ends_of list.old.items
-            ++ gained list.old.items list.new.items)) }
-        ensures chain { IsChain self.old.fat (first_or_end list.old.items) list.old.items
-            → IsChain self.new.fat (first_or_end list.new.items) list.new.items }
-        ensures none { count ≡ 0 → (self.new ≡ self.old) × (list.new.items ≡ list.old.items) }
-        ensures enough { OnOk result (IsTooFew self.old count → ⊥) }
-        ensures unchanged { OnErr result ((self.new ≡ self.old)
-            × (list.new.items ≡ list.old.items)) }
-        ensures err { IfErr result (TableRefused ⊥ (IsTooFew self.old count
-            → ⊥) (IsTooFew self.old count)) }
+        ensures extends { LengthensList list.old.items list.new.items count self.old self.new result
+            }
+        ensures error { TooFewAreRefused count self.old result }
     {
         self.lists.extend_listed(list, count)
     }
@@ -304,11 +255,8 @@ impl<A: Allocator> Tables<A> {
 
     /// Leaves so many sectors of the chain that has just these, and frees the ones behind them. It asks for no memory.
     pub fn cut_listed(&mut self, list: &[u32], left: usize)
-        requires chain { IsChain self.old.fat (first_or_end list.now) list.now }
-        requires fewer { left ≤ length list.now }
-        ensures cut { GivesBack
-            (ends_of (take left list.now)) (drop left list.now) self.old.fat self.new.fat }
-        ensures rest { self.new ≡ record self.old { fat = self.new.fat } }
+        requires can_cut { CanCut list.now left self.old }
+        ensures cuts { CutsListed list.now left self.old self.new }
     {
         self.lists.cut_listed(list, left);
     }

@@ -1,5 +1,6 @@
 //! The words of the FAT, as they stand in a file.
 ghost use Rattle.std.specs.Prelude.{◌≡◌, false, IsTrue, IfErr, IfOk, OnOk};
+ghost use Rattle.cfb_volume.specs.cfb_mini.Reading.{OnlyReadsMinis};
 ghost use Rattle.cfb_format.specs.Refused.{CountsFailure};
 ghost use Rattle.cfb_reading.specs.RawFat.{HasFatSectors, raw_words};
 ghost use Rattle.cfb_volume.specs.cfb_tables.Refused.{ChangeRefused};
@@ -41,15 +42,11 @@ fn words_unless<F: ReadMedium, A: Heap + Clone>(
     mini: &mut MiniAllocator<F, A>,
     is_sound: bool,
 ) -> Result<Vec<u32, A>, Error>
-    ensures kept { IsStill mini.old mini.new }
+        ensures reads { OnlyReadsMinis F.tells F.read_faults mini.old mini.new result }
     ensures ok { IsTrue F.tells → is_sound ≡ false
         → IfOk result (λ words. words.items ≡ raw_words (table_of mini.old)) }
     ensures err { IfErr result (ChangeRefused (IsTrue F.tells → HasFatSectors (table_of mini.old)
         → ⊥) Unit ⊥ Unit) }
-    ensures same { IsTrue F.tells → OnOk result (mini.new ≡ mini.old) }
-    ensures bytes { IsTrue F.tells → bytes_of mini.new ≡ bytes_of mini.old }
-    ensures counts { IsTrue F.tells → CountsFailure F.read_faults result
-        (table_of mini.old).file.failures (table_of mini.new).file.failures }
 {
     let heap = mini.heap().clone()?;
     if is_sound {

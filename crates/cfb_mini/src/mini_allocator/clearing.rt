@@ -1,5 +1,6 @@
 //! All that is in a storage, taken out of it at once.
 ghost use Rattle.std.specs.Prelude.{◌≡◌, ◌∷◌, ℕ, true, IsTrue, IfErr, OnOk};
+ghost use Rattle.cfb_mini.specs.Changing.{ChangesEntries, HoldsMiniChanged};
 ghost use Rattle.cfb_format.specs.declared.validate.Validation.{Validation};
 ghost use Rattle.cfb_format.specs.Reading.{Outline, numbers};
 ghost use Rattle.cfb_format.specs.Refused.{CountsFailure};
@@ -32,26 +33,11 @@ impl<F: Medium, A: Heap + Clone> MiniAllocator<F, A> {
             → HasInside (cases_of self.old) (entries_of self.old) top o → inside.now ≡ numbers o }
         ensures cleared { OnOk result
             (HasCleared (entries_of self.old) (entries_of self.new) top inside.now) }
-        ensures kept { (self.new.directory.sectors ≡ self.old.directory.sectors)
-            × (tables_in self.new ≡ tables_in self.old) }
-        ensures holds { IsTrue F.tells → (validation : Validation)
-            → HoldsMini validation self.old → OnOk result (HoldsMini validation self.new) }
-        ensures spares { IsTrue F.tells
-            → Spares self.old.directory.sectors (table_of self.old) (table_of self.new) }
-        ensures header { IsTrue F.tells → KeepsWholeHeader self.old.directory self.new.directory }
-        ensures others { IsTrue F.tells
-            → KeepsOtherSectors self.old.directory self.new.directory }
+        ensures changes { ChangesEntries F.tells F.write_faults self.old self.new result }
+        ensures holds { HoldsMiniChanged F.tells self.old self.new result }
         ensures slots { IsTrue F.tells
             → (validation : Validation) → HoldsDirectory validation self.old.directory
             → KeepsSlotsOutside (top ∷ inside.now) self.old.directory self.new.directory }
-        ensures limits { KeepsLimits self.old self.new }
-        ensures mini { KeepsMini self.old self.new }
-        ensures begun { OnOk result ((table_of self.new).file.begun ≡ true) }
-        ensures refused { IfErr result (StopsShort self.old self.new) }
-        ensures err { IfErr result
-            (ChangeRefused (IsDirectoryNotHeld self.old.directory) Unit ⊥ Unit) }
-        ensures counts { IsTrue F.tells → CountsFailure F.write_faults result
-            (table_of self.old).file.failures (table_of self.new).file.failures }
     {
         self.directory.clear(top, inside)
     }

@@ -1,5 +1,7 @@
 //! Mini sectors that follow each other in the file, read and written by one call of the medium.
 ghost use Rattle.std.specs.Prelude.{◌≡◌, ℕ, List, ◌+◌, ◌<◌, ◌≤◌, length, max, take, drop, true, IsTrue, IfOk, IfErr, IsErrAnd, OnOk};
+ghost use Rattle.cfb_mini.specs.Changing.{WritesInMini, MiniRunWriteRefused, WritesMiniRun};
+ghost use Rattle.cfb_mini.specs.Reading.{OnlyReadsMinis, MiniRunRefused, ReadsMiniRun};
 ghost use Rattle.cfb_format.specs.declared.validate.Validation.{Validation};
 ghost use Rattle.cfb_format.specs.Content.{mini_sector_len};
 ghost use Rattle.cfb_format.specs.Medium.{part, written};
@@ -32,20 +34,9 @@ impl<F: ReadMedium, A: Heap> MiniAllocator<F, A> {
     ) -> Result<usize, Error>
         requires some { 0 < length into.old }
         requires inside { offset < mini_sector_len }
-        ensures kept { IsStill self.old self.new }
-        ensures some { IfOk result (λ n. (0 < n) × (n ≤ length into.old)) }
-        ensures stretch { IfOk result (λ n. IsMiniStretch self.old mini offset n) }
-        ensures reached { IfOk result (λ n. mini_place self.old mini + offset + n
-            ≤ (table_of self.old).file.len) }
-        ensures ok { IsTrue F.tells → IfOk result (λ n. take n into.new
-            ≡ part (bytes_of self.old) (mini_place self.old mini + offset) n) }
-        ensures rest { IfOk result (λ n. drop n into.new ≡ drop n into.old) }
-        ensures cut { (HasMiniByte self.old mini offset → ⊥) → IsErrAnd result IsInvalidData }
-        ensures err { HasMiniByte self.old mini offset → IfErr result IsMediumError }
-        ensures same { IsTrue F.tells → OnOk result (self.new ≡ self.old) }
-        ensures bytes { IsTrue F.tells → bytes_of self.new ≡ bytes_of self.old }
-        ensures counts { IsTrue F.tells → CountsFailure F.read_faults result
-            (table_of self.old).file.failures (table_of self.new).file.failures }
+        ensures reads { OnlyReadsMinis F.tells F.read_faults self.old self.new result }
+        ensures run { ReadsMiniRun F.tells mini offset self.old into.old into.new result }
+        ensures error { MiniRunRefused mini offset self.old result }
     {
         let Some(stream) = &self.mini_stream else {
             return Err(no_mini_stream());
@@ -72,32 +63,14 @@ impl<F: Medium, A: Heap> MiniAllocator<F, A> {
     pub fn write_mini_run(&mut self, mini: u32, offset: usize, from: &[u8]) -> Result<usize, Error>
         requires some { 0 < length from.now }
         requires inside { offset < mini_sector_len }
-        ensures kept { ChangesFileOnly self.old self.new }
-        ensures some { IfOk result (λ n. (0 < n) × (n ≤ length from.now)) }
-        ensures stretch { IfOk result (λ n. IsMiniStretch self.old mini offset n) }
-        ensures ok { IsTrue F.tells → IfOk result (λ n. (table_of self.new).file
-            ≡ record (table_of self.old).file {
-              bytes = written (bytes_of self.old) (mini_place self.old mini
-                  + offset) (take n from.now);
-              len = max (table_of self.old).file.len (mini_place self.old mini + offset + n);
-              begun = true;
-            }) }
-        ensures cut { (HasMiniSector self.old mini → ⊥)
-            → IsErrAnd result IsInvalidData × (self.new ≡ self.old) }
-        ensures err { HasMiniSector self.old mini
-            → IfErr result IsMediumError × ((table_of self.new).file.begun ≡ true) }
-        ensures others { IsTrue F.tells
-            → ChangesMiniStretch mini offset (length from.now) self.old self.new }
-        ensures spares { IsTrue F.tells
-            → Spares (mini_stream_of self.old) (table_of self.old) (table_of self.new) }
+        ensures writes { WritesInMini F.tells self.old self.new result }
+        ensures run { WritesMiniRun F.tells F.write_faults mini offset self.old self.new from.now
+            result }
+        ensures error { MiniRunWriteRefused mini self.old self.new result }
         ensures mini_spares { IsTrue F.tells → (validation : Validation)
             → HoldsMini validation self.old → (own : List ℕ)
             → HasTheMinis own mini offset (length from.now) → SparesMini own self.old self.new }
-        ensures holds { IsTrue F.tells → (validation : Validation)
-            → HoldsMini validation self.old → OnOk result (HoldsMini validation self.new) }
         ensures refused { IfErr result (StopsShort self.old self.new) }
-        ensures counts { IsTrue F.tells → CountsFailure F.write_faults result
-            (table_of self.old).file.failures (table_of self.new).file.failures }
     {
         let Some(stream) = &self.mini_stream else {
             return Err(no_mini_stream());

@@ -1,5 +1,8 @@
 //! Reading, seeking and writing out of a stream that may have bytes pending.
 ghost use Rattle.std.specs.Prelude.{◌≡◌, ◌+◌, ◌-◌, ◌<◌, ◌≤◌, ◌⊎◌, ◌++◌, min, max, ℕ, true, false, OnOk, OnErr, IfOk, IfErr, length, take, drop, Some, None};
+ghost use Rattle.cfb_stream_window.specs.Calls.{ReadAnswers, ReadLeaves, FillAnswers, FillLeaves, SeekAnswers, FlushAnswers, CloseAnswers, CloseLeaves, AppendsToList, ReadToEndAnswers, ReadToEndLeaves, SeekLeaves};
+ghost use Rattle.cfb_stream_window.specs.Steps.{IsReadOut, HasRest, StaysInside, GrowsBuffer, ReadRefusedOut, ReadsPast, KeepsBuffer, StaysCalm, LosesKept, WriteOutRefused, CarriesSettled, Settles, WritesOut, GoesTo, AppendsCounted, WritesOutAndAppends, StaysNear};
+ghost use Rattle.cfb_stream_buffer.specs.Steps.{TakesNoRoom};
 ghost use Rattle.cfb_stream_window.specs.Leaves.{WritesContents, StaysOpen};
 ghost use Rattle.cfb_stream_window.specs.cfb_rules.StreamCalls.{read, fill_buf, seek, flush, read_to_end, ready, got, offset};
 ghost use Rattle.cfb_format.specs.Refused.{IsBreak};
@@ -21,27 +24,14 @@ impl<A: Allocator> Window<A> {
         requires there { C.has content.old id }
         ensures writes { WritesContents C.ReadContents C.Contents.own content.old content.new id
             result }
-        ensures ok { IsReady C.ReadContents content.old id self.old
-            → OnOk result ((C.stored content.new id) ≡ settled (C.stored content.old id) self.old) }
-        ensures window { OnOk result (self.new ≡ window_settled self.old) }
-        ensures calm { self.old.pending ≡ false → content.new ≡ content.old }
-        ensures refused { IsReady C.ReadContents content.old id self.old → IfErr result (IsLost
-            (((C.stored content.old id).size < self.old.base + length self.old.filled)
-            × C.is_full content.new) (C.stored content.old id) self.old (C.stored content.new id)) }
-        ensures foreseen { IsReady C.ReadContents content.old id self.old
-            → IfErr result (λ e. e ≡ Error.Full
-            → LacksRoomToWriteOut C.ReadContents C.Contents.own content.old id self.old) }
-        ensures pending { OnErr result (self.old.pending ≡ true) }
-        ensures lost { OnErr result ((C.stored content.new id).failed ≡ true) }
-        ensures within { C.tells content.old
-            → self.old.base + length self.old.filled ≤ (C.stored content.old id).size
-            → (first : C) → C.tight first content.old → C.tight first content.new }
-        ensures takes_none { C.tells content.old
-            → self.old.base + length self.old.filled ≤ (C.stored content.old id).size
-            → OnOk result ((len : ℕ) → C.is_too_long content.new id len
-            → C.is_too_long content.old id len) }
-        ensures room { self.new.room ≡ self.old.room }
-        ensures bound { self.new.bound ≡ self.old.bound }
+        ensures settled { WritesOut C.ReadContents content.old content.new id self.old self.new
+            result }
+        ensures calm { StaysCalm content.old content.new self.old result }
+        ensures refused { WriteOutRefused C.ReadContents C.Contents.own content.old content.new id
+            self.old result }
+        ensures no_room { TakesNoRoom C.ReadContents C.Contents.own self.old.base self.old.filled
+            content.old content.new id result }
+        ensures kept { KeepsBuffer self.old self.new }
     {
         self.ahead = 0;
         if self.pending {
@@ -59,22 +49,14 @@ impl<A: Allocator> Window<A> {
         requires there { C.has content.old id }
         ensures writes { WritesContents C.ReadContents C.Contents.own content.old content.new id
             result }
-        ensures ok { IsReady C.ReadContents content.old id self.old → OnOk result
-            (Carries (C.stored content.old id) self.old (C.stored content.new id) self.new) }
-        ensures stored { IsReady C.ReadContents content.old id self.old
-            → OnOk result ((C.stored content.new id) ≡ settled (C.stored content.old id) self.old) }
+        ensures carries { CarriesSettled C.ReadContents content.old content.new id self.old self.new
+            result }
         ensures window { OnOk result (self.new
             ≡ window_at (self.old.base + self.old.cursor) self.old) }
-        ensures calm { self.old.pending ≡ false → content.new ≡ content.old }
-        ensures refused { IsReady C.ReadContents content.old id self.old
-            → IfErr result (IsLost (C.is_full content.new) (C.stored content.old id) self.old
-            (C.stored content.new id)) }
-        ensures foreseen { IsReady C.ReadContents content.old id self.old
-            → IfErr result (λ e. e ≡ Error.Full
-            → LacksRoomToWriteOut C.ReadContents C.Contents.own content.old id self.old) }
-        ensures pending { OnErr result (self.old.pending ≡ true) }
-        ensures room { self.new.room ≡ self.old.room }
-        ensures bound { self.new.bound ≡ self.old.bound }
+        ensures calm { StaysCalm content.old content.new self.old result }
+        ensures refused { LosesKept C.ReadContents C.Contents.own content.old content.new id
+            self.old result }
+        ensures kept { KeepsBuffer self.old self.new }
     {
         let _at = self.position();
         self.write_out(content, id)?;
@@ -86,31 +68,15 @@ impl<A: Allocator> Window<A> {
     /// first, so that a refused growth changes nothing.
     fn write_out_and_refill<C: Contents>(&mut self, content: &mut C, id: u32) -> Result<(), Error>
         requires there { C.has content.old id }
-        requires behind { self.old.base + self.old.cursor < self.old.size }
-        requires unread { self.old.ahead ≡ 0 }
+        requires read_out { IsReadOut self.old }
         ensures writes { WritesContents C.ReadContents C.Contents.own content.old content.new id
             result }
         ensures calm { C.tells content.old → self.old.pending ≡ false
             → IsRead C.ReadContents content.old content.new id result }
-        ensures ok { IsReady C.ReadContents content.old id self.old → OnOk result
-            (Carries (C.stored content.old id) self.old (C.stored content.new id) self.new) }
-        ensures some { IsReady C.ReadContents content.old id self.old
-            → OnOk result (self.new.cursor < length self.new.filled) }
-        ensures settles { IsReady C.ReadContents content.old id self.old
-            → OnOk result (IsSettled (C.stored content.old id) self.old (C.stored content.new id)) }
-        ensures refused { IsReady C.ReadContents content.old id self.old
-            → IfErr result (λ e. ReadBrokeOff (C.is_full content.new)
-            (C.stored content.old id) self.old (C.stored content.new id) self.new e
-            ⊎ Unreadable (C.stored content.old id) self.old (C.stored content.new id) self.new e) }
-        ensures foreseen { IsReady C.ReadContents content.old id self.old
-            → IfErr result (λ e. e ≡ Error.Full
-            → LacksRoomToWriteOut C.ReadContents C.Contents.own content.old id self.old) }
-        ensures grown { self.new.room
-            < min (self.old.size - (self.old.base + self.old.cursor)) self.old.bound
-            → content.new ≡ content.old }
-        ensures bound { self.new.bound ≡ self.old.bound }
-        ensures lean { self.new.room ≤ max self.old.room
-            (min (self.old.size - (self.old.base + self.old.cursor)) self.old.bound) }
+        ensures rest { HasRest C.ReadContents content.old content.new id self.old self.new result }
+        ensures refused { ReadRefusedOut C.ReadContents C.Contents.own content.old content.new id
+            self.old self.new result }
+        ensures grown { GrowsBuffer content.old content.new self.old self.new }
     {
         self.grow_for_rest()?;
         let was_pending = self.pending;
@@ -130,28 +96,17 @@ impl<A: Allocator> Window<A> {
         into: &mut [u8],
     ) -> Result<usize, Error>
         requires there { C.has content.old id }
-        requires behind { self.old.base + self.old.cursor < self.old.size }
-        requires unread { self.old.ahead ≡ 0 }
+        requires read_out { IsReadOut self.old }
         requires some { 0 < length into.old }
         ensures writes { WritesContents C.ReadContents C.Contents.own content.old content.new id
             result }
         ensures calm { C.tells content.old → self.old.pending ≡ false
             → IsRead C.ReadContents content.old content.new id result }
-        ensures most { IfOk result (λ n. n ≤ length into.new) }
-        ensures rest { IfOk result (λ n. drop n into.new ≡ drop n into.old) }
-        ensures ok { IsReady C.ReadContents content.old id self.old → IfOk result (ReadPast into.new
-            (C.stored content.old id) self.old (C.stored content.new id) self.new) }
-        ensures settles { IsReady C.ReadContents content.old id self.old
-            → OnOk result (IsSettled (C.stored content.old id) self.old (C.stored content.new id)) }
-        ensures refused { IsReady C.ReadContents content.old id self.old
-            → IfErr result (λ e. ReadBrokeOff (C.is_full content.new)
-            (C.stored content.old id) self.old (C.stored content.new id) self.new e
-            ⊎ Unreadable (C.stored content.old id) self.old (C.stored content.new id) self.new e) }
-        ensures foreseen { IsReady C.ReadContents content.old id self.old
-            → IfErr result (λ e. e ≡ Error.Full
-            → LacksRoomToWriteOut C.ReadContents C.Contents.own content.old id self.old) }
-        ensures room { self.new.room ≡ self.old.room }
-        ensures bound { self.new.bound ≡ self.old.bound }
+        ensures past { ReadsPast C.ReadContents content.old content.new id self.old self.new
+            into.old into.new result }
+        ensures refused { ReadRefusedOut C.ReadContents C.Contents.own content.old content.new id
+            self.old self.new result }
+        ensures kept { KeepsBuffer self.old self.new }
     {
         let was_pending = self.pending;
         self.leave(content, id)?;
@@ -172,27 +127,11 @@ impl<A: Allocator> Window<A> {
             result }
         ensures calm { C.tells content.old → self.old.pending ≡ false
             → IsRead C.ReadContents content.old content.new id result }
-        ensures ok { IsReady C.ReadContents content.old id self.old → OnOk result
-            (Carries (C.stored content.old id) self.old (C.stored content.new id) self.new) }
-        ensures some { IsReady C.ReadContents content.old id self.old
-            → OnOk result (self.new.cursor < length self.new.filled) }
-        ensures held { self.old.cursor < length self.old.filled → content.new ≡ content.old }
-        ensures stays { self.old.cursor < length self.old.filled → self.new ≡ self.old }
-        ensures settles { IsReady C.ReadContents content.old id self.old
-            → OnOk result (IsSettled (C.stored content.old id) self.old (C.stored content.new id)) }
-        ensures refused { IsReady C.ReadContents content.old id self.old
-            → IfErr result (λ e. ReadBrokeOff (C.is_full content.new)
-            (C.stored content.old id) self.old (C.stored content.new id) self.new e
-            ⊎ Unreadable (C.stored content.old id) self.old (C.stored content.new id) self.new e) }
-        ensures foreseen { IsReady C.ReadContents content.old id self.old
-            → IfErr result (λ e. e ≡ Error.Full
-            → LacksRoomToWriteOut C.ReadContents C.Contents.own content.old id self.old) }
-        ensures grown { self.new.room
-            < min (self.old.size - (self.old.base + self.old.cursor)) self.old.bound
-            → content.new ≡ content.old }
-        ensures bound { self.new.bound ≡ self.old.bound }
-        ensures lean { self.new.room ≤ max self.old.room
-            (min (self.old.size - (self.old.base + self.old.cursor)) self.old.bound) }
+        ensures rest { HasRest C.ReadContents content.old content.new id self.old self.new result }
+        ensures inside { StaysInside content.old content.new self.old self.new }
+        ensures refused { ReadRefusedOut C.ReadContents C.Contents.own content.old content.new id
+            self.old self.new result }
+        ensures grown { GrowsBuffer content.old content.new self.old self.new }
     {
         if self.has_rest() {
             return Ok(());
@@ -211,29 +150,10 @@ impl<A: Allocator> Window<A> {
     ) -> Result<usize, Error>
         requires there { C.has content.old id }
         ensures open { StaysOpen C.ReadContents content.old id self.old result content.new self.new }
-        ensures most { IfOk result (λ n. n ≤ length into.new) }
-        ensures rest { IfOk result (λ n. drop n into.new ≡ drop n into.old) }
-        ensures runs { IsOpen C.ReadContents content.old id self.old
-            → IfOk result (λ n. RunsOn C.ReadContents C.Contents.own content.old id self.old
-            (read (length into.old)) (got (take n into.new)) content.new self.new) }
-        ensures refused { IsOpen C.ReadContents content.old id self.old
-            → IfErr result (IsRefusedOn C.ReadContents C.Contents.own content.old id self.old
-            (read (length into.old)) content.new self.new) }
-        ensures foreseen { IsOpen C.ReadContents content.old id self.old
-            → IfErr result (λ e. e ≡ Error.Full
-            → LacksRoomToWriteOut C.ReadContents C.Contents.own content.old id self.old) }
-        ensures settles { IsOpen C.ReadContents content.old id self.old
-            → OnOk result (IsSettled (C.stored content.old id) self.old (C.stored content.new id)) }
-        ensures calm { C.tells content.old → self.old.pending ≡ false
-            → IsRead C.ReadContents content.old content.new id result }
-        ensures none { length into.old ≡ 0 → content.new ≡ content.old }
-        ensures held { StandsInside self.old → content.new ≡ content.old }
-        ensures grown { length into.old < 65536
-            → self.new.room < min (self.old.size - (self.old.base + self.old.cursor)) self.old.bound
-            → content.new ≡ content.old }
-        ensures straight { 65536 ≤ length into.old → self.new.room ≡ self.old.room }
-        ensures lean { self.new.room ≤ max self.old.room
-            (min (self.old.size - (self.old.base + self.old.cursor)) self.old.bound) }
+        ensures answers { ReadAnswers C.ReadContents C.Contents.own content.old content.new id
+            self.old self.new into.old into.new result }
+        ensures leaves { ReadLeaves C.ReadContents content.old content.new id self.old self.new
+            into.old result }
         ensures around { C.tells content.old
             → IsWritten C.ReadContents C.Contents.own content.old content.new id result }
     {
@@ -261,25 +181,10 @@ impl<A: Allocator> Window<A> {
     pub fn fill<C: Contents>(&mut self, content: &mut C, id: u32) -> Result<(), Error>
         requires there { C.has content.old id }
         ensures open { StaysOpen C.ReadContents content.old id self.old result content.new self.new }
-        ensures runs { IsOpen C.ReadContents content.old id self.old
-            → OnOk result (RunsOn C.ReadContents C.Contents.own content.old id self.old fill_buf
-            (got (drop self.new.cursor self.new.filled)) content.new self.new) }
-        ensures refused { IsOpen C.ReadContents content.old id self.old
-            → IfErr result (IsRefusedOn C.ReadContents C.Contents.own
-            content.old id self.old fill_buf content.new self.new) }
-        ensures foreseen { IsOpen C.ReadContents content.old id self.old
-            → IfErr result (λ e. e ≡ Error.Full
-            → LacksRoomToWriteOut C.ReadContents C.Contents.own content.old id self.old) }
-        ensures settles { IsOpen C.ReadContents content.old id self.old
-            → OnOk result (IsSettled (C.stored content.old id) self.old (C.stored content.new id)) }
-        ensures calm { C.tells content.old → self.old.pending ≡ false
-            → IsRead C.ReadContents content.old content.new id result }
-        ensures held { StandsInside self.old → content.new ≡ content.old }
-        ensures grown { self.new.room
-            < min (self.old.size - (self.old.base + self.old.cursor)) self.old.bound
-            → content.new ≡ content.old }
-        ensures lean { self.new.room ≤ max self.old.room
-            (min (self.old.size - (self.old.base + self.old.cursor)) self.old.bound) }
+        ensures answers { FillAnswers C.ReadContents C.Contents.own content.old content.new id
+            self.old self.new result }
+        ensures leaves { FillLeaves C.ReadContents content.old content.new id self.old self.new
+            result }
         ensures around { C.tells content.old
             → IsWritten C.ReadContents C.Contents.own content.old content.new id result }
     {
@@ -305,29 +210,10 @@ impl<A: Allocator> Window<A> {
     ) -> Result<u64, Error>
         requires there { C.has content.old id }
         ensures open { StaysOpen C.ReadContents content.old id self.old result content.new self.new }
-        ensures runs { IsOpen C.ReadContents content.old id self.old
-            → IfOk result (λ at. RunsOn C.ReadContents C.Contents.own content.old id self.old
-            (seek (whence_of to)) (offset at) content.new self.new) }
-        ensures refused { IsOpen C.ReadContents content.old id self.old
-            → IfErr result (IsRefusedOn C.ReadContents C.Contents.own content.old id self.old
-            (seek (whence_of to)) content.new self.new) }
-        ensures foreseen { IsOpen C.ReadContents content.old id self.old
-            → IfErr result (λ e. e ≡ Error.Full
-            → LacksRoomToWriteOut C.ReadContents C.Contents.own content.old id self.old) }
-        ensures settles { IsOpen C.ReadContents content.old id self.old
-            → OnOk result (IsSettled (C.stored content.old id) self.old (C.stored content.new id)) }
-        ensures calm { self.old.pending ≡ false → content.new ≡ content.old }
-        ensures sure { self.old.pending ≡ false → (C.stored content.old id).failed ≡ false
-            → OnErr result (target_of self.old.size (self.old.base + self.old.cursor) to ≡ None) }
-        ensures held { (at : ℕ)
-            → target_of self.old.size (self.old.base + self.old.cursor) to ≡ Some at
-            → self.old.base ≤ at → at ≤ self.old.base + length self.old.filled
-            → content.new ≡ content.old }
-        ensures stays { (at : ℕ)
-            → target_of self.old.size (self.old.base + self.old.cursor) to ≡ Some at
-            → self.old.base ≤ at → at ≤ self.old.base + length self.old.filled
-            → (self.new.base ≡ self.old.base) × (self.new.filled ≡ self.old.filled) }
-        ensures room { self.new.room ≡ self.old.room }
+        ensures answers { SeekAnswers C.ReadContents C.Contents.own (whence_of to) content.old
+            content.new id self.old self.new result }
+        ensures leaves { SeekLeaves C.ReadContents to content.old content.new id self.old self.new
+            result }
         ensures around { C.tells content.old
             → IsWritten C.ReadContents C.Contents.own content.old content.new id result }
     {
@@ -347,24 +233,13 @@ impl<A: Allocator> Window<A> {
         requires inside { at ≤ self.old.size }
         ensures writes { WritesContents C.ReadContents C.Contents.own content.old content.new id
             result }
-        ensures ok { IsReady C.ReadContents content.old id self.old → OnOk result (WentTo at
-            (C.stored content.old id) self.old (C.stored content.new id) self.new) }
-        ensures calm { self.old.pending ≡ false → content.new ≡ content.old }
-        ensures held { self.old.base ≤ at → at ≤ self.old.base + length self.old.filled
-            → content.new ≡ content.old }
-        ensures stays { self.old.base ≤ at → at ≤ self.old.base + length self.old.filled
-            → (self.new.base ≡ self.old.base) × (self.new.filled ≡ self.old.filled) }
-        ensures settles { IsReady C.ReadContents content.old id self.old
-            → OnOk result (IsSettled (C.stored content.old id) self.old (C.stored content.new id)) }
-        ensures refused { IsReady C.ReadContents content.old id self.old
-            → IfErr result (IsLost (C.is_full content.new) (C.stored content.old id) self.old
-            (C.stored content.new id)) }
-        ensures foreseen { IsReady C.ReadContents content.old id self.old
-            → IfErr result (λ e. e ≡ Error.Full
-            → LacksRoomToWriteOut C.ReadContents C.Contents.own content.old id self.old) }
-        ensures pending { OnErr result (self.old.pending ≡ true) }
-        ensures bound { self.new.bound ≡ self.old.bound }
-        ensures room { self.new.room ≡ self.old.room }
+        ensures went { GoesTo C.ReadContents at content.old content.new id self.old self.new result
+            }
+        ensures calm { StaysCalm content.old content.new self.old result }
+        ensures near { StaysNear at content.old content.new self.old self.new }
+        ensures refused { LosesKept C.ReadContents C.Contents.own content.old content.new id
+            self.old result }
+        ensures kept { KeepsBuffer self.old self.new }
     {
         if self.holds(at) {
             self.go_inside(at);
@@ -382,23 +257,11 @@ impl<A: Allocator> Window<A> {
         ensures there { C.has content.new id }
         ensures any { HeedsWritingOut C.ReadContents
             content.old id self.old result content.new self.new }
-        ensures runs { IsOpen C.ReadContents content.old id self.old
-            → OnOk result (RunsOn C.ReadContents C.Contents.own
-            content.old id self.old flush ready content.new self.new) }
-        ensures refused { IsOpen C.ReadContents content.old id self.old
-            → IfErr result (IsRefusedOn C.ReadContents C.Contents.own
-            content.old id self.old flush content.new self.new) }
-        ensures foreseen { IsOpen C.ReadContents content.old id self.old
-            → IfErr result (λ e. e ≡ Error.Full
-            → LacksRoomToWriteOut C.ReadContents C.Contents.own content.old id self.old) }
-        ensures goes_on { IsOpen C.ReadContents content.old id self.old
-            → GoesOn C.ReadContents content.old content.new id self.new }
-        ensures stored { IsOpen C.ReadContents content.old id self.old
-            → OnOk result ((C.stored content.new id) ≡ settled (C.stored content.old id) self.old) }
+        ensures answers { FlushAnswers C.ReadContents C.Contents.own content.old content.new id
+            self.old self.new result }
         ensures calm { C.tells content.old → self.old.pending ≡ false
             → (C.stored content.new id).failed ≡ false → C.kept content.new ≡ C.kept content.old }
-        ensures bound { self.new.bound ≡ self.old.bound }
-        ensures room { self.new.room ≡ self.old.room }
+        ensures kept { KeepsBuffer self.old self.new }
         ensures around { C.tells content.old
             → IsWritten C.ReadContents C.Contents.own content.old content.new id result }
     {
@@ -415,32 +278,16 @@ impl<A: Allocator> Window<A> {
         requires there { C.has content.old id }
         ensures writes { WritesContents C.ReadContents C.Contents.own content.old content.new id
             result }
-        ensures ok { IsReady C.ReadContents content.old id self.old → OnOk result
-            (Carries (C.stored content.old id) self.old (C.stored content.new id) self.new) }
-        ensures stored { IsReady C.ReadContents content.old id self.old
-            → OnOk result ((C.stored content.new id) ≡ settled (C.stored content.old id) self.old) }
-        ensures window { OnOk result (self.new ≡ window_settled self.old) }
-        ensures refused { IsReady C.ReadContents content.old id self.old
-            → IfErr result (IsLost (C.is_full content.new) (C.stored content.old id) self.old
-            (C.stored content.new id)) }
-        ensures foreseen { IsReady C.ReadContents content.old id self.old
-            → IfErr result (λ e. e ≡ Error.Full
-            → LacksRoomToWriteOut C.ReadContents C.Contents.own content.old id self.old) }
-        ensures inside { IsReady C.ReadContents content.old id self.old
-            → self.old.base + length self.old.filled ≤ (C.stored content.old id).size
-            → IfErr result (IsBreak ⊥) }
-        ensures within { C.tells content.old
-            → self.old.base + length self.old.filled ≤ (C.stored content.old id).size
-            → (first : C) → C.tight first content.old → C.tight first content.new }
-        ensures takes_none { C.tells content.old
-            → self.old.base + length self.old.filled ≤ (C.stored content.old id).size
-            → OnOk result ((len : ℕ) → C.is_too_long content.new id len
-            → C.is_too_long content.old id len) }
-        ensures calm { self.old.pending ≡ false → content.new ≡ content.old }
-        ensures pending { OnErr result (self.old.pending ≡ true) }
-        ensures lost { OnErr result ((C.stored content.new id).failed ≡ true) }
-        ensures bound { self.new.bound ≡ self.old.bound }
-        ensures room { self.new.room ≡ self.old.room }
+        ensures carries { CarriesSettled C.ReadContents content.old content.new id self.old self.new
+            result }
+        ensures settled { Settles C.ReadContents content.old content.new id self.old self.new result
+            }
+        ensures refused { LosesKept C.ReadContents C.Contents.own content.old content.new id
+            self.old result }
+        ensures no_room { TakesNoRoom C.ReadContents C.Contents.own self.old.base self.old.filled
+            content.old content.new id result }
+        ensures calm { StaysCalm content.old content.new self.old result }
+        ensures kept { KeepsBuffer self.old self.new }
     {
         let _at = self.position();
         self.write_out(content, id)?;
@@ -453,18 +300,9 @@ impl<A: Allocator> Window<A> {
         requires there { C.has content.old id }
         ensures there { C.has content.new id }
         ensures any { HeedsWritingOut C.ReadContents content.old id self result content.new self }
-        ensures closes { IsOpen C.ReadContents content.old id self → OnOk result
-            (ClosesOn C.ReadContents C.Contents.own content.old id self None content.new) }
-        ensures refused { IsOpen C.ReadContents content.old id self → IfErr result
-            (IsClosingRefused C.ReadContents C.Contents.own content.old id self content.new) }
-        ensures foreseen { IsOpen C.ReadContents content.old id self
-            → IfErr result (λ e. e ≡ Error.Full
-            → LacksRoomToWriteOut C.ReadContents C.Contents.own content.old id self) }
-        ensures stored { IsOpen C.ReadContents content.old id self
-            → OnOk result ((C.stored content.new id) ≡ settled (C.stored content.old id) self) }
-        ensures calm { self.pending ≡ false → content.new ≡ content.old }
-        ensures sure { self.pending ≡ false
-            → OnErr result ((C.stored content.old id).failed ≡ true) }
+        ensures answers { CloseAnswers C.ReadContents C.Contents.own content.old content.new id self
+            result }
+        ensures leaves { CloseLeaves C.ReadContents content.old content.new id self result }
         ensures around { C.tells content.old
             → IsWritten C.ReadContents C.Contents.own content.old content.new id result }
     {
@@ -487,25 +325,11 @@ impl<A: Allocator> Window<A> {
     ) -> Result<usize, Error>
         requires there { C.has content.old id }
         ensures open { StaysOpen C.ReadContents content.old id self.old result content.new self.new }
-        ensures appends { IfOk result (λ n. (length into.new.items ≡ length into.old.items + n)
-            × (into.new.items ≡ into.old.items ++ drop (length into.old.items) into.new.items)) }
-        ensures nothing { OnErr result (into.new.items ≡ into.old.items) }
-        ensures runs { IsOpen C.ReadContents content.old id self.old
-            → OnOk result (RunsOn C.ReadContents C.Contents.own content.old id self.old read_to_end
-            (got (drop (length into.old.items) into.new.items)) content.new self.new) }
-        ensures refused { IsOpen C.ReadContents content.old id self.old
-            → IfErr result (IsRefusedOn C.ReadContents C.Contents.own
-            content.old id self.old read_to_end content.new self.new) }
-        ensures foreseen { IsOpen C.ReadContents content.old id self.old
-            → IfErr result (λ e. e ≡ Error.Full
-            → LacksRoomToWriteOut C.ReadContents C.Contents.own content.old id self.old) }
-        ensures settles { IsOpen C.ReadContents content.old id self.old
-            → OnOk result (IsSettled (C.stored content.old id) self.old (C.stored content.new id)) }
-        ensures calm { C.tells content.old → self.old.pending ≡ false
-            → IsRead C.ReadContents content.old content.new id result }
-        ensures held { self.old.base + length self.old.filled ≡ self.old.size
-            → content.new ≡ content.old }
-        ensures room { self.new.room ≡ self.old.room }
+        ensures list { AppendsToList into.old.items into.new.items result }
+        ensures answers { ReadToEndAnswers C.ReadContents C.Contents.own content.old content.new id
+            self.old self.new into.old.items into.new.items result }
+        ensures leaves { ReadToEndLeaves C.ReadContents content.old content.new id self.old self.new
+            result }
         ensures around { C.tells content.old
             → IsWritten C.ReadContents C.Contents.own content.old content.new id result }
     {
@@ -535,29 +359,10 @@ impl<A: Allocator> Window<A> {
             result }
         ensures calm { C.tells content.old → self.old.pending ≡ false
             → IsRead C.ReadContents content.old content.new id result }
-        ensures count { IfOk result (λ n. length into.new.items ≡ length into.old.items + n) }
-        ensures before { OnOk result (into.new.items
-            ≡ into.old.items ++ drop (length into.old.items) into.new.items) }
-        ensures nothing { OnErr result (into.new.items ≡ into.old.items) }
-        ensures ok { IsReady C.ReadContents content.old id self.old
-            → IsReadable (C.stored content.old id) self.old
-            → self.old.base + self.old.cursor < self.old.size
-            → OnOk result (Appended into.old.items into.new.items
-            (C.stored content.old id) self.old (C.stored content.new id) self.new) }
-        ensures settles { IsReady C.ReadContents content.old id self.old
-            → OnOk result (IsSettled (C.stored content.old id) self.old (C.stored content.new id)) }
-        ensures refused { IsReady C.ReadContents content.old id self.old
-            → IsReadable (C.stored content.old id) self.old
-            → self.old.base + self.old.cursor < self.old.size
-            → IfErr result (ReadBrokeOff (C.is_full content.new)
-            (C.stored content.old id) self.old (C.stored content.new id) self.new) }
-        ensures foreseen { IsReady C.ReadContents content.old id self.old
-            → IsReadable (C.stored content.old id) self.old
-            → self.old.base + self.old.cursor < self.old.size
-            → IfErr result (λ e. e ≡ Error.Full
-            → LacksRoomToWriteOut C.ReadContents C.Contents.own content.old id self.old) }
-        ensures bound { self.new.bound ≡ self.old.bound }
-        ensures room { self.new.room ≡ self.old.room }
+        ensures list { AppendsCounted into.old.items into.new.items result }
+        ensures stored { WritesOutAndAppends C.ReadContents C.Contents.own content.old content.new
+            id self.old self.new into.old.items into.new.items result }
+        ensures kept { KeepsBuffer self.old self.new }
     {
         let start = into.len();
         let left = (self.size - self.position()) as usize;

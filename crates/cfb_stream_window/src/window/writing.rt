@@ -1,5 +1,7 @@
 //! Writing to a buffered stream, and giving it another length.
 ghost use Rattle.std.specs.Prelude.{ℕ, ◌≡◌, ◌+◌, ◌-◌, ◌*◌, ◌^◌, ◌<◌, ◌≤◌, ◌⊎◌, ◌↔◌, min, max, [], true, false, IsTrue, OnOk, OnErr, IfOk, IfErr, length, take};
+ghost use Rattle.cfb_stream_window.specs.Calls.{WriteAnswers, WriteLeaves, WriteTouches, SetLenAnswers, SetLenLeaves, SetLenTouches};
+ghost use Rattle.cfb_stream_window.specs.Steps.{KeepsBuffer, StaysCalm, HasRoomNext, RoomRefused, RoomLeaves, TouchesInTurn, WritesStraight, Lengthens, WritesOutAndResizes, CanLengthen};
 ghost use Rattle.cfb_stream_window.specs.Leaves.{WritesContents, StaysOpen};
 ghost use Rattle.cfb_format.specs.Refused.{IsMemory, IsBreak};
 ghost use Rattle.cfb_stream_window.specs.cfb_rules.StreamCalls.{write, count};
@@ -27,35 +29,12 @@ impl<A: Allocator> Window<A> {
     ) -> Result<usize, Error>
         requires there { C.has content.old id }
         ensures open { StaysOpen C.ReadContents content.old id self.old result content.new self.new }
-        ensures most { IfOk result (λ n. n ≤ length bytes.now) }
-        ensures runs { IsOpen C.ReadContents content.old id self.old
-            → IfOk result (λ n. RunsOn C.ReadContents C.Contents.own content.old id self.old
-            (write bytes.now) (count n) content.new self.new) }
-        ensures refused { IsOpen C.ReadContents content.old id self.old
-            → IfErr result (IsRefusedOn C.ReadContents C.Contents.own content.old id self.old
-            (write bytes.now) content.new self.new) }
-        ensures settles { IsOpen C.ReadContents content.old id self.old → length bytes.now < 65536
-            → OnOk result (IsSettled (C.stored content.old id) self.old (C.stored content.new id)) }
-        ensures none { length bytes.now ≡ 0 → content.new ≡ content.old }
-        ensures unsound { (C.stored content.old id).sound ≡ false → content.new ≡ content.old }
-        ensures held { length bytes.now < 65536 → HasBufferRoom self.old
-            → content.new ≡ content.old }
-        ensures keeps_back { 0 < length bytes.now → length bytes.now < 65536
-            → OnOk result (self.new.pending ≡ true) }
-        ensures straight { 65536 ≤ length bytes.now → OnOk result (self.new.pending ≡ false) }
-        ensures calm { length bytes.now < 65536 → self.old.pending ≡ false
-            → content.new ≡ content.old }
-        ensures foreseen { IsOpen C.ReadContents content.old id self.old
-            → IfErr result (λ e. e ≡ Error.Full
-            → LacksRoomToWrite C.ReadContents C.Contents.own content.old id self.old
-            (length bytes.now) content.new) }
-        ensures lean { self.new.room ≤ max self.old.room (min (4 * self.old.room) self.old.bound) }
-        ensures around { C.tells content.old
-            → IsTouched C.ReadContents C.Contents.own content.old content.new id result }
-        ensures between { C.tells content.old
-            → InTurn C.ReadContents C.Contents.own content.old id self.old content.new }
-        ensures once { C.tells content.old → length bytes.now < 65536
-            → C.tight content.old content.new }
+        ensures answers { WriteAnswers C.ReadContents C.Contents.own bytes.now content.old
+            content.new id self.old self.new result }
+        ensures leaves { WriteLeaves C.ReadContents bytes.now content.old content.new id self.old
+            self.new result }
+        ensures touches { WriteTouches C.ReadContents C.Contents.own bytes.now content.old
+            content.new id self.old result }
     {
         if content.is_failed(id) {
             return Err(Error::Failed);
@@ -86,24 +65,11 @@ impl<A: Allocator> Window<A> {
         requires there { C.has content.old id }
         ensures writes { WritesContents C.ReadContents C.Contents.own content.old content.new id
             result }
-        ensures ok { IsReady C.ReadContents content.old id self.old → OnOk result
-            (Carries (C.stored content.old id) self.old (C.stored content.new id) self.new) }
-        ensures room { OnOk result (self.new.cursor < self.new.room) }
-        ensures place { OnOk result (self.new.base + self.new.cursor
-            ≡ self.old.base + self.old.cursor) }
-        ensures held { HasBufferRoom self.old → content.new ≡ content.old }
-        ensures settles { IsReady C.ReadContents content.old id self.old
-            → OnOk result (IsSettled (C.stored content.old id) self.old (C.stored content.new id)) }
-        ensures refused { IsReady C.ReadContents content.old id self.old
-            → IfErr result (WriteBrokeOff (C.is_full content.new)
-            (C.stored content.old id) self.old (C.stored content.new id) self.new) }
-        ensures foreseen { IsReady C.ReadContents content.old id self.old
-            → IfErr result (λ e. e ≡ Error.Full
-            → LacksRoomToWriteOut C.ReadContents C.Contents.own content.old id self.old) }
-        ensures calm { self.old.pending ≡ false → content.new ≡ content.old }
-        ensures memory { self.old.pending ≡ false → IfErr result IsMemory }
-        ensures bound { self.new.bound ≡ self.old.bound }
-        ensures lean { self.new.room ≤ max self.old.room (min (4 * self.old.room) self.old.bound) }
+        ensures room { HasRoomNext C.ReadContents content.old content.new id self.old self.new
+            result }
+        ensures leaves { RoomLeaves content.old content.new self.old self.new result }
+        ensures refused { RoomRefused C.ReadContents C.Contents.own content.old content.new id
+            self.old self.new result }
     {
         if self.buffer.cursor() < self.buffer.room() {
             return Ok(());
@@ -135,22 +101,12 @@ impl<A: Allocator> Window<A> {
         requires there { C.has content.old id }
         ensures writes { WritesContents C.ReadContents C.Contents.own content.old content.new id
             result }
-        ensures ok { IsReady C.ReadContents content.old id self.old → OnOk result
-            (Carries (C.stored content.old id) self.old (C.stored content.new id) self.new) }
-        ensures room { OnOk result (self.new.cursor < self.new.room) }
-        ensures place { OnOk result (self.new.base + self.new.cursor
-            ≡ self.old.base + self.old.cursor) }
-        ensures settles { IsReady C.ReadContents content.old id self.old
-            → OnOk result (IsSettled (C.stored content.old id) self.old (C.stored content.new id)) }
-        ensures refused { IsReady C.ReadContents content.old id self.old
-            → IfErr result (WriteBrokeOff (C.is_full content.new)
-            (C.stored content.old id) self.old (C.stored content.new id) self.new) }
-        ensures foreseen { IsReady C.ReadContents content.old id self.old
-            → IfErr result (λ e. e ≡ Error.Full
-            → LacksRoomToWriteOut C.ReadContents C.Contents.own content.old id self.old) }
+        ensures room { HasRoomNext C.ReadContents content.old content.new id self.old self.new
+            result }
+        ensures refused { RoomRefused C.ReadContents C.Contents.own content.old content.new id
+            self.old self.new result }
         ensures bound { self.new.bound ≡ self.old.bound }
-        ensures calm { self.old.pending ≡ false → content.new ≡ content.old }
-        ensures pending { OnErr result (self.old.pending ≡ true) }
+        ensures calm { StaysCalm content.old content.new self.old result }
         ensures same_room { self.new.room ≡ self.old.room }
     {
         let _room = self.buffer.room();
@@ -184,32 +140,11 @@ impl<A: Allocator> Window<A> {
     ) -> Result<usize, Error>
         requires there { C.has content.old id }
         requires fits { self.old.base + self.old.cursor + length bytes.now < 2 ^ 64 }
-        ensures there { C.has content.new id }
-        ensures any { HasKeptFlags C.ReadContents content.old content.new id result }
-        ensures around { C.tells content.old
-            → IsTouched C.ReadContents C.Contents.own content.old content.new id result }
-        ensures between { C.tells content.old
-            → InTurn C.ReadContents C.Contents.own content.old id self.old content.new }
-        ensures most { IfOk result (λ n. n ≤ length bytes.now) }
-        ensures ok { IsReady C.ReadContents content.old id self.old
-            → (C.stored content.old id).sound ≡ true
-            → self.old.base + self.old.cursor + length bytes.now ≤ (C.stored content.old id).limit
-            → 0 < length bytes.now → IfOk result (λ n. (1 ≤ n) × WroteStraight (take n bytes.now)
-            (C.stored content.old id) self.old (C.stored content.new id) self.new) }
-        ensures refused { IsReady C.ReadContents content.old id self.old
-            → (C.stored content.old id).sound ≡ true
-            → self.old.base + self.old.cursor + length bytes.now ≤ (C.stored content.old id).limit
-            → 0 < length bytes.now → IfErr result (WriteBrokeOff (C.is_full content.new)
-            (C.stored content.old id) self.old (C.stored content.new id) self.new) }
-        ensures calm { OnOk result (self.new.pending ≡ false) }
-        ensures foreseen { IsReady C.ReadContents content.old id self.old
-            → (C.stored content.old id).sound ≡ true
-            → self.old.base + self.old.cursor + length bytes.now ≤ (C.stored content.old id).limit
-            → 0 < length bytes.now → IfErr result (λ e. e ≡ Error.Full
-            → LacksRoomToWriteOut C.ReadContents C.Contents.own content.old id self.old
-            ⊎ LacksRoomBehind C.ReadContents C.Contents.own content.old id self.old content.new) }
-        ensures bound { self.new.bound ≡ self.old.bound }
-        ensures room { self.new.room ≡ self.old.room }
+        ensures touches { TouchesInTurn C.ReadContents C.Contents.own content.old content.new id
+            self.old result }
+        ensures straight { WritesStraight C.ReadContents C.Contents.own bytes.now content.old
+            content.new id self.old self.new result }
+        ensures kept { KeepsBuffer self.old self.new }
     {
         let was_pending = self.pending;
         self.leave(content, id)?;
@@ -246,28 +181,12 @@ impl<A: Allocator> Window<A> {
     pub fn set_len<C: Contents>(&mut self, content: &mut C, id: u32, len: u64) -> Result<(), Error>
         requires there { C.has content.old id }
         ensures open { StaysOpen C.ReadContents content.old id self.old result content.new self.new }
-        ensures runs { IsOpen C.ReadContents content.old id self.old
-            → OnOk result (RunsSettingLen C.ReadContents C.Contents.own
-            content.old id self.old len content.new self.new) }
-        ensures refused { IsOpen C.ReadContents content.old id self.old
-            → IfErr result (IsLengthRefusedOn C.ReadContents C.Contents.own
-            content.old id self.old len content.new self.new) }
-        ensures same { len ≡ self.old.size → content.new ≡ content.old }
-        ensures unsound { (C.stored content.old id).sound ≡ false → content.new ≡ content.old }
-        ensures foreseen { IsOpen C.ReadContents content.old id self.old
-            → IfErr result (λ e. e ≡ Error.Full → content.new ≡ content.old) }
-        ensures writes_out { IsOpen C.ReadContents content.old id self.old
-            → IsLengthened (C.stored content.old id) self.old len
-            → HasRoomForBoth C.ReadContents C.Contents.own content.old id self.old len → OnOk result
-            (WritesOutFirst C.ReadContents C.Contents.own content.old id self.old content.new) }
+        ensures answers { SetLenAnswers C.ReadContents C.Contents.own len content.old content.new id
+            self.old self.new result }
+        ensures leaves { SetLenLeaves C.ReadContents len content.old content.new id self.old }
         ensures room { self.new.room ≡ self.old.room }
-        ensures around { C.tells content.old
-            → IsTouched C.ReadContents C.Contents.own content.old content.new id result }
-        ensures between { C.tells content.old
-            → InTurn C.ReadContents C.Contents.own content.old id self.old content.new }
-        ensures once { C.tells content.old
-            → (IsLengthened (C.stored content.old id) self.old len → ⊥)
-            → C.tight content.old content.new }
+        ensures touches { SetLenTouches C.ReadContents C.Contents.own len content.old content.new id
+            self.old result }
     {
         if content.is_failed(id) {
             return Err(Error::Failed);
@@ -303,31 +222,12 @@ impl<A: Allocator> Window<A> {
     /// as by a flush, where there is room for both.
     fn lengthen<C: Contents>(&mut self, content: &mut C, id: u32, len: u64) -> Result<(), Error>
         requires there { C.has content.old id }
-        requires pending { self.old.pending ≡ true }
-        requires behind { (C.stored content.old id).size < self.old.size }
-        requires longer { self.old.size < len }
-        ensures there { C.has content.new id }
-        ensures any { HasKeptFlags C.ReadContents content.old content.new id result }
-        ensures around { C.tells content.old
-            → IsTouched C.ReadContents C.Contents.own content.old content.new id result }
-        ensures between { C.tells content.old
-            → InTurn C.ReadContents C.Contents.own content.old id self.old content.new }
-        ensures ok { IsReady C.ReadContents content.old id self.old
-            → (C.stored content.old id).sound ≡ true → len ≤ (C.stored content.old id).limit
-            → OnOk result (Resized len
-            (C.stored content.old id) self.old (C.stored content.new id) self.new) }
-        ensures refused { IsReady C.ReadContents content.old id self.old
-            → (C.stored content.old id).sound ≡ true → len ≤ (C.stored content.old id).limit
-            → IfErr result (LengthBrokeOff (C.is_too_long content.new id len)
-            (C.stored content.old id) self.old (C.stored content.new id) self.new) }
-        ensures foreseen { IsReady C.ReadContents content.old id self.old
-            → (C.stored content.old id).sound ≡ true → len ≤ (C.stored content.old id).limit
-            → IfErr result (λ e. e ≡ Error.Full → content.new ≡ content.old) }
-        ensures writes_out { IsReady C.ReadContents content.old id self.old
-            → HasRoomForBoth C.ReadContents C.Contents.own content.old id self.old len → OnOk result
-            (WritesOutFirst C.ReadContents C.Contents.own content.old id self.old content.new) }
-        ensures bound { self.new.bound ≡ self.old.bound }
-        ensures room { self.new.room ≡ self.old.room }
+        requires longer { CanLengthen C.ReadContents len content.old id self.old }
+        ensures touches { TouchesInTurn C.ReadContents C.Contents.own content.old content.new id
+            self.old result }
+        ensures resized { Lengthens C.ReadContents C.Contents.own len content.old content.new id
+            self.old self.new result }
+        ensures kept { KeepsBuffer self.old self.new }
     {
         match self.can_write_out(content, id, len) {
             Ok(true) => self.write_out_and_resize(content, id, len),
@@ -361,34 +261,16 @@ impl<A: Allocator> Window<A> {
         len: u64,
     ) -> Result<(), Error>
         requires there { C.has content.old id }
-        requires pending { self.old.pending ≡ true }
-        requires behind { (C.stored content.old id).size < self.old.size }
-        requires longer { self.old.size < len }
+        requires longer { CanLengthen C.ReadContents len content.old id self.old }
         requires fits { C.tells content.old → TakesLen (C.stored content.old id) self.old.size
             → C.is_too_long content.old id self.old.size → ⊥ }
         requires longer_fits { C.tells content.old → TakesLen (C.stored content.old id) len
             → C.is_too_long content.old id len → ⊥ }
-        ensures there { C.has content.new id }
-        ensures any { HasKeptFlags C.ReadContents content.old content.new id result }
-        ensures around { C.tells content.old
-            → IsTouched C.ReadContents C.Contents.own content.old content.new id result }
-        ensures between { C.tells content.old
-            → InTurn C.ReadContents C.Contents.own content.old id self.old content.new }
-        ensures ok { IsReady C.ReadContents content.old id self.old
-            → (C.stored content.old id).sound ≡ true → len ≤ (C.stored content.old id).limit
-            → OnOk result (Resized len
-            (C.stored content.old id) self.old (C.stored content.new id) self.new) }
-        ensures refused { IsReady C.ReadContents content.old id self.old
-            → (C.stored content.old id).sound ≡ true → len ≤ (C.stored content.old id).limit
-            → IfErr result (LengthBrokeOff (C.is_too_long content.new id len)
-            (C.stored content.old id) self.old (C.stored content.new id) self.new) }
-        ensures foreseen { IsReady C.ReadContents content.old id self.old
-            → (C.stored content.old id).sound ≡ true → len ≤ (C.stored content.old id).limit
-            → IfErr result (λ e. e ≡ Error.Full → ⊥) }
-        ensures writes_out { IsReady C.ReadContents content.old id self.old → OnOk result
-            (WritesOutFirst C.ReadContents C.Contents.own content.old id self.old content.new) }
-        ensures bound { self.new.bound ≡ self.old.bound }
-        ensures room { self.new.room ≡ self.old.room }
+        ensures touches { TouchesInTurn C.ReadContents C.Contents.own content.old content.new id
+            self.old result }
+        ensures resized { WritesOutAndResizes C.ReadContents C.Contents.own len content.old
+            content.new id self.old self.new result }
+        ensures kept { KeepsBuffer self.old self.new }
     {
         let _at = self.position();
         let size = self.len();

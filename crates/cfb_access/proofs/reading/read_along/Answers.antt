@@ -40,5 +40,5 @@ end_chain-requires g c =
     let fat = c.args.allocator.now.tables.fat in
     let ids = c.in_ok-ids.ids.items in
     let chain = c.in_ok-ids.ensures.ok in
-    rw (c.fill_from_sectors.ensures.tables, c.open_chain.ensures.unchanged)
+    rw (c.fill_from_sectors.ensures.reads.tables, c.open_chain.ensures.unchanged)
     (subst (λ n. IsChain fat n ids) (begins fat c.args.start ids chain.follows) chain)

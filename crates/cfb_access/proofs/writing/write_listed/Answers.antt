@@ -1,4 +1,5 @@
-use Rattle.std.proofs.Common.{◌<◌, ◌≤◌, ◌+◌, ◌/◌, ◌∙◌, ℕ, List, refl, sym, subst, length, arith}
+use Rattle.std.proofs.lemmas.Grind.{common_steps}
+use Rattle.std.proofs.Common.{◌<◌, ◌≤◌, ◌+◌, ◌/◌, ◌∙◌, ℕ, List, refl, sym, subst, length, arith, rules}
 use Rattle.std.specs.Prelude.{IsTrue, OnOk, nat_eq, slice_index}
 use Rattle.std.specs.List.{IsDistinct}
 use Rattle.std.proofs.lemmas.Result.{err_from_is_err_and, on_ok_weaker}
@@ -30,41 +31,59 @@ content_in-start-requires g c = record { inside = stream-inside c.args.mini.now 
 
 -- ---- the chain is none, or has not all bytes
 
-pub returns-in_err-ids-clause-others : goal.returns-in_err-ids-clause-others
-returns-in_err-ids-clause-others g c told validation change =
-    rw (c.open_whole_chain_in.ensures.unchanged, c.allocator_mut-allocator.ensures.value) (nothing-is-moved c.args.entry c.args.mini.now)
+pub returns-in_err-ids-clause-holds : goal.returns-in_err-ids-clause-holds
+returns-in_err-ids-clause-holds g c = record {
+  content = first_of (search rules, grind (arith, common_steps));
+  others = λ told validation change. rw (c.open_whole_chain_in.ensures.unchanged, c.allocator_mut-allocator.ensures.value) (nothing-is-moved c.args.entry c.args.mini.now);
+  counted = first_of (search rules, grind (arith, common_steps));
+  holds = first_of (search rules, grind (arith, common_steps));
+}
 
-pub returns-in_err-ids-clause-header : goal.returns-in_err-ids-clause-header
-returns-in_err-ids-clause-header g c told =
-    rw (c.open_whole_chain_in.ensures.unchanged, c.allocator_mut-allocator.ensures.value) (header-stays c.args.mini.now c.args.mini.now refl)
+pub returns-in_err-ids-clause-writes : goal.returns-in_err-ids-clause-writes
+returns-in_err-ids-clause-writes g c = record {
+  rest = first_of (search rules, grind (arith, common_steps));
+  header = λ told. rw (c.open_whole_chain_in.ensures.unchanged, c.allocator_mut-allocator.ensures.value) (header-stays c.args.mini.now c.args.mini.now refl);
+  refused = first_of (search rules, grind (arith, common_steps));
+  unwritten = first_of (search rules, grind (arith, common_steps));
+  err = (
+      let s = c.args.mini.now in
+      let i = c.args.entry in
+      let long : 4096 ≤ len_of s i = (let len = c.content_in-start.ensures.len in let most = c.if-len.true in omega (arith, len, most)) in
+      let p = err_from_is_err_and c.from_residual.result c.from_residual.ensures.1 in
+      rw (p.1, p.2) (refused-as _ _ _ _ _ _ _ _
+      (not-whole s i c.allocator_mut-allocator.result.now c.content_in-start.result.0 c.content_in-start.result.1 c.allocator_mut-allocator.ensures.value c.content_in-start.ensures.start c.content_in-start.ensures.len
+      c.requires.stream long)
+      (λ u. u) (λ no. no) (λ no. absurd no) c.in_err-ids.field-0.0 c.in_err-ids.ensures.err)
+  );
+  counts = first_of (search rules, grind (arith, common_steps));
+}
 
-pub returns-in_err-ids-clause-err : goal.returns-in_err-ids-clause-err
-returns-in_err-ids-clause-err g c =
-    let s = c.args.mini.now in
-    let i = c.args.entry in
-    let long : 4096 ≤ len_of s i = (let len = c.content_in-start.ensures.len in let most = c.if-len.true in omega (arith, len, most)) in
-    let p = err_from_is_err_and c.from_residual.result c.from_residual.ensures.1 in
-    rw (p.1, p.2) (refused-as _ _ _ _ _ _ _ _
-    (not-whole s i c.allocator_mut-allocator.result.now c.content_in-start.result.0 c.content_in-start.result.1 c.allocator_mut-allocator.ensures.value c.content_in-start.ensures.start c.content_in-start.ensures.len
-    c.requires.stream long)
-    (λ u. u) (λ no. no) (λ no. absurd no) c.in_err-ids.field-0.0 c.in_err-ids.ensures.err)
+pub returns-in_err-ids-2-clause-holds : goal.returns-in_err-ids-2-clause-holds
+returns-in_err-ids-2-clause-holds g c = record {
+  content = first_of (search rules, grind (arith, common_steps));
+  others = λ told validation change. nothing-is-moved c.args.entry c.args.mini.now;
+  counted = first_of (search rules, grind (arith, common_steps));
+  holds = first_of (search rules, grind (arith, common_steps));
+}
 
-pub returns-in_err-ids-2-clause-others : goal.returns-in_err-ids-2-clause-others
-returns-in_err-ids-2-clause-others g c told validation change = nothing-is-moved c.args.entry c.args.mini.now
-
-pub returns-in_err-ids-2-clause-header : goal.returns-in_err-ids-2-clause-header
-returns-in_err-ids-2-clause-header g c told = header-stays c.args.mini.now c.args.mini.now refl
-
-pub returns-in_err-ids-2-clause-err : goal.returns-in_err-ids-2-clause-err
-returns-in_err-ids-2-clause-err g c =
-    let s = c.args.mini.now in
-    let i = c.args.entry in
-    let short : len_of s i < 4096 = (let len = c.content_in-start.ensures.len in let most = c.if-len.false in omega (arith, len, most)) in
-    let p = err_from_is_err_and c.from_residual-in_err-ids-2.result c.from_residual-in_err-ids-2.ensures.1 in
-    rw (p.1, p.2) (refused-as _ _ _ _ _ _ _ _
-    (not-whole-minis s i c.content_in-start.result.0 c.content_in-start.result.1 c.content_in-start.ensures.start c.content_in-start.ensures.len
-    c.requires.stream short)
-    (λ u. u) (λ no. no) (λ no. absurd no) c.in_err-ids-2.field-0.0 c.in_err-ids-2.ensures.err)
+pub returns-in_err-ids-2-clause-writes : goal.returns-in_err-ids-2-clause-writes
+returns-in_err-ids-2-clause-writes g c = record {
+  rest = first_of (search rules, grind (arith, common_steps));
+  header = λ told. header-stays c.args.mini.now c.args.mini.now refl;
+  refused = first_of (search rules, grind (arith, common_steps));
+  unwritten = first_of (search rules, grind (arith, common_steps));
+  err = (
+      let s = c.args.mini.now in
+      let i = c.args.entry in
+      let short : len_of s i < 4096 = (let len = c.content_in-start.ensures.len in let most = c.if-len.false in omega (arith, len, most)) in
+      let p = err_from_is_err_and c.from_residual-in_err-ids-2.result c.from_residual-in_err-ids-2.ensures.1 in
+      rw (p.1, p.2) (refused-as _ _ _ _ _ _ _ _
+      (not-whole-minis s i c.content_in-start.result.0 c.content_in-start.result.1 c.content_in-start.ensures.start c.content_in-start.ensures.len
+      c.requires.stream short)
+      (λ u. u) (λ no. no) (λ no. absurd no) c.in_err-ids-2.field-0.0 c.in_err-ids-2.ensures.err)
+  );
+  counts = first_of (search rules, grind (arith, common_steps));
+}
 
 -- ---- in sectors
 
@@ -89,7 +108,7 @@ end_chain-requires g c =
     let lent = c.allocator_mut-allocator.result.now in
     let ids = c.in_ok-ids.ids.items in
     let chain = c.in_ok-ids.ensures.whole.chain in
-    rw (c.put_in_sectors-put.ensures.tables, c.open_whole_chain_in.ensures.unchanged)
+    rw (c.put_in_sectors-put.ensures.writes.tables, c.open_whole_chain_in.ensures.unchanged)
     (subst (λ n. IsChain lent.tables.fat n ids) (begins lent.tables.fat c.content_in-start.result.0 ids chain.follows) chain)
 
 sector-write : (g : _) (c : goal.After-mini-then-len-1 g)
@@ -106,7 +125,7 @@ sector-write g c =
       whole = whole-as s i c.allocator_mut-allocator.result.now c.content_in-start.result.0 c.content_in-start.result.1 c.in_ok-ids.ids.items c.allocator_mut-allocator.ensures.value c.content_in-start.ensures.start
           c.content_in-start.ensures.len c.in_ok-ids.ensures.whole;
       value = (c.open_whole_chain_in.ensures.unchanged ∙ c.allocator_mut-allocator.ensures.value);
-      tables = c.put_in_sectors-put.ensures.tables;
+      tables = c.put_in_sectors-put.ensures.writes.tables;
       listed = c.deref.ensures.value;
     }
 
@@ -115,7 +134,7 @@ sector-held : (g : _) (c : goal.After-mini-then-len-1 g) → IsTrue g.F.ReadMedi
 sector-held g c told validation change =
     let w = sector-write g c in
     let held = change.held.directory.tables in
-    c.put_in_sectors-put.ensures.holds told validation (subst (λ (a : AllocatorState). HoldsTables validation a) (sym w.value) held)
+    c.put_in_sectors-put.ensures.writes.holds told validation (subst (λ (a : AllocatorState). HoldsTables validation a) (sym w.value) held)
     (subst (λ (a : AllocatorState). AreDisjoint c.deref.result.now (table_sectors a.tables)) (sym w.value)
     (subst (λ (l : List ℕ). AreDisjoint l (table_sectors (tables_in c.args.mini.now))) (sym w.listed)
     (no-tables validation (table_of c.args.mini.now) (entry_at (entries_of c.args.mini.now) c.args.entry).start_sector c.in_ok-ids.ids.items held w.whole.chain)))
@@ -124,31 +143,35 @@ sector-put : (g : _) (c : goal.After-mini-then-len-1 g) → IsTrue g.F.ReadMediu
     → OnOk c.put_in_sectors-put.result (StandAlong (place_along c.open_whole_chain_in.new.allocator.tables.version c.deref.result.now) c.args.at c.args.bytes.now c.put_in_sectors-put.new.allocator.file.bytes)
 sector-put g c told =
     let w = sector-write g c in
-    c.put_in_sectors-put.ensures.put told (subst (λ (l : List ℕ). IsDistinct nat_eq l) (sym w.listed) w.whole.chain.distinct)
-
-pub returns-then-len-clause-content : goal.returns-then-len-clause-content
-returns-then-len-clause-content g c told validation change =
-    rw c.end_chain.ensures (on_ok_weaker c.put_in_sectors-put.result (λ put. large-write-content _ _ _ _ _ _ _ _ (sector-write g c) validation change (c.put_in_sectors-put.ensures.others told) put) (sector-put g c told))
-
-pub returns-then-len-clause-others : goal.returns-then-len-clause-others
-returns-then-len-clause-others g c told validation change =
-    rw c.end_chain.ensures (large-write-others _ _ _ _ _ _ _ _ (sector-write g c) validation change (c.put_in_sectors-put.ensures.spares told))
-
-pub returns-then-len-clause-header : goal.returns-then-len-clause-header
-returns-then-len-clause-header g c told =
-    rw c.end_chain.ensures (table-keeps-header c.deref.result.now c.args.mini.now c.open_whole_chain_in.new.allocator c.put_in_sectors-put.new.allocator (c.open_whole_chain_in.ensures.unchanged ∙ c.allocator_mut-allocator.ensures.value)
-    (c.put_in_sectors-put.ensures.spares told))
-
-pub returns-then-len-clause-counted : goal.returns-then-len-clause-counted
-returns-then-len-clause-counted g c told validation change =
-    rw c.end_chain.ensures (all_ok c.put_in_sectors-put.result (placed-count validation c.args.mini.now c.open_whole_chain_in.new.allocator c.put_in_sectors-put.new.allocator c.deref.result.now c.args.at
-    (length c.args.bytes.now) (c.open_whole_chain_in.ensures.unchanged ∙ c.allocator_mut-allocator.ensures.value) change.held (c.put_in_sectors-put.ensures.others told)))
+    c.put_in_sectors-put.ensures.along.put told (subst (λ (l : List ℕ). IsDistinct nat_eq l) (sym w.listed) w.whole.chain.distinct)
 
 pub returns-then-len-clause-holds : goal.returns-then-len-clause-holds
-returns-then-len-clause-holds g c told validation change =
-    rw c.end_chain.ensures (on_both _ _ _ c.put_in_sectors-put.result
-    (λ held put. large-write-changeable _ _ _ _ _ _ _ _ (sector-write g c) validation change (c.put_in_sectors-put.ensures.others told) put (c.put_in_sectors-put.ensures.spares told) held)
-    (sector-held g c told validation change) (sector-put g c told))
+returns-then-len-clause-holds g c = record {
+  content = λ told validation change. rw c.end_chain.ensures (on_ok_weaker c.put_in_sectors-put.result (λ put. large-write-content _ _ _ _ _ _ _ _ (sector-write g c) validation change (c.put_in_sectors-put.ensures.along.others told) put) (sector-put g c told));
+  others = λ told validation change. rw c.end_chain.ensures (large-write-others _ _ _ _ _ _ _ _ (sector-write g c) validation change (c.put_in_sectors-put.ensures.writes.spares told));
+  counted = λ told validation change. (
+      rw c.end_chain.ensures (all_ok c.put_in_sectors-put.result (placed-count validation c.args.mini.now c.open_whole_chain_in.new.allocator c.put_in_sectors-put.new.allocator c.deref.result.now c.args.at
+      (length c.args.bytes.now) (c.open_whole_chain_in.ensures.unchanged ∙ c.allocator_mut-allocator.ensures.value) change.held (c.put_in_sectors-put.ensures.along.others told)))
+  );
+  holds = λ told validation change. (
+      rw c.end_chain.ensures (on_both _ _ _ c.put_in_sectors-put.result
+      (λ held put. large-write-changeable _ _ _ _ _ _ _ _ (sector-write g c) validation change (c.put_in_sectors-put.ensures.along.others told) put (c.put_in_sectors-put.ensures.writes.spares told) held)
+      (sector-held g c told validation change) (sector-put g c told))
+  );
+}
+
+pub returns-then-len-clause-writes : goal.returns-then-len-clause-writes
+returns-then-len-clause-writes g c = record {
+  rest = first_of (search rules, grind (arith, common_steps));
+  header = λ told. (
+      rw c.end_chain.ensures (table-keeps-header c.deref.result.now c.args.mini.now c.open_whole_chain_in.new.allocator c.put_in_sectors-put.new.allocator (c.open_whole_chain_in.ensures.unchanged ∙ c.allocator_mut-allocator.ensures.value)
+      (c.put_in_sectors-put.ensures.writes.spares told))
+  );
+  refused = first_of (search rules, grind (arith, common_steps));
+  unwritten = first_of (search rules, grind (arith, common_steps));
+  err = first_of (search rules, grind (arith, common_steps));
+  counts = first_of (search rules, grind (arith, common_steps));
+}
 
 -- ---- in mini sectors
 
@@ -166,7 +189,7 @@ mini-write g c =
       some = c.requires.some;
       whole = whole-minis-as s i c.content_in-start.result.0 c.content_in-start.result.1 c.in_ok-ids-2.ids.items c.content_in-start.ensures.start c.content_in-start.ensures.len
           c.in_ok-ids-2.ensures.whole;
-      kept = c.put_in_minis.ensures.kept;
+      kept = c.put_in_minis.ensures.writes.kept;
       listed = c.deref-2.ensures.value;
     }
 
@@ -176,31 +199,36 @@ mini-put g c told validation change =
     let w = mini-write g c in
     let inside = w.inside in
     let some = w.some in
-    c.put_in_minis.ensures.put told validation change.held (subst (λ (l : List ℕ). IsDistinct nat_eq l) (sym w.listed) (w.whole.chain (omega (arith, inside, some))).distinct)
-
-pub returns-clause-content : goal.returns-clause-content
-returns-clause-content g c told validation change =
-    on_both _ _ _ c.put_in_minis.result
-    (λ held put. mini-write-content _ _ _ _ _ _ _ (mini-write g c) validation change (c.put_in_minis.ensures.others told) put held)
-    (c.put_in_minis.ensures.holds told validation change.held) (mini-put g c told validation change)
-
-pub returns-clause-others : goal.returns-clause-others
-returns-clause-others g c told validation change =
-    mini-write-others _ _ _ _ _ _ _ (mini-write g c) validation change (c.put_in_minis.ensures.spares told) (c.put_in_minis.ensures.mini_spares told validation change.held)
-
-pub returns-clause-header : goal.returns-clause-header
-returns-clause-header g c told = spared-keeps-header _ c.args.mini.now c.put_in_minis.new.mini (c.put_in_minis.ensures.spares told)
-
-pub returns-clause-counted : goal.returns-clause-counted
-returns-clause-counted g c told validation change =
-    let s = c.args.mini.now in
-    let new = c.put_in_minis.new.mini in
-    all_ok c.put_in_minis.result (count-stays validation s new change.held
-    (minis-outside s c.deref-2.result.now c.args.at (length c.args.bytes.now) (bytes_of s) (bytes_of new) (c.put_in_minis.ensures.others told)))
+    c.put_in_minis.ensures.along.put told validation change.held (subst (λ (l : List ℕ). IsDistinct nat_eq l) (sym w.listed) (w.whole.chain (omega (arith, inside, some))).distinct)
 
 pub returns-clause-holds : goal.returns-clause-holds
-returns-clause-holds g c told validation change =
-    on_both _ _ _ c.put_in_minis.result
-    (λ held put. mini-write-changeable _ _ _ _ _ _ _ (mini-write g c) validation change (c.put_in_minis.ensures.others told) put (c.put_in_minis.ensures.spares told)
-    (c.put_in_minis.ensures.mini_spares told validation change.held) held)
-    (c.put_in_minis.ensures.holds told validation change.held) (mini-put g c told validation change)
+returns-clause-holds g c = record {
+  content = λ told validation change. (
+      on_both _ _ _ c.put_in_minis.result
+      (λ held put. mini-write-content _ _ _ _ _ _ _ (mini-write g c) validation change (c.put_in_minis.ensures.along.others told) put held)
+      (c.put_in_minis.ensures.writes.holds told validation change.held) (mini-put g c told validation change)
+  );
+  others = λ told validation change. mini-write-others _ _ _ _ _ _ _ (mini-write g c) validation change (c.put_in_minis.ensures.writes.spares told) (c.put_in_minis.ensures.along.mini_spares told validation change.held);
+  counted = λ told validation change. (
+      let s = c.args.mini.now in
+      let new = c.put_in_minis.new.mini in
+      all_ok c.put_in_minis.result (count-stays validation s new change.held
+      (minis-outside s c.deref-2.result.now c.args.at (length c.args.bytes.now) (bytes_of s) (bytes_of new) (c.put_in_minis.ensures.along.others told)))
+  );
+  holds = λ told validation change. (
+      on_both _ _ _ c.put_in_minis.result
+      (λ held put. mini-write-changeable _ _ _ _ _ _ _ (mini-write g c) validation change (c.put_in_minis.ensures.along.others told) put (c.put_in_minis.ensures.writes.spares told)
+      (c.put_in_minis.ensures.along.mini_spares told validation change.held) held)
+      (c.put_in_minis.ensures.writes.holds told validation change.held) (mini-put g c told validation change)
+  );
+}
+
+pub returns-clause-writes : goal.returns-clause-writes
+returns-clause-writes g c = record {
+  rest = first_of (search rules, grind (arith, common_steps));
+  header = λ told. spared-keeps-header _ c.args.mini.now c.put_in_minis.new.mini (c.put_in_minis.ensures.writes.spares told);
+  refused = first_of (search rules, grind (arith, common_steps));
+  unwritten = first_of (search rules, grind (arith, common_steps));
+  err = first_of (search rules, grind (arith, common_steps));
+  counts = first_of (search rules, grind (arith, common_steps));
+}

@@ -1,4 +1,5 @@
-use Rattle.std.proofs.Common.{◌≡◌, ◌-◌, ℕ, List, refl, ap, ◌∙◌, subst, arith, length, replicate}
+use Rattle.std.proofs.lemmas.Grind.{common_steps}
+use Rattle.std.proofs.Common.{◌≡◌, ◌-◌, ℕ, List, refl, ap, ◌∙◌, subst, arith, length, replicate, rules}
 use Rattle.std.specs.Prelude.{IsTrue}
 use Rattle.std.proofs.lemmas.List.{length-replicate}
 use Rattle.cfb_content.proofs.cfb_alloc.Spared.{spares_refl}
@@ -30,16 +31,27 @@ loop-at-init g c =
       counts = λ told. refl;
     }
 
-pub returns-in_err-put_in_minis-clause-spares : goal.returns-in_err-put_in_minis-clause-spares
-returns-in_err-put_in_minis-clause-spares g c told =
-    let inv = c.loop-at.invariant in
-    stream-spared c.args.mini.now c.loop-at.mini c.put_in_minis.new.mini inv.kept (inv.spares told) (c.put_in_minis.ensures.spares told)
+pub returns-in_err-put_in_minis-clause-writes : goal.returns-in_err-put_in_minis-clause-writes
+returns-in_err-put_in_minis-clause-writes g c = record {
+  kept = first_of (search rules, grind (arith, common_steps));
+  spares = λ told. (
+      let inv = c.loop-at.invariant in
+      stream-spared c.args.mini.now c.loop-at.mini c.put_in_minis.new.mini inv.kept (inv.spares told) (c.put_in_minis.ensures.writes.spares told)
+  );
+  holds = first_of (search rules, grind (arith, common_steps));
+}
 
-pub returns-in_err-put_in_minis-clause-mini_spares : goal.returns-in_err-put_in_minis-clause-mini_spares
-returns-in_err-put_in_minis-clause-mini_spares g c told validation h =
-    let inv = c.loop-at.invariant in
-    minis-spared validation c.args.ids.now c.args.ids.now c.args.mini.now c.loop-at.mini c.put_in_minis.new.mini h inv.kept (λ m x. x)
-    (inv.mini_spares told validation h) (c.put_in_minis.ensures.mini_spares told validation (inv.holds told validation h))
+pub returns-in_err-put_in_minis-clause-along : goal.returns-in_err-put_in_minis-clause-along
+returns-in_err-put_in_minis-clause-along g c = record {
+  put = first_of (search rules, grind (arith, common_steps));
+  others = first_of (search rules, grind (arith, common_steps));
+  mini_spares = λ told validation h. (
+      let inv = c.loop-at.invariant in
+      minis-spared validation c.args.ids.now c.args.ids.now c.args.mini.now c.loop-at.mini c.put_in_minis.new.mini h inv.kept (λ m x. x)
+      (inv.mini_spares told validation h) (c.put_in_minis.ensures.along.mini_spares told validation (inv.holds told validation h))
+  );
+  counts = first_of (search rules, grind (arith, common_steps));
+}
 
 pub loop-at-preserved : goal.loop-at-preserved
 loop-at-preserved g c =
@@ -62,14 +74,14 @@ loop-at-preserved g c =
     let same = same-along s b inv.kept ids in
     let change : IsTrue g.F.ReadMedium.tells → ChangesOnlyPlaces place at n (bytes_of b) (bytes_of new) =
     λ told. subst (λ m. ChangesOnlyPlaces place at m (bytes_of b) (bytes_of new)) size
-    (subst (λ (p : ℕ → ℕ). ChangesOnlyPlaces p at (length {A = ℕ} zeros) (bytes_of b) (bytes_of new)) same (e.others told)) in
+    (subst (λ (p : ℕ → ℕ). ChangesOnlyPlaces p at (length {A = ℕ} zeros) (bytes_of b) (bytes_of new)) same (e.along.others told)) in
     record {
       behind = omega (arith, behind);
       within = λ less. omega (arith, count, more);
-      kept = file-in-turn s b new inv.kept e.kept;
+      kept = file-in-turn s b new inv.kept e.writes.kept;
       put = λ told validation h once.
           let stands : StandAlong place at zeros (bytes_of new) =
-          subst (λ (p : ℕ → ℕ). StandAlong p at zeros (bytes_of new)) same (e.put told validation (inv.holds told validation h) once) in
+          subst (λ (p : ℕ → ℕ). StandAlong p at zeros (bytes_of new)) same (e.along.put told validation (inv.holds told validation h) once) in
           zeros-on place from at n (bytes_of b) (bytes_of new) behind
           (λ k j low before high till.
           minis-once validation s ids h once j k (c.requires.placed j (omega (arith, low, before, high)) (omega (arith, till, count, more)))
@@ -77,16 +89,22 @@ loop-at-preserved g c =
           (change told) (inv.put told validation h once) (zeros-put place at n zeros (bytes_of new) is stands);
       others = λ told.
           only_then place from (c.args.to - from) at n (bytes_of s) (bytes_of b) (bytes_of new) behind (omega (arith, count, more, behind)) (inv.others told) (change told);
-      spares = λ told. stream-spared s b new inv.kept (inv.spares told) (e.spares told);
-      mini_spares = λ told validation h. minis-spared validation ids ids s b new h inv.kept (λ m x. x) (inv.mini_spares told validation h) (e.mini_spares told validation (inv.holds told validation h));
-      holds = λ told validation h. e.holds told validation (inv.holds told validation h);
+      spares = λ told. stream-spared s b new inv.kept (inv.spares told) (e.writes.spares told);
+      mini_spares = λ told validation h. minis-spared validation ids ids s b new h inv.kept (λ m x. x) (inv.mini_spares told validation h) (e.along.mini_spares told validation (inv.holds told validation h));
+      holds = λ told validation h. e.writes.holds told validation (inv.holds told validation h);
       begun = λ less. e.begun (omega (arith, size, count, more));
       none = λ is. absurd (omega (arith, is, behind, count, more));
-      counts = λ told. e.counts told ∙ inv.counts told;
+      counts = λ told. e.along.counts told ∙ inv.counts told;
     }
 
-pub returns-clause-put : goal.returns-clause-put
-returns-clause-put g c told validation h once =
-    let past = c.loop-at-test.false in
-    zeros_stand (mini_place_along c.args.mini.now c.args.ids.now) c.args.from (c.loop-at.at - c.args.from) (c.args.to - c.args.from) (bytes_of c.loop-at.mini)
-    (omega (arith, past)) (c.loop-at.invariant.put told validation h once)
+pub returns-clause-along : goal.returns-clause-along
+returns-clause-along g c = record {
+  put = λ told validation h once. (
+      let past = c.loop-at-test.false in
+      zeros_stand (mini_place_along c.args.mini.now c.args.ids.now) c.args.from (c.loop-at.at - c.args.from) (c.args.to - c.args.from) (bytes_of c.loop-at.mini)
+      (omega (arith, past)) (c.loop-at.invariant.put told validation h once)
+  );
+  others = first_of (search rules, grind (arith, common_steps));
+  mini_spares = first_of (search rules, grind (arith, common_steps));
+  counts = first_of (search rules, grind (arith, common_steps));
+}

@@ -1,7 +1,13 @@
+use Rattle.std.proofs.lemmas.Grind.{common_steps}
+use Rattle.std.proofs.Common.{rules, arith}
 use Rattle.cfb_content.proofs.in_sectors.put_in_sectors.Goals as goal
 
-pub returns-clause-tables : goal.returns-clause-tables
-returns-clause-tables g c = c.write_along.ensures.kept.tables
-
-pub returns-clause-kept : goal.returns-clause-kept
-returns-clause-kept g c = c.write_along.ensures.kept.file
+pub returns-clause-writes : goal.returns-clause-writes
+returns-clause-writes g c = record {
+  tables = c.write_along.ensures.writes.kept.tables;
+  kept = c.write_along.ensures.writes.kept.file;
+  spares = first_of (search rules, grind (arith, common_steps));
+  holds = first_of (search rules, grind (arith, common_steps));
+  err = first_of (search rules, grind (arith, common_steps));
+  counts = first_of (search rules, grind (arith, common_steps));
+}

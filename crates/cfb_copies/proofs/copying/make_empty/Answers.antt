@@ -15,12 +15,12 @@ returns-clause-copy g c = record {
       let m = c.in_ok-mini.ensures in
       let file : FileState = record { base = c.in_ok-mini.mini; is_sound = true; buffer_limit = c.args.buffer_limit } in
       subst (λ (f : FileState). IsMadeCopy (g.W.ReadMedium.failures c.args.dest) f) (sym c.new.ensures) (record {
-        holds = m.holds told c.args.buffer_limit;
-        made = m.made told;
-        none_free = created_full file _ (m.holds told c.args.buffer_limit) (m.bytes told);
-        tight = created_tight file _ (m.holds told c.args.buffer_limit) (m.bytes told);
-        header = λ i fixed. ap (λ (bytes : List ℕ). slice_index bytes i) (m.bytes told) ∙ ap (λ (v : Version). slice_index (created_bytes v) i) (sym m.version);
-        calm = m.calm told;
+        holds = m.made.holds told c.args.buffer_limit;
+        made = m.made.made told;
+        none_free = created_full file _ (m.made.holds told c.args.buffer_limit) (m.made.bytes told);
+        tight = created_tight file _ (m.made.holds told c.args.buffer_limit) (m.made.bytes told);
+        header = λ i fixed. ap (λ (bytes : List ℕ). slice_index bytes i) (m.made.bytes told) ∙ ap (λ (v : Version). slice_index (created_bytes v) i) (sym m.setting.same_version);
+        calm = m.made.calm told;
       })
       );
 }
@@ -28,15 +28,15 @@ returns-clause-copy g c = record {
 pub returns-clause-empty : goal.returns-clause-empty
 returns-clause-empty g c told =
     let file : FileState = record { base = c.in_ok-mini.mini; is_sound = true; buffer_limit = c.args.buffer_limit } in
-    subst (λ (f : FileState). HasNoObjects f) (sym c.new.ensures) (created_none file _ c.created_file_is_right.ensures.means (c.in_ok-mini.ensures.bytes told))
+    subst (λ (f : FileState). HasNoObjects f) (sym c.new.ensures) (created_none file _ c.created_file_is_right.ensures.means (c.in_ok-mini.ensures.made.bytes told))
 
 pub returns-clause-fresh : goal.returns-clause-fresh
 returns-clause-fresh g c told =
     let m = c.in_ok-mini.ensures in
     let file : FileState = record { base = c.in_ok-mini.mini; is_sound = true; buffer_limit = c.args.buffer_limit } in
     subst (λ (f : FileState). IsFresh f) (sym c.new.ensures) (record {
-      made = m.made told;
-      limit = m.limit;
-      tight = created_tight file _ (m.holds told c.args.buffer_limit) (m.bytes told);
-      used = created_used file _ (m.holds told c.args.buffer_limit) (m.bytes told);
+      made = m.made.made told;
+      limit = m.setting.limit;
+      tight = created_tight file _ (m.made.holds told c.args.buffer_limit) (m.made.bytes told);
+      used = created_used file _ (m.made.holds told c.args.buffer_limit) (m.made.bytes told);
     })

@@ -1,4 +1,5 @@
-use Rattle.std.proofs.Common.{◌≡◌, ◌≤◌, sym, ◌∙◌, ap, subst, length, [], arith}
+use Rattle.std.proofs.lemmas.Grind.{common_steps}
+use Rattle.std.proofs.Common.{◌≡◌, ◌≤◌, sym, ◌∙◌, ap, subst, length, [], arith, rules}
 use Rattle.cfb_format.specs.Bytes.{word_at}
 use Rattle.cfb_format.proofs.ByteLemmas.{ChangesOnly_wider}
 use Rattle.cfb_sectors.specs.Sectors.{SectorFile}
@@ -11,40 +12,54 @@ use Rattle.cfb_mini_sectors.proofs.MinifatNamed.{both_words, first_named, first_
 use Rattle.cfb_mini_sectors.proofs.growing.name_minifat.Goals as goal
 use Rattle.cfb_format.proofs.Members.{Contains-nil}
 
-pub returns-in_err-name_first-clause-others : goal.returns-in_err-name_first-clause-others
-returns-in_err-name_first-clause-others g c told = ChangesOnly_wider 60 8 60 4 _ _ (omega arith) (omega arith) (c.name_first.ensures.others told)
+pub returns-in_err-name_first-clause-writes : goal.returns-in_err-name_first-clause-writes
+returns-in_err-name_first-clause-writes g c = record {
+  holds = first_of (search rules, grind (arith, common_steps));
+  others = λ told. ChangesOnly_wider 60 8 60 4 _ _ (omega arith) (omega arith) (c.name_first.ensures.holds.others told);
+  spares = first_of (search rules, grind (arith, common_steps));
+  err = first_of (search rules, grind (arith, common_steps));
+  counts = first_of (search rules, grind (arith, common_steps));
+}
 
-pub returns-clause-others : goal.returns-clause-others
-returns-clause-others g c told = both_words _ _ _ (c.name_first.ensures.others told) (c.write_header_word.ensures.others told)
+pub returns-clause-writes : goal.returns-clause-writes
+returns-clause-writes g c = record {
+  holds = first_of (search rules, grind (arith, common_steps));
+  others = λ told. both_words _ _ _ (c.name_first.ensures.holds.others told) (c.write_header_word.ensures.writes.others told);
+  spares = λ told. (
+      spares-then [] [] c.args.allocator.now c.name_first.new.allocator c.write_header_word.new.self (λ i m. absurd (Contains-nil i m))
+      (c.name_first.ensures.holds.spares told) (c.write_header_word.ensures.writes.spares told)
+  );
+  err = first_of (search rules, grind (arith, common_steps));
+  counts = first_of (search rules, grind (arith, common_steps));
+}
 
-pub returns-clause-spares : goal.returns-clause-spares
-returns-clause-spares g c told =
-    spares-then [] [] c.args.allocator.now c.name_first.new.allocator c.write_header_word.new.self (λ i m. absurd (Contains-nil i m))
-    (c.name_first.ensures.spares told) (c.write_header_word.ensures.spares told)
-
-pub returns-clause-first : goal.returns-clause-first
-returns-clause-first g c told new = all_ok c.write_header_word.result
-    (first_named c.args.allocator.now.file.bytes c.name_first.new.allocator.file.bytes c.write_header_word.new.self.file.bytes _ c.name_first.ensures.fits
-    (c.in_ok-name_first.ensures.ok told new) (c.write_header_word.ensures.others told) ∙ c.first_number.ensures)
-
-pub returns-clause-first_kept : goal.returns-clause-first_kept
-returns-clause-first_kept g c told old long =
-    let same = (c.name_first.ensures.same old).0 in
-    first_stays c.name_first.new.allocator.file.bytes c.write_header_word.new.self.file.bytes (c.write_header_word.ensures.others told)
-    (subst (λ (x : AllocatorState). 64 ≤ length x.file.bytes) (sym same) long) ∙ ap (λ (x : AllocatorState). word_at x.file.bytes 60) same
-
-pub returns-clause-count : goal.returns-clause-count
-returns-clause-count g c told =
-    on_ok _ _ c.write_header_word.result
-    (λ is. ap (λ (f : SectorFile). word_at f.bytes 64) is ∙ word_with_word c.name_first.new.allocator.file.bytes 64 (length c.args.sectors.now) c.requires.few)
-    (c.write_header_word.ensures.ok told)
-
-pub returns-clause-long : goal.returns-clause-long
-returns-clause-long g c told =
-    on_ok _ _ c.write_header_word.result
-    (λ is.
-    let b = c.name_first.new.allocator.file.bytes in
-    let n = length c.args.sectors.now in
-    let e : length c.write_header_word.new.self.file.bytes ≡ length (with_word b 64 n) = ap (λ (f : SectorFile). length f.bytes) is in
-    omega (arith, e, length-with_word b 64 n))
-    (c.write_header_word.ensures.ok told)
+pub returns-clause-names : goal.returns-clause-names
+returns-clause-names g c = record {
+  tables = first_of (search rules, grind (arith, common_steps));
+  kept = first_of (search rules, grind (arith, common_steps));
+  first = λ told new. (
+      all_ok c.write_header_word.result
+      (first_named c.args.allocator.now.file.bytes c.name_first.new.allocator.file.bytes c.write_header_word.new.self.file.bytes _ c.name_first.ensures.names.fits
+      (c.in_ok-name_first.ensures.names.done told new) (c.write_header_word.ensures.writes.others told) ∙ c.first_number.ensures)
+  );
+  first_kept = λ told old long. (
+      let same = (c.name_first.ensures.names.same old).0 in
+      first_stays c.name_first.new.allocator.file.bytes c.write_header_word.new.self.file.bytes (c.write_header_word.ensures.writes.others told)
+      (subst (λ (x : AllocatorState). 64 ≤ length x.file.bytes) (sym same) long) ∙ ap (λ (x : AllocatorState). word_at x.file.bytes 60) same
+  );
+  counted = λ told. (
+      on_ok _ _ c.write_header_word.result
+      (λ is. ap (λ (f : SectorFile). word_at f.bytes 64) is ∙ word_with_word c.name_first.new.allocator.file.bytes 64 (length c.args.sectors.now) c.requires.few)
+      (c.write_header_word.ensures.writes.done told)
+  );
+  long = λ told. (
+      on_ok _ _ c.write_header_word.result
+      (λ is.
+      let b = c.name_first.new.allocator.file.bytes in
+      let n = length c.args.sectors.now in
+      let e : length c.write_header_word.new.self.file.bytes ≡ length (with_word b 64 n) = ap (λ (f : SectorFile). length f.bytes) is in
+      omega (arith, e, length-with_word b 64 n))
+      (c.write_header_word.ensures.writes.done told)
+  );
+  sizes = first_of (search rules, grind (arith, common_steps));
+}

@@ -1,4 +1,5 @@
-use Rattle.std.proofs.Common.{◌≡◌, ◌+◌, ◌-◌, inl, inr, refl, sym, ◌∙◌, ap, subst, arith, length, get_or}
+use Rattle.std.proofs.lemmas.Grind.{common_steps}
+use Rattle.std.proofs.Common.{◌≡◌, ◌+◌, ◌-◌, inl, inr, refl, sym, ◌∙◌, ap, subst, arith, length, get_or, rules}
 use Rattle.std.proofs.lemmas.Bool.{cases_lt}
 use Rattle.std.proofs.lemmas.List.{get_or_default}
 use Rattle.cfb_format.specs.declared.version.Version.{Version}
@@ -43,92 +44,114 @@ loop-done-preserved g c =
     let e = c.in_ok-count.ensures in
     let v : b.tables.version ≡ a.tables.version = ap (λ (t : TableState). t.version) inv.tables in
     record {
-      within = e.row.listed;
-      tables = e.tables ∙ inv.tables;
-      kept = kept_after n.file b.file a.file e.kept inv.kept;
+      within = e.row.in_row.listed;
+      tables = e.writes.tables ∙ inv.tables;
+      kept = kept_after n.file b.file a.file e.writes.kept inv.kept;
       zeros = λ told k low.
           elim (cases_lt k i) [
-            | inl before ↦ e.still told (mini_start a.tables.version stream (get_or minis k 0)) (inv.zeros told k before)
+            | inl before ↦ e.wiped.still told (mini_start a.tables.version stream (get_or minis k 0)) (inv.zeros told k before)
             | inr from ↦
                 (let here : i + (k - i) ≡ k = omega (arith, from) in
                 subst (λ (u : Version). AreZeros n.file.bytes (mini_start u stream (get_or minis k 0))) v
-                (subst (λ x. AreZeros n.file.bytes (mini_start b.tables.version stream (get_or minis x 0))) here (e.zeros told (k - i) (omega (arith, from, low)))))
+                (subst (λ x. AreZeros n.file.bytes (mini_start b.tables.version stream (get_or minis x 0))) here (e.wiped.zeros told (k - i) (omega (arith, from, low)))))
           ];
-      others = λ told. minis_after minis stream v (inv.others told) (e.others told);
+      others = λ told. minis_after minis stream v (inv.others told) (e.wiped.others told);
       among = λ told. among_after stream a b n inv.tables (inv.among told) (e.among told);
-      holds = λ told validation h other. e.holds told validation (inv.holds told validation h other)
+      holds = λ told validation h other. e.writes.holds told validation (inv.holds told validation h other)
           (λ j x. subst (λ (t : TableState). IsNoTableSector t j) (sym inv.tables) (other j x));
-      begun = (λ was. e.begun, λ some. e.begun);
-      none = λ zero_long. let more = e.some in absurd (omega (arith, zero_long, more));
+      begun = (λ was. e.writes.begun, λ some. e.writes.begun);
+      none = λ zero_long. let more = e.row.some in absurd (omega (arith, zero_long, more));
       counts = λ told. e.counts told ∙ inv.counts told;
     }
 
 -- the write that failed
-pub returns-in_err-count-clause-others : goal.returns-in_err-count-clause-others
-returns-in_err-count-clause-others g c told =
-    let inv = c.loop-done.invariant in
-    minis_after c.args.minis.now c.args.stream.now (ap (λ (t : TableState). t.version) inv.tables) (inv.others told) (c.wipe_row.ensures.others told)
 
-pub returns-in_err-count-clause-other_minis : goal.returns-in_err-count-clause-other_minis
-returns-in_err-count-clause-other_minis g c told once m listed out =
-    let a = c.args.allocator.now in
-    let inv = c.loop-done.invariant in
-    other_mini_stays a.tables.version c.args.stream.now c.args.minis.now a.file.bytes c.wipe_row.new.allocator.file.bytes (length a.tables.fat) m c.requires.known
-    (minis_after c.args.minis.now c.args.stream.now (ap (λ (t : TableState). t.version) inv.tables) (inv.others told) (c.wipe_row.ensures.others told))
-    once listed out
+pub returns-in_err-count-clause-wiped : goal.returns-in_err-count-clause-wiped
+returns-in_err-count-clause-wiped g c = record {
+  zeros = first_of (search rules, grind (arith, common_steps));
+  other_minis = λ told once m listed out. (
+      let a = c.args.allocator.now in
+      let inv = c.loop-done.invariant in
+      other_mini_stays a.tables.version c.args.stream.now c.args.minis.now a.file.bytes c.wipe_row.new.allocator.file.bytes (length a.tables.fat) m c.requires.known
+      (minis_after c.args.minis.now c.args.stream.now (ap (λ (t : TableState). t.version) inv.tables) (inv.others told) (c.wipe_row.ensures.wiped.others told))
+      once listed out
+  );
+  others = λ told. (
+      let inv = c.loop-done.invariant in
+      minis_after c.args.minis.now c.args.stream.now (ap (λ (t : TableState). t.version) inv.tables) (inv.others told) (c.wipe_row.ensures.wiped.others told)
+  );
+  other_sectors = λ told. (
+      let inv = c.loop-done.invariant in
+      (among_after c.args.stream.now c.args.allocator.now c.loop-done.allocator c.wipe_row.new.allocator inv.tables (inv.among told) (c.wipe_row.ensures.among told)).others
+  );
+  header = λ told. (
+      let inv = c.loop-done.invariant in
+      (among_after c.args.stream.now c.args.allocator.now c.loop-done.allocator c.wipe_row.new.allocator inv.tables (inv.among told) (c.wipe_row.ensures.among told)).header
+  );
+}
 
-pub returns-in_err-count-clause-sectors : goal.returns-in_err-count-clause-sectors
-returns-in_err-count-clause-sectors g c told =
-    let inv = c.loop-done.invariant in
-    (among_after c.args.stream.now c.args.allocator.now c.loop-done.allocator c.wipe_row.new.allocator inv.tables (inv.among told) (c.wipe_row.ensures.among told)).others
+pub returns-in_err-count-clause-among : goal.returns-in_err-count-clause-among
+returns-in_err-count-clause-among g c = record {
+  tables = first_of (search rules, grind (arith, common_steps));
+  kept = first_of (search rules, grind (arith, common_steps));
+  holds = first_of (search rules, grind (arith, common_steps));
+  spares = λ told. (
+      let inv = c.loop-done.invariant in
+      (among_after c.args.stream.now c.args.allocator.now c.loop-done.allocator c.wipe_row.new.allocator inv.tables (inv.among told) (c.wipe_row.ensures.among told)).spares
+  );
+  counts = first_of (search rules, grind (arith, common_steps));
+}
 
-pub returns-in_err-count-clause-header : goal.returns-in_err-count-clause-header
-returns-in_err-count-clause-header g c told =
-    let inv = c.loop-done.invariant in
-    (among_after c.args.stream.now c.args.allocator.now c.loop-done.allocator c.wipe_row.new.allocator inv.tables (inv.among told) (c.wipe_row.ensures.among told)).header
-
-pub returns-in_err-count-clause-spares : goal.returns-in_err-count-clause-spares
-returns-in_err-count-clause-spares g c told =
-    let inv = c.loop-done.invariant in
-    (among_after c.args.stream.now c.args.allocator.now c.loop-done.allocator c.wipe_row.new.allocator inv.tables (inv.among told) (c.wipe_row.ensures.among told)).spares
-
-pub returns-in_err-count-clause-none : goal.returns-in_err-count-clause-none
-returns-in_err-count-clause-none g c zero_long = let lt = c.loop-done-test.true in absurd (omega (arith, lt, zero_long))
+pub returns-in_err-count-clause-begins : goal.returns-in_err-count-clause-begins
+returns-in_err-count-clause-begins g c = record {
+  begun = first_of (search rules, grind (arith, common_steps));
+  none = λ zero_long. (let lt = c.loop-done-test.true in absurd (omega (arith, lt, zero_long)));
+  err = first_of (search rules, grind (arith, common_steps));
+}
 
 -- all of them are written
-pub returns-clause-zeros : goal.returns-clause-zeros
-returns-clause-zeros g c told m member =
-    let a = c.args.allocator.now in
-    let minis = c.args.minis.now in
-    let past = c.loop-done-test.false in
-    let k = member.0 in
-    let low = member.1 in
-    let same : get_or minis k 0 ≡ m = sym (get_or_default minis k m 0 low) ∙ member.2 in
-    subst (λ x. AreZeros c.loop-done.allocator.file.bytes (mini_start a.tables.version c.args.stream.now x)) same
-    (c.loop-done.invariant.zeros told k (omega (arith, low, past)))
 
-pub returns-clause-other_minis : goal.returns-clause-other_minis
-returns-clause-other_minis g c told once m listed out =
-    let a = c.args.allocator.now in
-    other_mini_stays a.tables.version c.args.stream.now c.args.minis.now a.file.bytes c.loop-done.allocator.file.bytes (length a.tables.fat) m c.requires.known
-    (c.loop-done.invariant.others told) once listed out
+pub returns-clause-wiped : goal.returns-clause-wiped
+returns-clause-wiped g c = record {
+  zeros = λ told m member. (
+      let a = c.args.allocator.now in
+      let minis = c.args.minis.now in
+      let past = c.loop-done-test.false in
+      let k = member.0 in
+      let low = member.1 in
+      let same : get_or minis k 0 ≡ m = sym (get_or_default minis k m 0 low) ∙ member.2 in
+      subst (λ x. AreZeros c.loop-done.allocator.file.bytes (mini_start a.tables.version c.args.stream.now x)) same
+      (c.loop-done.invariant.zeros told k (omega (arith, low, past)))
+  );
+  other_minis = λ told once m listed out. (
+      let a = c.args.allocator.now in
+      other_mini_stays a.tables.version c.args.stream.now c.args.minis.now a.file.bytes c.loop-done.allocator.file.bytes (length a.tables.fat) m c.requires.known
+      (c.loop-done.invariant.others told) once listed out
+  );
+  others = first_of (search rules, grind (arith, common_steps));
+  other_sectors = λ told. (c.loop-done.invariant.among told).others;
+  header = λ told. (c.loop-done.invariant.among told).header;
+}
 
-pub returns-clause-sectors : goal.returns-clause-sectors
-returns-clause-sectors g c told = (c.loop-done.invariant.among told).others
+pub returns-clause-among : goal.returns-clause-among
+returns-clause-among g c = record {
+  tables = first_of (search rules, grind (arith, common_steps));
+  kept = first_of (search rules, grind (arith, common_steps));
+  holds = first_of (search rules, grind (arith, common_steps));
+  spares = λ told. (c.loop-done.invariant.among told).spares;
+  counts = first_of (search rules, grind (arith, common_steps));
+}
 
-pub returns-clause-header : goal.returns-clause-header
-returns-clause-header g c told = (c.loop-done.invariant.among told).header
-
-pub returns-clause-spares : goal.returns-clause-spares
-returns-clause-spares g c told = (c.loop-done.invariant.among told).spares
-
-pub returns-clause-begun : goal.returns-clause-begun
-returns-clause-begun g c =
-    let inv = c.loop-done.invariant in
-    let past = c.loop-done-test.false in
-    (inv.begun.0, λ some. inv.begun.1 (omega (arith, some, past)))
-
-pub returns-clause-none : goal.returns-clause-none
-returns-clause-none g c zero_long =
-    let bound = c.loop-done.invariant.within in
-    (c.loop-done.invariant.none (omega (arith, zero_long, bound)), tt)
+pub returns-clause-begins : goal.returns-clause-begins
+returns-clause-begins g c = record {
+  begun = (
+      let inv = c.loop-done.invariant in
+      let past = c.loop-done-test.false in
+      (inv.begun.0, λ some. inv.begun.1 (omega (arith, some, past)))
+  );
+  none = λ zero_long. (
+      let bound = c.loop-done.invariant.within in
+      (c.loop-done.invariant.none (omega (arith, zero_long, bound)), tt)
+  );
+  err = first_of (search rules, grind (arith, common_steps));
+}

@@ -1,4 +1,5 @@
-use Rattle.std.proofs.Common.{◌+◌, [], ◌∷◌, ap, sym, length, subst, arith}
+use Rattle.std.proofs.lemmas.Grind.{common_steps}
+use Rattle.std.proofs.Common.{◌+◌, [], ◌∷◌, ap, sym, length, subst, arith, rules}
 use Rattle.std.specs.Prelude.{slice_index, Contains}
 use Rattle.std.proofs.lemmas.List.Elements.{Contains-get_or}
 use Rattle.cfb_format.specs.declared.version.Version.{Version}
@@ -11,15 +12,25 @@ use Rattle.cfb_mini_sectors.proofs.PiecePlaces.{outside_tables, piece_inside}
 use Rattle.cfb_mini_sectors.proofs.pieces.write_listed.Goals as goal
 use Rattle.cfb_format.proofs.Members.{Contains-one}
 
-pub returns-clause-err : goal.returns-clause-err
-returns-clause-err g c =
-    let placed = c.file_len-len.ensures.placed in
-    (c.write_contiguous.ensures.inside (piece_inside c.args.allocator.now.file c.args.allocator.now.tables _ _ _ placed c.requires.within c.requires.there)).0
-
-pub returns-clause-begun : goal.returns-clause-begun
-returns-clause-begun g c =
-    let placed = c.file_len-len.ensures.placed in
-    (c.write_contiguous.ensures.inside (piece_inside c.args.allocator.now.file c.args.allocator.now.tables _ _ _ placed c.requires.within c.requires.there)).1
+pub returns-clause-writes : goal.returns-clause-writes
+returns-clause-writes g c = record {
+  tables = first_of (search rules, grind (arith, common_steps));
+  kept = first_of (search rules, grind (arith, common_steps));
+  holds = λ told validation h free. (
+      let sectors = c.args.sectors.now in
+      c.write_contiguous.ensures.there.holds told validation h
+      (outside_tables c.args.allocator.now (slice_index sectors c.args.index) c.args.offset (length c.args.from.now) c.file_len-len.ensures.placed.same_version
+      c.requires.within (free _ (Contains-get_or sectors c.args.index 0 c.requires.listed)))
+  );
+  begun = (
+      let placed = c.file_len-len.ensures.placed in
+      (c.write_contiguous.ensures.inside (piece_inside c.args.allocator.now.file c.args.allocator.now.tables _ _ _ placed c.requires.within c.requires.there)).1
+  );
+  err = (
+      let placed = c.file_len-len.ensures.placed in
+      (c.write_contiguous.ensures.inside (piece_inside c.args.allocator.now.file c.args.allocator.now.tables _ _ _ placed c.requires.within c.requires.there)).0
+  );
+}
 
 pub returns-clause-among : goal.returns-clause-among
 returns-clause-among g c told =
@@ -30,7 +41,7 @@ returns-clause-among g c told =
     let within = c.requires.within in
     let listed = Contains-get_or sectors c.args.index 0 c.requires.listed in
     let same = c.file_len-len.ensures.placed.same_version in
-    let change = c.write_contiguous.ensures.others told in
+    let change = c.write_contiguous.ensures.put.others told in
     let others = subst (λ (v : Version). ChangesOnlyBytes (sector_start v sector + c.args.offset) (length c.args.from.now) a.file.bytes b.file.bytes) same change in
     record {
       others = λ i out. other_sector _ sector i c.args.offset _ _ _ _ (ap (λ v. sector_start v sector + c.args.offset) same) change within
@@ -40,10 +51,3 @@ returns-clause-among g c told =
           (in_sector_spares a b sector (sector_start a.tables.version sector + c.args.offset) (length c.args.from.now) c.write_contiguous.ensures.tables
           (omega arith, omega (arith, within)) others);
     }
-
-pub returns-clause-holds : goal.returns-clause-holds
-returns-clause-holds g c told validation h free =
-    let sectors = c.args.sectors.now in
-    c.write_contiguous.ensures.holds told validation h
-    (outside_tables c.args.allocator.now (slice_index sectors c.args.index) c.args.offset (length c.args.from.now) c.file_len-len.ensures.placed.same_version
-    c.requires.within (free _ (Contains-get_or sectors c.args.index 0 c.requires.listed)))

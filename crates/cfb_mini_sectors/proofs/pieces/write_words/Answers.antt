@@ -1,4 +1,5 @@
-use Rattle.std.proofs.Common.{◌≡◌, ◌<◌, ◌≤◌, ◌+◌, ◌-◌, ◌*◌, ◌%◌, ◌^◌, inl, inr, ℕ, List, refl, sym, ◌∙◌, ap, subst, arith, length, get_or, take, length-take, get_or-take}
+use Rattle.std.proofs.lemmas.Grind.{common_steps}
+use Rattle.std.proofs.Common.{◌≡◌, ◌<◌, ◌≤◌, ◌+◌, ◌-◌, ◌*◌, ◌%◌, ◌^◌, inl, inr, ℕ, List, refl, sym, ◌∙◌, ap, subst, arith, length, get_or, take, length-take, get_or-take, rules}
 use Rattle.std.proofs.lemmas.Bool.{cases_lt}
 use Rattle.std.proofs.lemmas.List.{get_or_default}
 use Rattle.std.proofs.lemmas.List.Elements.{Contains-get_or}
@@ -72,15 +73,15 @@ loop-done-preserved g c =
     let first = c.requires.known run.first (s.all run.first (omega arith) (omega (arith, s.some))) in
     record {
       within = omega (arith, s.listed);
-      tables = e.tables ∙ inv.tables;
-      kept = kept_after n.file b.file a.file e.kept inv.kept;
+      tables = e.writes.tables ∙ inv.tables;
+      kept = kept_after n.file b.file a.file e.writes.kept inv.kept;
       words = λ told once k low.
           let change : ChangesOnlyBytes (word_home a.tables.version sectors run.first) (4 * run.count) b.file.bytes n.file.bytes =
           subst (λ l. ChangesOnlyBytes (word_home a.tables.version sectors run.first) (4 * l) b.file.bytes n.file.bytes) long
-          (subst (λ (u : Version). ChangesOnlyBytes (word_home u sectors run.first) (4 * length ws) b.file.bytes n.file.bytes) v (e.others told)) in
+          (subst (λ (u : Version). ChangesOnlyBytes (word_home u sectors run.first) (4 * length ws) b.file.bytes n.file.bytes) v (e.words.others told)) in
           let fresh = λ (m : ℕ) (least : run.first ≤ m) (most : m < run.first + run.count).
           run_written a.tables.version b.file.bytes n.file.bytes sectors table run.first ws (omega (arith, together, long))
-          (e.ok told ∙ ap (λ (u : Version). written b.file.bytes (word_home u sectors run.first) (word_bytes ws)) v)
+          (e.words.done told ∙ ap (λ (u : Version). written b.file.bytes (word_home u sectors run.first) (word_bytes ws)) v)
           (λ j lt. get_or-take run.count c.values_from-values.result j 0 (omega (arith, lt, long)) ∙ c.values_from-values.ensures.values j (omega (arith, lt, long)))
           (λ j lt. subst (λ x. x < 2 ^ 32) (sym (get_or-take run.count c.values_from-values.result j 0 (omega (arith, lt, long)))) (c.values_from-values.ensures.fit j (omega (arith, lt, long))))
           m least (omega (arith, most, long)) in
@@ -104,109 +105,131 @@ loop-done-preserved g c =
           ];
       others = λ told. words_after a.tables.version sectors numbers run.first run.count together s.all (inv.others told)
           (subst (λ l. ChangesOnlyBytes (word_home a.tables.version sectors run.first) (4 * l) b.file.bytes n.file.bytes) long
-          (subst (λ (u : Version). ChangesOnlyBytes (word_home u sectors run.first) (4 * length ws) b.file.bytes n.file.bytes) v (e.others told)));
-      among = λ told. among_after sectors a b n inv.tables (inv.among told) (e.among told);
-      holds = λ told validation h other. e.holds told validation (inv.holds told validation h other)
+          (subst (λ (u : Version). ChangesOnlyBytes (word_home u sectors run.first) (4 * length ws) b.file.bytes n.file.bytes) v (e.words.others told)));
+      among = λ told. among_after sectors a b n inv.tables (inv.among told) (e.words.among told);
+      holds = λ told validation h other. e.writes.holds told validation (inv.holds told validation h other)
           (λ j x. subst (λ (t : TableState). IsNoTableSector t j) (sym inv.tables) (other j x));
-      begun = (λ was. e.begun, λ some. e.begun);
+      begun = (λ was. e.writes.begun, λ some. e.writes.begun);
       none = λ zero_long. absurd (omega (arith, zero_long, s.some));
-      counts = λ told. e.counts told ∙ inv.counts told;
+      counts = λ told. e.words.counts told ∙ inv.counts told;
     }
 
 -- the write that failed
-pub returns-in_err-write_run-clause-others : goal.returns-in_err-write_run-clause-others
-returns-in_err-write_run-clause-others g c told =
-    let a = c.args.allocator.now in
-    let b = c.loop-done.allocator in
-    let n = c.write_run.new.allocator in
-    let sectors = c.args.sectors.now in
-    let run = c.stretch_at-run.result in
-    let s = c.stretch_at-run.ensures in
-    let inv = c.loop-done.invariant in
-    let ws : List ℕ = take run.count c.values_from-values.result in
-    let v : b.tables.version ≡ a.tables.version = ap (λ (t : TableState). t.version) inv.tables in
-    let few : run.count ≤ 1024 = omega (arith, s.together, words_most c.version-version.result) in
-    let long : length ws ≡ run.count = omega (arith, length-take run.count c.values_from-values.result, few) in
-    let together : run.first % words_per_sector a.tables.version + run.count ≤ words_per_sector a.tables.version =
-    subst (λ (u : Version). run.first % words_per_sector u + run.count ≤ words_per_sector u) c.version-version.ensures s.together in
-    let change : ChangesOnlyBytes (word_home a.tables.version sectors run.first) (4 * run.count) b.file.bytes n.file.bytes =
-    subst (λ l. ChangesOnlyBytes (word_home a.tables.version sectors run.first) (4 * l) b.file.bytes n.file.bytes) long
-    (subst (λ (u : Version). ChangesOnlyBytes (word_home u sectors run.first) (4 * length ws) b.file.bytes n.file.bytes) v (c.write_run.ensures.others told)) in
-    words_after a.tables.version sectors c.args.numbers.now run.first run.count together s.all (inv.others told) change
 
-pub returns-in_err-write_run-clause-other_words : goal.returns-in_err-write_run-clause-other_words
-returns-in_err-write_run-clause-other_words g c told once m listed out there =
-    let a = c.args.allocator.now in
-    let b = c.loop-done.allocator in
-    let n = c.write_run.new.allocator in
-    let sectors = c.args.sectors.now in
-    let run = c.stretch_at-run.result in
-    let s = c.stretch_at-run.ensures in
-    let inv = c.loop-done.invariant in
-    let ws : List ℕ = take run.count c.values_from-values.result in
-    let v : b.tables.version ≡ a.tables.version = ap (λ (t : TableState). t.version) inv.tables in
-    let few : run.count ≤ 1024 = omega (arith, s.together, words_most c.version-version.result) in
-    let long : length ws ≡ run.count = omega (arith, length-take run.count c.values_from-values.result, few) in
-    let together : run.first % words_per_sector a.tables.version + run.count ≤ words_per_sector a.tables.version =
-    subst (λ (u : Version). run.first % words_per_sector u + run.count ≤ words_per_sector u) c.version-version.ensures s.together in
-    let change : ChangesOnlyBytes (word_home a.tables.version sectors run.first) (4 * run.count) b.file.bytes n.file.bytes =
-    subst (λ l. ChangesOnlyBytes (word_home a.tables.version sectors run.first) (4 * l) b.file.bytes n.file.bytes) long
-    (subst (λ (u : Version). ChangesOnlyBytes (word_home u sectors run.first) (4 * length ws) b.file.bytes n.file.bytes) v (c.write_run.ensures.others told)) in
-    other_word_stays a.tables.version sectors c.args.numbers.now a.file.bytes n.file.bytes (length a.tables.fat) m c.requires.known
-    (words_after a.tables.version sectors c.args.numbers.now run.first run.count together s.all (inv.others told) change) once listed out there
+pub returns-in_err-write_run-clause-words : goal.returns-in_err-write_run-clause-words
+returns-in_err-write_run-clause-words g c = record {
+  done = first_of (search rules, grind (arith, common_steps));
+  other_words = λ told once m listed out there. (
+      let a = c.args.allocator.now in
+      let b = c.loop-done.allocator in
+      let n = c.write_run.new.allocator in
+      let sectors = c.args.sectors.now in
+      let run = c.stretch_at-run.result in
+      let s = c.stretch_at-run.ensures in
+      let inv = c.loop-done.invariant in
+      let ws : List ℕ = take run.count c.values_from-values.result in
+      let v : b.tables.version ≡ a.tables.version = ap (λ (t : TableState). t.version) inv.tables in
+      let few : run.count ≤ 1024 = omega (arith, s.together, words_most c.version-version.result) in
+      let long : length ws ≡ run.count = omega (arith, length-take run.count c.values_from-values.result, few) in
+      let together : run.first % words_per_sector a.tables.version + run.count ≤ words_per_sector a.tables.version =
+      subst (λ (u : Version). run.first % words_per_sector u + run.count ≤ words_per_sector u) c.version-version.ensures s.together in
+      let change : ChangesOnlyBytes (word_home a.tables.version sectors run.first) (4 * run.count) b.file.bytes n.file.bytes =
+      subst (λ l. ChangesOnlyBytes (word_home a.tables.version sectors run.first) (4 * l) b.file.bytes n.file.bytes) long
+      (subst (λ (u : Version). ChangesOnlyBytes (word_home u sectors run.first) (4 * length ws) b.file.bytes n.file.bytes) v (c.write_run.ensures.words.others told)) in
+      other_word_stays a.tables.version sectors c.args.numbers.now a.file.bytes n.file.bytes (length a.tables.fat) m c.requires.known
+      (words_after a.tables.version sectors c.args.numbers.now run.first run.count together s.all (inv.others told) change) once listed out there
+  );
+  others = λ told. (
+      let a = c.args.allocator.now in
+      let b = c.loop-done.allocator in
+      let n = c.write_run.new.allocator in
+      let sectors = c.args.sectors.now in
+      let run = c.stretch_at-run.result in
+      let s = c.stretch_at-run.ensures in
+      let inv = c.loop-done.invariant in
+      let ws : List ℕ = take run.count c.values_from-values.result in
+      let v : b.tables.version ≡ a.tables.version = ap (λ (t : TableState). t.version) inv.tables in
+      let few : run.count ≤ 1024 = omega (arith, s.together, words_most c.version-version.result) in
+      let long : length ws ≡ run.count = omega (arith, length-take run.count c.values_from-values.result, few) in
+      let together : run.first % words_per_sector a.tables.version + run.count ≤ words_per_sector a.tables.version =
+      subst (λ (u : Version). run.first % words_per_sector u + run.count ≤ words_per_sector u) c.version-version.ensures s.together in
+      let change : ChangesOnlyBytes (word_home a.tables.version sectors run.first) (4 * run.count) b.file.bytes n.file.bytes =
+      subst (λ l. ChangesOnlyBytes (word_home a.tables.version sectors run.first) (4 * l) b.file.bytes n.file.bytes) long
+      (subst (λ (u : Version). ChangesOnlyBytes (word_home u sectors run.first) (4 * length ws) b.file.bytes n.file.bytes) v (c.write_run.ensures.words.others told)) in
+      words_after a.tables.version sectors c.args.numbers.now run.first run.count together s.all (inv.others told) change
+  );
+  other_sectors = λ told. (
+      let inv = c.loop-done.invariant in
+      (among_after c.args.sectors.now c.args.allocator.now c.loop-done.allocator c.write_run.new.allocator inv.tables (inv.among told) (c.write_run.ensures.words.among told)).others
+  );
+  header = λ told. (
+      let inv = c.loop-done.invariant in
+      (among_after c.args.sectors.now c.args.allocator.now c.loop-done.allocator c.write_run.new.allocator inv.tables (inv.among told) (c.write_run.ensures.words.among told)).header
+  );
+}
 
-pub returns-in_err-write_run-clause-sectors : goal.returns-in_err-write_run-clause-sectors
-returns-in_err-write_run-clause-sectors g c told =
-    let inv = c.loop-done.invariant in
-    (among_after c.args.sectors.now c.args.allocator.now c.loop-done.allocator c.write_run.new.allocator inv.tables (inv.among told) (c.write_run.ensures.among told)).others
+pub returns-in_err-write_run-clause-among : goal.returns-in_err-write_run-clause-among
+returns-in_err-write_run-clause-among g c = record {
+  tables = first_of (search rules, grind (arith, common_steps));
+  kept = first_of (search rules, grind (arith, common_steps));
+  holds = first_of (search rules, grind (arith, common_steps));
+  spares = λ told. (
+      let inv = c.loop-done.invariant in
+      (among_after c.args.sectors.now c.args.allocator.now c.loop-done.allocator c.write_run.new.allocator inv.tables (inv.among told) (c.write_run.ensures.words.among told)).spares
+  );
+  counts = first_of (search rules, grind (arith, common_steps));
+}
 
-pub returns-in_err-write_run-clause-header : goal.returns-in_err-write_run-clause-header
-returns-in_err-write_run-clause-header g c told =
-    let inv = c.loop-done.invariant in
-    (among_after c.args.sectors.now c.args.allocator.now c.loop-done.allocator c.write_run.new.allocator inv.tables (inv.among told) (c.write_run.ensures.among told)).header
-
-pub returns-in_err-write_run-clause-spares : goal.returns-in_err-write_run-clause-spares
-returns-in_err-write_run-clause-spares g c told =
-    let inv = c.loop-done.invariant in
-    (among_after c.args.sectors.now c.args.allocator.now c.loop-done.allocator c.write_run.new.allocator inv.tables (inv.among told) (c.write_run.ensures.among told)).spares
-
-pub returns-in_err-write_run-clause-none : goal.returns-in_err-write_run-clause-none
-returns-in_err-write_run-clause-none g c zero_long = let lt = c.loop-done-test.true in absurd (omega (arith, lt, zero_long))
+pub returns-in_err-write_run-clause-begins : goal.returns-in_err-write_run-clause-begins
+returns-in_err-write_run-clause-begins g c = record {
+  begun = first_of (search rules, grind (arith, common_steps));
+  none = λ zero_long. (let lt = c.loop-done-test.true in absurd (omega (arith, lt, zero_long)));
+  err = first_of (search rules, grind (arith, common_steps));
+}
 
 -- all of them are written
+
 pub returns-clause-words : goal.returns-clause-words
-returns-clause-words g c told once m member =
-    let a = c.args.allocator.now in
-    let numbers = c.args.numbers.now in
-    let past = c.loop-done-test.false in
-    let k = member.0 in
-    let low = member.1 in
-    let same : get_or numbers k 0 ≡ m = sym (get_or_default numbers k m 0 low) ∙ member.2 in
-    subst (λ x. word_of a.tables.version c.loop-done.allocator.file.bytes c.args.sectors.now x ≡ value c.args.table.now x) same
-    (c.loop-done.invariant.words told once k (omega (arith, low, past))).word
+returns-clause-words g c = record {
+  done = λ told once m member. (
+      let a = c.args.allocator.now in
+      let numbers = c.args.numbers.now in
+      let past = c.loop-done-test.false in
+      let k = member.0 in
+      let low = member.1 in
+      let same : get_or numbers k 0 ≡ m = sym (get_or_default numbers k m 0 low) ∙ member.2 in
+      subst (λ x. word_of a.tables.version c.loop-done.allocator.file.bytes c.args.sectors.now x ≡ value c.args.table.now x) same
+      (c.loop-done.invariant.words told once k (omega (arith, low, past))).word
+  );
+  other_words = λ told once m listed out there. (
+      let a = c.args.allocator.now in
+      other_word_stays a.tables.version c.args.sectors.now c.args.numbers.now a.file.bytes c.loop-done.allocator.file.bytes (length a.tables.fat) m c.requires.known
+      (c.loop-done.invariant.others told) once listed out there
+  );
+  others = first_of (search rules, grind (arith, common_steps));
+  other_sectors = λ told. (c.loop-done.invariant.among told).others;
+  header = λ told. (c.loop-done.invariant.among told).header;
+}
 
-pub returns-clause-other_words : goal.returns-clause-other_words
-returns-clause-other_words g c told once m listed out there =
-    let a = c.args.allocator.now in
-    other_word_stays a.tables.version c.args.sectors.now c.args.numbers.now a.file.bytes c.loop-done.allocator.file.bytes (length a.tables.fat) m c.requires.known
-    (c.loop-done.invariant.others told) once listed out there
+pub returns-clause-among : goal.returns-clause-among
+returns-clause-among g c = record {
+  tables = first_of (search rules, grind (arith, common_steps));
+  kept = first_of (search rules, grind (arith, common_steps));
+  holds = first_of (search rules, grind (arith, common_steps));
+  spares = λ told. (c.loop-done.invariant.among told).spares;
+  counts = first_of (search rules, grind (arith, common_steps));
+}
 
-pub returns-clause-sectors : goal.returns-clause-sectors
-returns-clause-sectors g c told = (c.loop-done.invariant.among told).others
-
-pub returns-clause-header : goal.returns-clause-header
-returns-clause-header g c told = (c.loop-done.invariant.among told).header
-
-pub returns-clause-spares : goal.returns-clause-spares
-returns-clause-spares g c told = (c.loop-done.invariant.among told).spares
-
-pub returns-clause-begun : goal.returns-clause-begun
-returns-clause-begun g c =
-    let inv = c.loop-done.invariant in
-    let past = c.loop-done-test.false in
-    (inv.begun.0, λ some. inv.begun.1 (omega (arith, some, past)))
-
-pub returns-clause-none : goal.returns-clause-none
-returns-clause-none g c zero_long =
-    let within = c.loop-done.invariant.within in
-    (c.loop-done.invariant.none (omega (arith, zero_long, within)), tt)
+pub returns-clause-begins : goal.returns-clause-begins
+returns-clause-begins g c = record {
+  begun = (
+      let inv = c.loop-done.invariant in
+      let past = c.loop-done-test.false in
+      (inv.begun.0, λ some. inv.begun.1 (omega (arith, some, past)))
+  );
+  none = λ zero_long. (
+      let within = c.loop-done.invariant.within in
+      (c.loop-done.invariant.none (omega (arith, zero_long, within)), tt)
+  );
+  err = first_of (search rules, grind (arith, common_steps));
+}

@@ -6,8 +6,8 @@ use Rattle.cfb_mini_table.proofs.words.take_all.Goals as goal
 pub loop-turn-init : goal.loop-turn-init
 loop-turn-init g c = record {
   taken = ([], sym (append-nil c.args.list.now.items), refl, taking-none c.args.limit c.args.minifat.now.items);
-  listed = c.requires.listed;
-  next = c.requires.next;
+  listed = c.requires.free.listed;
+  next = c.requires.free.next;
   fewer = λ i m. m;
   len = omega arith;
   held = refl;
@@ -25,7 +25,7 @@ loop-turn-preserved g c =
     let left = t.3.left in
     let len = t.3.len in
     let room : free_count l.minifat.items ≡ 0 → length l.minifat.items < c.args.limit = λ zero.
-    omega (arith, zero, left, len, t.2, c.loop-turn-test.true, c.requires.enough, c.args.minifat.now.ok.0) in
+    omega (arith, zero, left, len, t.2, c.loop-turn-test.true, c.requires.free.enough, c.args.minifat.now.ok.0) in
     let count : length (more ++ x ∷ []) ≡ l.turn + 1 = length-append more (x ∷ []) ∙ ap (λ n. n + 1) t.2 in
     record {
       taken = (
@@ -34,11 +34,11 @@ loop-turn-preserved g c =
         count,
         taking-more c.args.limit c.args.minifat.now.items l.minifat.items one.new.minifat.items more x t.3 one.ensures.taken room,
       );
-      listed = one.ensures.listed;
+      listed = one.ensures.free.listed;
       next = inl one.ensures.taken.trimmed;
-      fewer = λ i m. l.invariant.fewer i (one.ensures.fewer i m);
+      fewer = λ i m. l.invariant.fewer i (one.ensures.free.fewer i m);
       len = omega (arith, c.push_reserved.ensures.len, l.invariant.len);
-      held = one.ensures.capacity ∙ l.invariant.held;
-      free_held = one.ensures.free_capacity ∙ l.invariant.free_held;
+      held = one.ensures.free.capacity ∙ l.invariant.held;
+      free_held = one.ensures.free.free_capacity ∙ l.invariant.free_held;
       room = c.push_reserved.ensures.capacity ∙ l.invariant.room;
     }

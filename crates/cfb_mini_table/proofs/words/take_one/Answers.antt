@@ -1,4 +1,5 @@
-use Rattle.std.proofs.Common.{◌≡◌, ◌<◌, ℕ, inl, List, [], ◌∷◌, ◌++◌, length, set, sym, ◌∙◌, ap, subst, arith, append-nil}
+use Rattle.std.proofs.lemmas.Grind.{common_steps}
+use Rattle.std.proofs.Common.{◌≡◌, ◌<◌, ℕ, inl, List, [], ◌∷◌, ◌++◌, length, set, sym, ◌∙◌, ap, subst, arith, append-nil, rules}
 use Rattle.std.proofs.lemmas.List.{nil_from_length}
 use Rattle.std.specs.Prelude.{Contains}
 use Rattle.std.proofs.lemmas.List.Elements.{Contains-append_left, Contains-push}
@@ -24,19 +25,18 @@ returns-then-number-len-clause-taken g c =
     let one = one-set l.minifat.items x lt (inv.sound x (Contains-push c.pop.new.self.items x)) busy in
     subst (λ z. TakesOne z (set l.minifat.items x end_of_chain) x) l.invariant.same one
 
-pub returns-then-number-len-clause-listed : goal.returns-then-number-len-clause-listed
-returns-then-number-len-clause-listed g c =
-    let l = c.loop-number in
-    let x = c.in-Some.number in
-    let lt : x < length l.minifat.items = omega (arith, l.minifat.ok.0, c.if-number-len.true) in
-    mini-pop c.pop.new.self.items l.minifat.items x end_of_chain lt (λ e. omega (arith, e)) (rw c.in-Some.ensures.items at l.invariant.listed)
-
-pub returns-then-number-len-clause-fewer : goal.returns-then-number-len-clause-fewer
-returns-then-number-len-clause-fewer g c i m =
-    c.loop-number.invariant.fewer i (rw c.in-Some.ensures.items (Contains-append_left c.pop.new.self.items (c.in-Some.number ∷ []) i m))
-
-pub returns-then-number-len-clause-capacity : goal.returns-then-number-len-clause-capacity
-returns-then-number-len-clause-capacity g c = c.loop-number.invariant.held
+pub returns-then-number-len-clause-free : goal.returns-then-number-len-clause-free
+returns-then-number-len-clause-free g c = record {
+  listed = (
+      let l = c.loop-number in
+      let x = c.in-Some.number in
+      let lt : x < length l.minifat.items = omega (arith, l.minifat.ok.0, c.if-number-len.true) in
+      mini-pop c.pop.new.self.items l.minifat.items x end_of_chain lt (λ e. omega (arith, e)) (rw c.in-Some.ensures.items at l.invariant.listed)
+  );
+  fewer = λ i m. c.loop-number.invariant.fewer i (rw c.in-Some.ensures.items (Contains-append_left c.pop.new.self.items (c.in-Some.number ∷ []) i m));
+  capacity = c.loop-number.invariant.held;
+  free_capacity = first_of (search rules, grind (arith, common_steps));
+}
 
 pub loop-number-preserved : goal.loop-number-preserved
 loop-number-preserved g c =
@@ -52,6 +52,7 @@ loop-number-preserved g c =
     }
 
 -- where the list is empty none is free
+
 pub overflow_cast-number-2 : goal.overflow_cast-number-2
 overflow_cast-number-2 g c =
     let l = c.loop-number in
@@ -78,20 +79,21 @@ returns-clause-taken g c =
     subst (TakesOne l.minifat.items (l.minifat.items ++ end_of_chain ∷ [])) number (one-push l.minifat.items none) in
     rw c.push_reserved.ensures.items (subst (λ z. TakesOne z (l.minifat.items ++ end_of_chain ∷ []) c.len-number.result) l.invariant.same one)
 
-pub returns-clause-listed : goal.returns-clause-listed
-returns-clause-listed g c =
-    let l = c.loop-number in
-    let rest : l.free.items ≡ [] = nil_from_length l.free.items (omega (arith, c.in_default.ensures.cases, l.free.ok.0)) in
-    let left : c.pop.new.self.items ≡ [] = nil_from_length c.pop.new.self.items (ap (λ (z : List ℕ). length z) (sym (append-nil c.pop.new.self.items)) ∙ ap (λ (z : List ℕ). length z) (sym c.in_default.ensures.items ∙ rest)) in
-    rw (c.push_reserved.ensures.items, left)
-    (mini-grow l.minifat.items end_of_chain (λ e. omega (arith, e)) (subst (λ z. ListsMiniFree z l.minifat.items) rest l.invariant.listed))
-
-pub returns-clause-fewer : goal.returns-clause-fewer
-returns-clause-fewer g c i m =
-    let l = c.loop-number in
-    let rest : l.free.items ≡ [] = nil_from_length l.free.items (omega (arith, c.in_default.ensures.cases, l.free.ok.0)) in
-    let left : c.pop.new.self.items ≡ [] = nil_from_length c.pop.new.self.items (ap (λ (z : List ℕ). length z) (sym (append-nil c.pop.new.self.items)) ∙ ap (λ (z : List ℕ). length z) (sym c.in_default.ensures.items ∙ rest)) in
-    absurd (Contains-nil i (subst (λ (z : List ℕ). Contains z i) left m))
-
-pub returns-clause-capacity : goal.returns-clause-capacity
-returns-clause-capacity g c = c.push_reserved.ensures.capacity ∙ c.loop-number.invariant.held
+pub returns-clause-free : goal.returns-clause-free
+returns-clause-free g c = record {
+  listed = (
+      let l = c.loop-number in
+      let rest : l.free.items ≡ [] = nil_from_length l.free.items (omega (arith, c.in_default.ensures.cases, l.free.ok.0)) in
+      let left : c.pop.new.self.items ≡ [] = nil_from_length c.pop.new.self.items (ap (λ (z : List ℕ). length z) (sym (append-nil c.pop.new.self.items)) ∙ ap (λ (z : List ℕ). length z) (sym c.in_default.ensures.items ∙ rest)) in
+      rw (c.push_reserved.ensures.items, left)
+      (mini-grow l.minifat.items end_of_chain (λ e. omega (arith, e)) (subst (λ z. ListsMiniFree z l.minifat.items) rest l.invariant.listed))
+  );
+  fewer = λ i m. (
+      let l = c.loop-number in
+      let rest : l.free.items ≡ [] = nil_from_length l.free.items (omega (arith, c.in_default.ensures.cases, l.free.ok.0)) in
+      let left : c.pop.new.self.items ≡ [] = nil_from_length c.pop.new.self.items (ap (λ (z : List ℕ). length z) (sym (append-nil c.pop.new.self.items)) ∙ ap (λ (z : List ℕ). length z) (sym c.in_default.ensures.items ∙ rest)) in
+      absurd (Contains-nil i (subst (λ (z : List ℕ). Contains z i) left m))
+  );
+  capacity = c.push_reserved.ensures.capacity ∙ c.loop-number.invariant.held;
+  free_capacity = first_of (search rules, grind (arith, common_steps));
+}

@@ -27,7 +27,7 @@ returns-in_err-entries-clause-err g c =
     λ told refused. directory-refused v bytes failures h a tables.points_into_file (c.in_ok-header.ensures.ok told) (refused told) in
     let p = err_from_is_err_and c.from_residual-in_err-entries.result c.from_residual-in_err-entries.ensures.1 in
     rw (p.1, p.2) (change-refused g.F.ReadMedium.tells g.F.ReadMedium.read_faults _ _ none a.file.failures c.read_entries.new.allocator.file.failures
-    c.in_err-entries.field-0.0 c.in_err-entries.ensures.err c.in_err-entries.ensures.counts)
+    c.in_err-entries.field-0.0 c.in_err-entries.ensures.err c.in_err-entries.ensures.reads.counts)
 
 pub returns-in_err-minifat_words-clause-err : goal.returns-in_err-minifat_words-clause-err
 returns-in_err-minifat_words-clause-err g c =
@@ -41,10 +41,10 @@ returns-in_err-minifat_words-clause-err g c =
     let none : IsTrue g.F.ReadMedium.tells → (IsTrue g.F.ReadMedium.tells → IsMeasured b.file → NoMinifatWords b.tables.version b.file.bytes b.tables.fat h.first_minifat_sector) → _ =
     λ told refused.
     words-refused v bytes failures h a tables.points_into_file (c.in_ok-header.ensures.ok told)
-    (subst (λ (s : AllocatorState). IsMeasured s.file → NoMinifatWords s.tables.version s.file.bytes s.tables.fat h.first_minifat_sector) (c.in_ok-entries.ensures.same told) (refused told)) in
+    (subst (λ (s : AllocatorState). IsMeasured s.file → NoMinifatWords s.tables.version s.file.bytes s.tables.fat h.first_minifat_sector) (c.in_ok-entries.ensures.reads.same told) (refused told)) in
     let p = err_from_is_err_and c.from_residual-in_err-minifat_words.result c.from_residual-in_err-minifat_words.ensures.1 in
     rw (p.1, p.2) (change-refused g.F.ReadMedium.tells g.F.ReadMedium.read_faults _ _ none b.file.failures c.read_minifat_words.new.allocator.file.failures
-    c.in_err-minifat_words.field-0.0 c.in_err-minifat_words.ensures.err c.in_err-minifat_words.ensures.counts)
+    c.in_err-minifat_words.field-0.0 c.in_err-minifat_words.ensures.err c.in_err-minifat_words.ensures.reads.counts)
 
 pub returns-clause-ok : goal.returns-clause-ok
 returns-clause-ok g c told =
@@ -60,7 +60,7 @@ returns-clause-ok g c told =
     let read = c.in_ok-entries.entries in
     let entries = entries_of read.items in
     let words = c.in_ok-minifat_words.minifat_words in
-    let same : b ≡ a = c.in_ok-entries.ensures.same told in
+    let same : b ≡ a = c.in_ok-entries.ensures.reads.same told in
     let fits = c.in_ok-entries.ensures in
     let filled = c.in_ok-minifat_words.ensures.filled in
     let known : KnowsParts v bytes failures h a points entries words.items = record {
@@ -74,8 +74,8 @@ returns-clause-ok g c told =
           filled.0 (subst (λ (s : AllocatorState). IsChain s.tables.fat h.first_minifat_sector filled.0) same filled.1)
           (subst (λ (s : AllocatorState). length words.items ≡ length filled.0 * words_per_sector s.tables.version) same (sym words.ok.0 ∙ filled.2));
     } in
-    subst (λ (s : AllocatorState). KnowsParts v bytes failures h s points entries words.items) (sym (c.in_ok-minifat_words.ensures.same told ∙ same)) known
+    subst (λ (s : AllocatorState). KnowsParts v bytes failures h s points entries words.items) (sym (c.in_ok-minifat_words.ensures.reads.same told ∙ same)) known
 
 pub returns-clause-unfailed : goal.returns-clause-unfailed
 returns-clause-unfailed g c =
-    ap (λ (f : SectorFile). f.begun) c.in_ok-minifat_words.ensures.kept ∙ ap (λ (f : SectorFile). f.begun) c.in_ok-entries.ensures.kept ∙ c.in_ok-header.ensures.unfailed
+    ap (λ (f : SectorFile). f.begun) c.in_ok-minifat_words.ensures.reads.kept ∙ ap (λ (f : SectorFile). f.begun) c.in_ok-entries.ensures.reads.kept ∙ c.in_ok-header.ensures.unfailed

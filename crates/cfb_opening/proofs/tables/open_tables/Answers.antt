@@ -34,7 +34,7 @@ returns-in_err-words-clause-err g c =
     λ told refused.
     let accepted = head.ensures.ok told in
     let difat = difat-accepted v bytes failures h accepted head.field-0.sectors (head.ensures.sectors told) lists.fat_sectors.items lists.difat_sectors.items (c.in_ok-fat_sectors.ensures.ok told) in
-    words-refused v bytes failures h accepted file (c.in_ok-fat_sectors.ensures.same told ∙ head.ensures.sectors told) lists.fat_sectors.items lists.difat_sectors.items difat
+    words-refused v bytes failures h accepted file (c.in_ok-fat_sectors.ensures.reads.same told ∙ head.ensures.sectors told) lists.fat_sectors.items lists.difat_sectors.items difat
     (subst (λ (xs : List ℕ). IsMeasured file → AcceptsNoFatWords v file.num_sectors file.version file.bytes xs) c.deref.ensures.value refused) in
     let p = err_from_is_err_and c.from_residual-in_err-words.result c.from_residual-in_err-words.ensures.1 in
     rw (p.1, p.2) (refused-weaker g.F.ReadMedium.tells g.F.ReadMedium.read_faults _ _ none c.in_err-words.field-0.0 c.in_err-words.ensures.err)
@@ -56,12 +56,12 @@ returns-in_err-allocator-clause-err g c =
     λ told refused.
     let accepted = head.ensures.ok told in
     let difat = difat-accepted v bytes failures h accepted head.field-0.sectors (head.ensures.sectors told) list own (c.in_ok-fat_sectors.ensures.ok told) in
-    let same : before ≡ unchanged_sectors h.version bytes failures = c.in_ok-fat_sectors.ensures.same told ∙ head.ensures.sectors told in
+    let same : before ≡ unchanged_sectors h.version bytes failures = c.in_ok-fat_sectors.ensures.reads.same told ∙ head.ensures.sectors told in
     let kept = words-accepted v bytes failures h accepted before same list own difat words
     (subst (λ (xs : List ℕ). IsMeasured before → AcceptsFatWords v before.num_sectors before.version before.bytes xs words) c.deref.ensures.value (c.in_ok-words.ensures.ok told)) in
-    let now : file ≡ before = c.in_ok-words.ensures.same told in
+    let now : file ≡ before = c.in_ok-words.ensures.reads.same told in
     let listed : AreListed file.version file.num_sectors list own =
-    subst (λ (f : SectorFile). AreListed f.version f.num_sectors list own) (sym (now ∙ c.in_ok-fat_sectors.ensures.same told)) c.in_ok-fat_sectors.ensures.listed in
+    subst (λ (f : SectorFile). AreListed f.version f.num_sectors list own) (sym (now ∙ c.in_ok-fat_sectors.ensures.reads.same told)) c.in_ok-fat_sectors.ensures.listed in
     fat-refused v bytes failures h accepted file (now ∙ same) list own difat words kept listed refused in
     let p = err_from_is_err_and c.from_residual-in_err-allocator.result c.from_residual-in_err-allocator.ensures.1 in
     rw (p.1, p.2) (table-refused g.F.ReadMedium.tells g.F.ReadMedium.read_faults _ _ none c.in_err-allocator.field-0.0 c.in_err-allocator.ensures.err)
@@ -82,10 +82,10 @@ returns-clause-ok g c told =
     let file = c.read_fat_words.new.sectors in
     let accepted = head.ensures.ok told in
     let difat = difat-accepted v bytes failures h accepted head.field-0.sectors (head.ensures.sectors told) list own (c.in_ok-fat_sectors.ensures.ok told) in
-    let same : before ≡ unchanged_sectors h.version bytes failures = c.in_ok-fat_sectors.ensures.same told ∙ head.ensures.sectors told in
+    let same : before ≡ unchanged_sectors h.version bytes failures = c.in_ok-fat_sectors.ensures.reads.same told ∙ head.ensures.sectors told in
     let kept = words-accepted v bytes failures h accepted before same list own difat words
     (subst (λ (xs : List ℕ). IsMeasured before → AcceptsFatWords v before.num_sectors before.version before.bytes xs words) c.deref.ensures.value (c.in_ok-words.ensures.ok told)) in
-    let now : file ≡ before = c.in_ok-words.ensures.same told in
+    let now : file ≡ before = c.in_ok-words.ensures.reads.same told in
     let into : IsTrue points ↔ PointsInto file.num_sectors words list own =
     subst (λ (f : SectorFile). IsTrue points ↔ PointsInto f.num_sectors words list own) (sym now)
     (subst (λ (xs : List ℕ). IsTrue points ↔ PointsInto before.num_sectors words xs own) c.deref.ensures.value
@@ -95,5 +95,5 @@ returns-clause-ok g c told =
 
 pub returns-clause-unfailed : goal.returns-clause-unfailed
 returns-clause-unfailed g c =
-    ap (λ (f : SectorFile). f.begun) c.in_ok-allocator.ensures.file ∙ ap (λ (f : SectorFile). f.begun) c.in_ok-words.ensures.kept ∙ ap (λ (f : SectorFile). f.begun) c.in_ok-fat_sectors.ensures.kept
+    ap (λ (f : SectorFile). f.begun) c.in_ok-allocator.ensures.file ∙ ap (λ (f : SectorFile). f.begun) c.in_ok-words.ensures.reads.kept ∙ ap (λ (f : SectorFile). f.begun) c.in_ok-fat_sectors.ensures.reads.kept
     ∙ c.in_ok-header.ensures.unfailed

@@ -32,20 +32,20 @@ loop-buffer-init g c =
 
 -- the sectors are as they were but for the medium's bytes and failures
 there-still : (g : given.Over) (c : goal.In_ok-advance g) → has_sector c.args.sectors.now c.loop-buffer.trail.next ≡ true
-there-still g c = sym (same-sector c.args.sectors.now c.loop-buffer.sectors c.loop-buffer.invariant.kept c.loop-buffer.trail.next) ∙ c.in_ok-advance.ensures.there
+there-still g c = sym (same-sector c.args.sectors.now c.loop-buffer.sectors c.loop-buffer.invariant.kept c.loop-buffer.trail.next) ∙ c.in_ok-advance.ensures.follows.there
 
 met-then : (g : given.Over) (c : goal.In_ok-advance g) → HasMet c.args.sectors.now c.advance.new.trail.difat_sectors.items c.advance.new.trail.met.items
 met-then g c =
     let trail = c.loop-buffer.trail in
-    rw (c.in_ok-advance.ensures.own, c.in_ok-advance.ensures.met)
+    rw (c.in_ok-advance.ensures.follows.listed, c.in_ok-advance.ensures.follows.marked)
     (met-more c.args.sectors.now trail.difat_sectors.items trail.met.items trail.next c.num_sectors-num_sectors.ensures.len c.loop-buffer.invariant.met
-    c.in_ok-advance.ensures.fresh (there-still g c))
+    c.in_ok-advance.ensures.follows.fresh (there-still g c))
 
 pub loop-buffer-smaller : goal.loop-buffer-smaller
 loop-buffer-smaller g c =
     let own = c.loop-buffer.trail.difat_sectors.items in
     let few = met-few c.args.sectors.now c.advance.new.trail.difat_sectors.items c.advance.new.trail.met.items c.num_sectors-num_sectors.ensures.len (met-then g c) in
-    let more : length c.advance.new.trail.difat_sectors.items ≡ length own + 1 = length-more c.advance.new.trail.difat_sectors.items own c.loop-buffer.trail.next c.in_ok-advance.ensures.own in
+    let more : length c.advance.new.trail.difat_sectors.items ≡ length own + 1 = length-more c.advance.new.trail.difat_sectors.items own c.loop-buffer.trail.next c.in_ok-advance.ensures.follows.listed in
     omega (arith, few, more, c.num_sectors-num_sectors.ensures.count)
 
 pub returns-clause-few : goal.returns-clause-few
@@ -64,26 +64,26 @@ loop-buffer-preserved g c =
     let file = c.args.sectors.now in
     let old = c.loop-buffer.trail in
     let new = c.advance.new.trail in
-    let more : length new.difat_sectors.items ≡ length old.difat_sectors.items + 1 = length-more new.difat_sectors.items old.difat_sectors.items old.next c.in_ok-advance.ensures.own in
+    let more : length new.difat_sectors.items ≡ length old.difat_sectors.items + 1 = length-more new.difat_sectors.items old.difat_sectors.items old.next c.in_ok-advance.ensures.follows.listed in
     let same_version : c.loop-buffer.sectors.version ≡ file.version = ap (λ (f : SectorFile). f.version) c.loop-buffer.invariant.kept in
     record {
-      kept = read-then file c.loop-buffer.sectors c.advance.new.sectors c.loop-buffer.invariant.kept c.in_ok-advance.ensures.kept;
-      same = λ told. c.in_ok-advance.ensures.same told ∙ c.loop-buffer.invariant.same told;
+      kept = read-then file c.loop-buffer.sectors c.advance.new.sectors c.loop-buffer.invariant.kept c.in_ok-advance.ensures.reads.kept;
+      same = λ told. c.in_ok-advance.ensures.reads.same told ∙ c.loop-buffer.invariant.same told;
       met = met-then g c;
       count = count-more header_difat_len (words_per_sector file.version - 1) old.difat_sectors.len new.difat_sectors.len old.entries.len new.entries.len
           c.loop-buffer.invariant.count (omega (arith, more, old.difat_sectors.ok.0, new.difat_sectors.ok.0))
-          (c.in_ok-advance.ensures.count ∙ ap (λ v. old.entries.len + (words_per_sector v - 1)) same_version);
+          (c.in_ok-advance.ensures.follows.counted ∙ ap (λ v. old.entries.len + (words_per_sector v - 1)) same_version);
       entries = λ told.
           let here = c.loop-buffer.invariant.same told in
           entries-more file.version file.bytes c.args.header.now.initial_difat_entries old.difat_sectors.items new.difat_sectors.items old.entries.items new.entries.items old.next
-          c.in_ok-advance.ensures.own (c.loop-buffer.invariant.entries told)
-          (c.in_ok-advance.ensures.entries told ∙ ap (λ (f : SectorFile). old.entries.items ++ difat_entries f.version f.bytes old.next) here);
+          c.in_ok-advance.ensures.follows.listed (c.loop-buffer.invariant.entries told)
+          (c.in_ok-advance.ensures.words.appended told ∙ ap (λ (f : SectorFile). old.entries.items ++ difat_entries f.version f.bytes old.next) here);
       followed = λ told measured.
           let here = c.loop-buffer.invariant.same told in
-          rw (c.in_ok-advance.ensures.own, c.in_ok-advance.ensures.next told, here)
+          rw (c.in_ok-advance.ensures.follows.listed, c.in_ok-advance.ensures.words.next told, here)
           (followed-more c.args.validation file.version file.bytes c.args.header.now.first_difat_sector old.difat_sectors.items old.next (c.loop-buffer.invariant.followed told measured)
           (sym c.ends_difat.ensures ∙ c.loop-buffer-test.true) (sym (whole-there file old.next measured) ∙ there-still g c)
-          (subst (λ (f : SectorFile). AreDifatWords c.args.validation (difat_entries f.version f.bytes old.next) (next_difat f.version f.bytes old.next)) here (c.in_ok-advance.ensures.words told)));
+          (subst (λ (f : SectorFile). AreDifatWords c.args.validation (difat_entries f.version f.bytes old.next) (next_difat f.version f.bytes old.next)) here (c.in_ok-advance.ensures.words.words told)));
     }
 
 pub returns-in_err-advance-clause-err : goal.returns-in_err-advance-clause-err

@@ -18,7 +18,7 @@ returns-in_err-trail-clause-err g c =
 
 -- the sectors are as they were but for the medium's bytes and failures
 still : (g : given.Over) (c : goal.After-list_sectors g) (list : List ℕ) → list_all (has_sector c.follow_difat.new.sectors) list ≡ list_all (has_sector c.args.sectors.now) list
-still g c list = same-sectors c.args.sectors.now c.follow_difat.new.sectors c.in_ok-trail.ensures.kept list
+still g c list = same-sectors c.args.sectors.now c.follow_difat.new.sectors c.in_ok-trail.ensures.reads.kept list
 
 pub returns-clause-listed : goal.returns-clause-listed
 returns-clause-listed g c =

@@ -22,13 +22,13 @@ loop-sector-preserved g c =
     let x = get_or list l.sector-index 0 in
     let e = c.in_ok-take_sector.ensures in
     let lt : l.sector-index < length list = c.loop-sector-test.true in
-    let there = e.there (subst (λ (f : SectorFile). AreThere f l.taking.checked.items) (sym l.invariant.kept) l.invariant.checked) in
+    let there = e.takes.there (subst (λ (f : SectorFile). AreThere f l.taking.checked.items) (sym l.invariant.kept) l.invariant.checked) in
     let whole : has_sector file x ≡ true = sym (same-sector file l.sectors l.invariant.kept x) ∙ there.0 in
     record {
-      kept = read-then file l.sectors c.take_sector.new.sectors l.invariant.kept e.kept;
-      same = λ told. e.same told ∙ l.invariant.same told;
-      len = e.len ∙ l.invariant.len;
-      few = e.few;
+      kept = read-then file l.sectors c.take_sector.new.sectors l.invariant.kept e.reads.kept;
+      same = λ told. e.reads.same told ∙ l.invariant.same told;
+      len = e.takes.same_len ∙ l.invariant.len;
+      few = e.takes.few;
       there = list_all_more (has_sector file) list l.sector-index 0 lt ∙ (λ j. l.invariant.there j && whole j);
       checked = subst (λ (f : SectorFile). AreThere f c.take_sector.new.taking.checked.items) l.invariant.kept there.1;
       words = λ told.
@@ -36,13 +36,13 @@ loop-sector-preserved g c =
           sector-kept c.args.validation file.num_sectors file.version file.bytes list l.sector-index l.taking.words.items (l.taking.checked.len - l.taking.words.len) lt
           (l.invariant.words told) (omega (arith, l.invariant.len, l.taking.words.ok.0)) c.take_sector.new.taking.words.items
           (subst (λ (f : SectorFile). c.take_sector.new.taking.words.items
-          ≡ l.taking.words.items ++ take (l.taking.checked.len - l.taking.words.len) (sector_words f.version f.bytes x)) here (e.words told))
+          ≡ l.taking.words.items ++ take (l.taking.checked.len - l.taking.words.len) (sector_words f.version f.bytes x)) here (e.takes.kept told))
           (subst (λ (f : SectorFile). list_all (is_padding_in c.args.validation) (drop (l.taking.checked.len - l.taking.words.len) (sector_words f.version f.bytes x)) ≡ true) here
-          (e.padding told (subst (λ (f : SectorFile). ArePadding c.args.validation f l.taking.checked.items) (sym here) (l.invariant.padding told))).0);
+          (e.takes.padding told (subst (λ (f : SectorFile). ArePadding c.args.validation f l.taking.checked.items) (sym here) (l.invariant.padding told))).0);
       padding = λ told.
           let here = l.invariant.same told in
           subst (λ (f : SectorFile). ArePadding c.args.validation f c.take_sector.new.taking.checked.items) here
-          (e.padding told (subst (λ (f : SectorFile). ArePadding c.args.validation f l.taking.checked.items) (sym here) (l.invariant.padding told))).1;
+          (e.takes.padding told (subst (λ (f : SectorFile). ArePadding c.args.validation f l.taking.checked.items) (sym here) (l.invariant.padding told))).1;
     }
 
 pub returns-in_err-take_sector-clause-err : goal.returns-in_err-take_sector-clause-err

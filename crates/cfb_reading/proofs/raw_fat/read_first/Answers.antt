@@ -32,9 +32,9 @@ loop-sector-preserved g c =
     let x = get_or list l.sector-index 0 in
     let lt : l.sector-index < length list = c.loop-sector-test.true in
     record {
-      tables = e.tables ∙ inv.tables;
-      kept = read-then a.file l.allocator.file c.read_words.new.allocator.file inv.kept e.kept;
-      same = λ told. e.same told ∙ inv.same told;
+      tables = e.reads.tables ∙ inv.tables;
+      kept = read-then a.file l.allocator.file c.read_words.new.allocator.file inv.kept e.reads.kept;
+      same = λ told. e.reads.same told ∙ inv.same told;
       words = λ told.
           e.appended told
           ∙ (λ j. inv.words told j ++ sector_words (inv.same told j).tables.version (inv.same told j).file.bytes x)

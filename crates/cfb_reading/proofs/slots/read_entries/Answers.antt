@@ -1,4 +1,5 @@
-use Rattle.std.proofs.Common.{[], ◌≡◌, ◌≤◌, ℕ, List, true, arith, sym, subst, ap, ◌∙◌}
+use Rattle.std.proofs.lemmas.Grind.{common_steps}
+use Rattle.std.proofs.Common.{[], ◌≡◌, ◌≤◌, ℕ, List, true, arith, sym, subst, ap, ◌∙◌, rules}
 use Rattle.std.specs.Prelude.{IsTrue, slice_index}
 use Rattle.std.specs.List.{AllZip}
 use Rattle.std.proofs.lemmas.Result.{err_from_is_err_and}
@@ -55,12 +56,19 @@ returns-in_err-read_slots-clause-err g c =
     let p = err_from_is_err_and c.from_residual-in_err-read_slots.result c.from_residual-in_err-read_slots.ensures.1 in
     rw (p.1, p.2) (refused-as _ _ _ _ _ _ _ _ none (λ u. u) (λ never. never) (λ u. u) c.in_err-read_slots.field-0.0 c.in_err-read_slots.ensures.err)
 
-pub returns-in_err-read_slots-clause-counts : goal.returns-in_err-read_slots-clause-counts
-returns-in_err-read_slots-clause-counts g c tells =
-    let new = c.read_slots.new.allocator.file.failures in
-    let before = ap (λ (s : AllocatorState). s.file.failures) (c.loop-sector.invariant.same tells) in
-    let p = err_from_is_err_and c.from_residual-in_err-read_slots.result c.from_residual-in_err-read_slots.ensures.1 in
-    rw (p.1, p.2) (subst (λ n. CountsError g.F.ReadMedium.read_faults n new c.in_err-read_slots.field-0.0) before (c.in_err-read_slots.ensures.counts tells))
+pub returns-in_err-read_slots-clause-reads : goal.returns-in_err-read_slots-clause-reads
+returns-in_err-read_slots-clause-reads g c = record {
+  kept = first_of (search rules, grind (arith, common_steps));
+  tables = first_of (search rules, grind (arith, common_steps));
+  bytes = first_of (search rules, grind (arith, common_steps));
+  same = first_of (search rules, grind (arith, common_steps));
+  counts = λ tells. (
+      let new = c.read_slots.new.allocator.file.failures in
+      let before = ap (λ (s : AllocatorState). s.file.failures) (c.loop-sector.invariant.same tells) in
+      let p = err_from_is_err_and c.from_residual-in_err-read_slots.result c.from_residual-in_err-read_slots.ensures.1 in
+      rw (p.1, p.2) (subst (λ n. CountsError g.F.ReadMedium.read_faults n new c.in_err-read_slots.field-0.0) before (c.in_err-read_slots.ensures.reads.counts tells))
+  );
+}
 
 pub loop-sector-preserved : goal.loop-sector-preserved
 loop-sector-preserved g c =
@@ -71,9 +79,9 @@ loop-sector-preserved g c =
     let inv = c.loop-sector.invariant in
     let e = c.in_ok-read_slots.ensures in
     record {
-      tables = e.tables ∙ inv.tables;
-      kept = e.kept ∙ ap (λ (f : SectorFile). record f { bytes = new.file.bytes; failures = new.file.failures }) inv.kept;
-      same = λ tells. e.same tells ∙ inv.same tells;
+      tables = e.reads.tables ∙ inv.tables;
+      kept = e.reads.kept ∙ ap (λ (f : SectorFile). record f { bytes = new.file.bytes; failures = new.file.failures }) inv.kept;
+      same = λ tells. e.reads.same tells ∙ inv.same tells;
       read = read-more g.F.ReadMedium.tells (IsMeasured a.file) c.args.validation a.tables.version a.file.bytes b.tables.version b.file.bytes all c.loop-sector.sector-index
           (entries_of c.loop-sector.entries.items) (entries_of c.read_slots.new.entries.items)
           (ap (λ t. t.version) inv.tables) (λ tells. ap (λ (s : AllocatorState). s.file.bytes) (inv.same tells)) (omega arith) e.appended

@@ -11,11 +11,11 @@ returns-clause-ok g c tells =
     let n = c.in_ok-count.count in
     let into = c.read_contiguous.new.into in
     let all : length into ≤ n = c.if-count-into.false in
-    let few = c.in_ok-count.ensures.count in
+    let few = c.in_ok-count.ensures.part.count in
     let asked = c.requires in
     let whole : n ≡ sector_len v = omega (arith, all, few, asked) in
     let at : sector_start a.file.version c.args.sector + 0 ≡ sector_start v c.args.sector =
     (let zero : sector_start a.file.version c.args.sector + 0 ≡ sector_start a.file.version c.args.sector = omega arith in zero)
     ∙ ap (λ w. sector_start w c.args.sector) c.file_len-file_len.ensures.placed.same_version in
-    sym (take_all n into all) ∙ c.in_ok-count.ensures.ok tells
+    sym (take_all n into all) ∙ c.in_ok-count.ensures.part.read tells
     ∙ ap (λ p. part a.file.bytes p n) at ∙ ap (part a.file.bytes (sector_start v c.args.sector)) whole

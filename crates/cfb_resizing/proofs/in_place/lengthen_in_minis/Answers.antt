@@ -1,4 +1,5 @@
-use Rattle.std.proofs.Common.{◌≡◌, ℕ, List, length, inl, inr, sym, ap, subst, arith}
+use Rattle.std.proofs.lemmas.Grind.{common_steps}
+use Rattle.std.proofs.Common.{◌≡◌, ℕ, List, length, inl, inr, sym, ap, subst, arith, rules}
 use Rattle.std.specs.Prelude.{nat_eq}
 use Rattle.std.specs.List.{IsDistinct}
 use Rattle.std.proofs.lemmas.Result.{err_from_is_err_and}
@@ -27,15 +28,22 @@ zero_in_minis-requires g c =
     let have : c.len.result ≡ length c.args.ids.now.items = omega (arith, c.len.ensures, c.args.ids.now.ok.0) in
     record {
       placed = λ k from till.
-          minis-tail-placed c.args.mini.now c.extend_mini_listed.new.self c.args.lacking c.args.ids.now.items c.extend_mini_listed.new.ids.items c.extend_mini_listed.ensures.listed
-          (c.extend_mini_listed.ensures.chain c.requires.chain) c.deref.result.now c.args.size c.len.result c.saturating_mul-room.result c.min.result c.deref.ensures.value have
-          c.saturating_mul-room.ensures c.min.ensures c.requires.there (λ zero. (c.extend_mini_listed.ensures.none zero).1) c.in_ok-extend_mini_listed.ensures.room k till;
+          minis-tail-placed c.args.mini.now c.extend_mini_listed.new.self c.args.lacking c.args.ids.now.items c.extend_mini_listed.new.ids.items c.extend_mini_listed.ensures.longer.listed
+          (c.extend_mini_listed.ensures.longer.chain c.requires.chain) c.deref.result.now c.args.size c.len.result c.saturating_mul-room.result c.min.result c.deref.ensures.value have
+          c.saturating_mul-room.ensures c.min.ensures c.requires.there (λ zero. (c.extend_mini_listed.ensures.longer.none zero).1) c.in_ok-extend_mini_listed.ensures.grows.room k till;
     }
 
-pub returns-in_err-extend_mini_listed-clause-mini_spares : goal.returns-in_err-extend_mini_listed-clause-mini_spares
-returns-in_err-extend_mini_listed-clause-mini_spares g c told v held =
-    let ids = c.args.ids.now.items in
-    spares-less (ends_of ids) ids c.args.mini.now c.extend_mini_listed.new.self (ends_among ids) (c.extend_mini_listed.ensures.mini_spares told v held)
+pub returns-in_err-extend_mini_listed-clause-holds : goal.returns-in_err-extend_mini_listed-clause-holds
+returns-in_err-extend_mini_listed-clause-holds g c = record {
+  padded = first_of (search rules, grind (arith, common_steps));
+  holds = first_of (search rules, grind (arith, common_steps));
+  whole = first_of (search rules, grind (arith, common_steps));
+  mini_spares = λ told v held. (
+      let ids = c.args.ids.now.items in
+      spares-less (ends_of ids) ids c.args.mini.now c.extend_mini_listed.new.self (ends_among ids) (c.extend_mini_listed.ensures.holds.mini_spares told v held)
+  );
+  snug_mini = first_of (search rules, grind (arith, common_steps));
+}
 
 pub returns-in_err-extend_mini_listed-clause-err : goal.returns-in_err-extend_mini_listed-clause-err
 returns-in_err-extend_mini_listed-clause-err g c =
@@ -44,110 +52,111 @@ returns-in_err-extend_mini_listed-clause-err g c =
     let p = err_from_is_err_and c.from_residual.result c.from_residual.ensures.1 in
     rw (p.1, p.2) (refused-as _ _ _ _ _ _ _ _
     (λ w. elim w [ inl none ↦ none | inr ends ↦ absurd (ends.1 (chain_ends minifat (first_or_end ids) ids c.requires.chain ends.0)) ])
-    (λ u. u) (λ few. c.requires.enough few) (λ u. u) c.in_err-extend_mini_listed.field-0.0 c.in_err-extend_mini_listed.ensures.err)
+    (λ u. u) (λ few. c.requires.enough few) (λ u. u) c.in_err-extend_mini_listed.field-0.0 c.in_err-extend_mini_listed.ensures.ends.err)
 
-pub returns-clause-chain : goal.returns-clause-chain
-returns-clause-chain g c =
-    let mid = c.extend_mini_listed.new.self in
-    let ids' = c.extend_mini_listed.new.ids.items in
-    subst (λ (t : List ℕ). IsChain t (first_or_end ids') ids') (sym (file-mini mid mid c.zero_in_minis.new.mini c.zero_in_minis.ensures.kept).minifat)
-    (c.extend_mini_listed.ensures.chain c.requires.chain)
-
-pub returns-clause-count : goal.returns-clause-count
-returns-clause-count g c = all_ok c.zero_in_minis.result c.in_ok-extend_mini_listed.ensures.count
-
-pub returns-clause-taken : goal.returns-clause-taken
-returns-clause-taken g c some =
-    let s = c.args.mini.now in
-    let mid = c.extend_mini_listed.new.self in
-    let ids = c.args.ids.now.items in
-    let ids' = c.extend_mini_listed.new.ids.items in
-    all_ok c.zero_in_minis.result (subst (λ (t : List ℕ). TakesMini s.max_mini_sectors s.minifat t (ends_of ids) (gained ids ids'))
-    (sym (file-mini mid mid c.zero_in_minis.new.mini c.zero_in_minis.ensures.kept).minifat) (c.in_ok-extend_mini_listed.ensures.taken some))
-
-pub returns-clause-grown : goal.returns-clause-grown
-returns-clause-grown g c some =
-    let mid = c.extend_mini_listed.new.self in
-    let new = c.zero_in_minis.new.mini in
-    all_ok c.zero_in_minis.result (growth-stays c.args.lacking c.args.mini.now mid new (c.in_ok-extend_mini_listed.ensures.grown some) (file-system mid mid new c.zero_in_minis.ensures.kept))
-
-pub returns-clause-padded : goal.returns-clause-padded
-returns-clause-padded g c told v held there =
-    let have : c.len.result ≡ length c.args.ids.now.items = omega (arith, c.len.ensures, c.args.ids.now.ok.0) in
-    let chain = c.extend_mini_listed.ensures.chain c.requires.chain in
-    let now = c.in_ok-extend_mini_listed.ensures.holds told v held in
-    on_ok _ _ c.zero_in_minis.result
-    (λ put. minis-lengthened-padded c.args.mini.now c.extend_mini_listed.new.self c.args.lacking c.args.ids.now.items c.extend_mini_listed.new.ids.items
-    c.extend_mini_listed.ensures.listed chain c.zero_in_minis.new.mini c.zero_in_minis.ensures.kept v c.deref.result.now c.args.size c.args.len c.len.result c.saturating_mul-room.result
-    c.min.result c.deref.ensures.value held now c.requires.chain c.extend_mini_listed.ensures.limits.version c.extend_mini_listed.ensures.goes_on
-    (c.extend_mini_listed.ensures.bytes told v held) (c.in_ok-extend_mini_listed.ensures.filled told v held) have c.saturating_mul-room.ensures c.min.ensures c.ranges.size.fits
-    c.requires.lacking c.in_ok-extend_mini_listed.ensures.count there put (c.zero_in_minis.ensures.others told))
-    (c.zero_in_minis.ensures.put told v now (subst (λ (l : List ℕ). IsDistinct nat_eq l) (sym c.deref.ensures.value) chain.distinct))
+pub returns-clause-longer : goal.returns-clause-longer
+returns-clause-longer g c = record {
+  chain = (
+      let mid = c.extend_mini_listed.new.self in
+      let ids' = c.extend_mini_listed.new.ids.items in
+      subst (λ (t : List ℕ). IsChain t (first_or_end ids') ids') (sym (file-mini mid mid c.zero_in_minis.new.mini c.zero_in_minis.ensures.writes.kept).minifat)
+      (c.extend_mini_listed.ensures.longer.chain c.requires.chain)
+  );
+  listed = first_of (search rules, grind (arith, common_steps));
+  counted = all_ok c.zero_in_minis.result c.in_ok-extend_mini_listed.ensures.longer.counted;
+  taken = λ some. (
+      let s = c.args.mini.now in
+      let mid = c.extend_mini_listed.new.self in
+      let ids = c.args.ids.now.items in
+      let ids' = c.extend_mini_listed.new.ids.items in
+      all_ok c.zero_in_minis.result (subst (λ (t : List ℕ). TakesMini s.max_mini_sectors s.minifat t (ends_of ids) (gained ids ids'))
+      (sym (file-mini mid mid c.zero_in_minis.new.mini c.zero_in_minis.ensures.writes.kept).minifat) (c.in_ok-extend_mini_listed.ensures.longer.taken some))
+  );
+  grown = λ some. (
+      let mid = c.extend_mini_listed.new.self in
+      let new = c.zero_in_minis.new.mini in
+      all_ok c.zero_in_minis.result (growth-stays c.args.lacking c.args.mini.now mid new (c.in_ok-extend_mini_listed.ensures.grows.grown some) (file-system mid mid new c.zero_in_minis.ensures.writes.kept))
+  );
+  none = first_of (search rules, grind (arith, common_steps));
+}
 
 pub returns-clause-holds : goal.returns-clause-holds
-returns-clause-holds g c told v held = c.zero_in_minis.ensures.holds told v (c.in_ok-extend_mini_listed.ensures.holds told v held)
-
-pub returns-clause-whole : goal.returns-clause-whole
-returns-clause-whole g c told v held was =
-    let mid = c.extend_mini_listed.new.self in
-    let new = c.zero_in_minis.new.mini in
-    let first = c.in_ok-extend_mini_listed.ensures.whole told v held was in
-    let tables = (file-system mid mid new c.zero_in_minis.ensures.kept).tables in
-    on_ok _ _ c.zero_in_minis.result
-    (λ after. same-whole v (table_of mid) (table_of new) after.directory.tables (ap (λ (t : TableState). t.version) tables) (ap (λ (t : TableState). length t.fat) tables)
-    (c.zero_in_minis.ensures.spares told).no_shorter first)
-    (c.zero_in_minis.ensures.holds told v (c.in_ok-extend_mini_listed.ensures.holds told v held))
+returns-clause-holds g c = record {
+  padded = λ told v held there. (
+      let have : c.len.result ≡ length c.args.ids.now.items = omega (arith, c.len.ensures, c.args.ids.now.ok.0) in
+      let chain = c.extend_mini_listed.ensures.longer.chain c.requires.chain in
+      let now = c.in_ok-extend_mini_listed.ensures.holds.holds told v held in
+      on_ok _ _ c.zero_in_minis.result
+      (λ put. minis-lengthened-padded c.args.mini.now c.extend_mini_listed.new.self c.args.lacking c.args.ids.now.items c.extend_mini_listed.new.ids.items
+      c.extend_mini_listed.ensures.longer.listed chain c.zero_in_minis.new.mini c.zero_in_minis.ensures.writes.kept v c.deref.result.now c.args.size c.args.len c.len.result c.saturating_mul-room.result
+      c.min.result c.deref.ensures.value held now c.requires.chain c.extend_mini_listed.ensures.changes.limits.version c.extend_mini_listed.ensures.grows.goes_on
+      (c.extend_mini_listed.ensures.holds.bytes told v held) (c.in_ok-extend_mini_listed.ensures.holds.filled told v held) have c.saturating_mul-room.ensures c.min.ensures c.ranges.size.fits
+      c.requires.lacking c.in_ok-extend_mini_listed.ensures.longer.counted there put (c.zero_in_minis.ensures.along.others told))
+      (c.zero_in_minis.ensures.along.put told v now (subst (λ (l : List ℕ). IsDistinct nat_eq l) (sym c.deref.ensures.value) chain.distinct))
+  );
+  holds = λ told v held. c.zero_in_minis.ensures.writes.holds told v (c.in_ok-extend_mini_listed.ensures.holds.holds told v held);
+  whole = λ told v held was. (
+      let mid = c.extend_mini_listed.new.self in
+      let new = c.zero_in_minis.new.mini in
+      let first = c.in_ok-extend_mini_listed.ensures.holds.whole told v held was in
+      let tables = (file-system mid mid new c.zero_in_minis.ensures.writes.kept).tables in
+      on_ok _ _ c.zero_in_minis.result
+      (λ after. same-whole v (table_of mid) (table_of new) after.directory.tables (ap (λ (t : TableState). t.version) tables) (ap (λ (t : TableState). length t.fat) tables)
+      (c.zero_in_minis.ensures.writes.spares told).no_shorter first)
+      (c.zero_in_minis.ensures.writes.holds told v (c.in_ok-extend_mini_listed.ensures.holds.holds told v held))
+  );
+  mini_spares = λ told v held. (
+      minis-lengthened-mini-spare c.args.mini.now c.extend_mini_listed.new.self c.args.lacking c.args.ids.now.items c.extend_mini_listed.new.ids.items c.extend_mini_listed.ensures.longer.listed
+      (c.extend_mini_listed.ensures.longer.chain c.requires.chain) c.zero_in_minis.new.mini c.zero_in_minis.ensures.writes.kept v c.deref.result.now c.deref.ensures.value held
+      c.extend_mini_listed.ensures.changes.limits.version (λ z. (c.extend_mini_listed.ensures.longer.none z).2) c.in_ok-extend_mini_listed.ensures.longer.taken (c.extend_mini_listed.ensures.holds.mini_spares told v held)
+      (c.zero_in_minis.ensures.along.mini_spares told v (c.in_ok-extend_mini_listed.ensures.holds.holds told v held))
+  );
+  snug_mini = λ told v held snug. (
+      let s = c.args.mini.now in
+      let mid = c.extend_mini_listed.new.self in
+      all_ok c.zero_in_minis.result (file-snug mid c.zero_in_minis.new.mini c.zero_in_minis.ensures.writes.kept
+      (extended-snug v s mid c.args.lacking c.args.ids.now.items c.extend_mini_listed.new.ids.items (λ z. (c.extend_mini_listed.ensures.longer.none z).1)
+      c.in_ok-extend_mini_listed.ensures.grows.grown c.in_ok-extend_mini_listed.ensures.longer.taken c.in_ok-extend_mini_listed.ensures.longer.counted c.in_ok-extend_mini_listed.ensures.grows.measured
+      c.extend_mini_listed.ensures.changes.limits (c.in_ok-extend_mini_listed.ensures.holds.holds told v held) snug))
+  );
+}
 
 pub returns-clause-spares : goal.returns-clause-spares
 returns-clause-spares g c told =
-    minis-lengthened-spare c.args.mini.now c.extend_mini_listed.new.self c.args.lacking c.args.ids.now.items c.extend_mini_listed.new.ids.items c.extend_mini_listed.ensures.listed
-    (c.extend_mini_listed.ensures.chain c.requires.chain) c.zero_in_minis.new.mini c.zero_in_minis.ensures.kept (λ z. (c.extend_mini_listed.ensures.none z).1)
-    c.in_ok-extend_mini_listed.ensures.grown (c.extend_mini_listed.ensures.spares told) (c.zero_in_minis.ensures.spares told)
-
-pub returns-clause-mini_spares : goal.returns-clause-mini_spares
-returns-clause-mini_spares g c told v held =
-    minis-lengthened-mini-spare c.args.mini.now c.extend_mini_listed.new.self c.args.lacking c.args.ids.now.items c.extend_mini_listed.new.ids.items c.extend_mini_listed.ensures.listed
-    (c.extend_mini_listed.ensures.chain c.requires.chain) c.zero_in_minis.new.mini c.zero_in_minis.ensures.kept v c.deref.result.now c.deref.ensures.value held
-    c.extend_mini_listed.ensures.limits.version (λ z. (c.extend_mini_listed.ensures.none z).2) c.in_ok-extend_mini_listed.ensures.taken (c.extend_mini_listed.ensures.mini_spares told v held)
-    (c.zero_in_minis.ensures.mini_spares told v (c.in_ok-extend_mini_listed.ensures.holds told v held))
-
-pub returns-clause-header : goal.returns-clause-header
-returns-clause-header g c told =
-    let s = c.args.mini.now in
-    let mid = c.extend_mini_listed.new.self in
-    let new = c.zero_in_minis.new.mini in
-    all_ok c.zero_in_minis.result (both-outside (bytes_of s) (bytes_of mid) (bytes_of new) (c.extend_mini_listed.ensures.spares told).no_shorter (c.extend_mini_listed.ensures.header told)
-    (minis-outside mid c.deref.result.now c.args.len _ (bytes_of mid) (bytes_of new) (c.zero_in_minis.ensures.others told)))
+    minis-lengthened-spare c.args.mini.now c.extend_mini_listed.new.self c.args.lacking c.args.ids.now.items c.extend_mini_listed.new.ids.items c.extend_mini_listed.ensures.longer.listed
+    (c.extend_mini_listed.ensures.longer.chain c.requires.chain) c.zero_in_minis.new.mini c.zero_in_minis.ensures.writes.kept (λ z. (c.extend_mini_listed.ensures.longer.none z).1)
+    c.in_ok-extend_mini_listed.ensures.grows.grown (c.extend_mini_listed.ensures.changes.spares told) (c.zero_in_minis.ensures.writes.spares told)
 
 pub returns-clause-around : goal.returns-clause-around
-returns-clause-around g c = file-around c.args.mini.now c.extend_mini_listed.new.self c.zero_in_minis.new.mini c.zero_in_minis.ensures.kept (record {
-  directory = c.extend_mini_listed.ensures.directory;
-  entries = c.extend_mini_listed.ensures.entries;
-  limits = c.extend_mini_listed.ensures.limits;
-})
-
-pub returns-clause-tight : goal.returns-clause-tight
-returns-clause-tight g c =
-    all_ok c.zero_in_minis.result
-    (minis-lengthened-tight c.args.mini.now c.extend_mini_listed.new.self c.args.lacking c.args.ids.now.items c.extend_mini_listed.new.ids.items c.extend_mini_listed.ensures.listed
-    (c.extend_mini_listed.ensures.chain c.requires.chain) c.zero_in_minis.new.mini c.zero_in_minis.ensures.kept (λ z. (c.extend_mini_listed.ensures.none z).1)
-    c.in_ok-extend_mini_listed.ensures.grown)
+returns-clause-around g c = record {
+  header = λ told. (
+      let s = c.args.mini.now in
+      let mid = c.extend_mini_listed.new.self in
+      let new = c.zero_in_minis.new.mini in
+      all_ok c.zero_in_minis.result (both-outside (bytes_of s) (bytes_of mid) (bytes_of new) (c.extend_mini_listed.ensures.changes.spares told).no_shorter (c.extend_mini_listed.ensures.changes.header told)
+      (minis-outside mid c.deref.result.now c.args.len _ (bytes_of mid) (bytes_of new) (c.zero_in_minis.ensures.along.others told)))
+  );
+  around = (
+      file-around c.args.mini.now c.extend_mini_listed.new.self c.zero_in_minis.new.mini c.zero_in_minis.ensures.writes.kept (record {
+    directory = c.extend_mini_listed.ensures.changes.directory;
+    entries = c.extend_mini_listed.ensures.changes.entries;
+    limits = c.extend_mini_listed.ensures.changes.limits;
+  })
+  );
+  tight = (
+      all_ok c.zero_in_minis.result
+      (minis-lengthened-tight c.args.mini.now c.extend_mini_listed.new.self c.args.lacking c.args.ids.now.items c.extend_mini_listed.new.ids.items c.extend_mini_listed.ensures.longer.listed
+      (c.extend_mini_listed.ensures.longer.chain c.requires.chain) c.zero_in_minis.new.mini c.zero_in_minis.ensures.writes.kept (λ z. (c.extend_mini_listed.ensures.longer.none z).1)
+      c.in_ok-extend_mini_listed.ensures.grows.grown)
+  );
+  refused = first_of (search rules, grind (arith, common_steps));
+  counts = λ told. (
+      subst (λ (n : ℕ). CountsFailure g.F.Medium.write_faults c.zero_in_minis.result n (table_of c.zero_in_minis.new.mini).file.failures) (c.in_ok-extend_mini_listed.ensures.changes.counts told)
+      (c.zero_in_minis.ensures.along.counts told)
+  );
+}
 
 pub returns-clause-unwritten : goal.returns-clause-unwritten
 returns-clause-unwritten g c told not =
     tail-unwritten c.args.mini.now c.extend_mini_listed.new.self c.zero_in_minis.new.mini c.args.len c.min.result c.args.lacking (λ no. (c.zero_in_minis.ensures.none no).1)
-    c.zero_in_minis.ensures.begun (λ z. (c.extend_mini_listed.ensures.none z).1) c.in_ok-extend_mini_listed.ensures.begun.1 not
-
-pub returns-clause-counts : goal.returns-clause-counts
-returns-clause-counts g c told =
-    subst (λ (n : ℕ). CountsFailure g.F.Medium.write_faults c.zero_in_minis.result n (table_of c.zero_in_minis.new.mini).file.failures) (c.in_ok-extend_mini_listed.ensures.counts told)
-    (c.zero_in_minis.ensures.counts told)
-
-pub returns-clause-snug_mini : goal.returns-clause-snug_mini
-returns-clause-snug_mini g c told v held snug =
-    let s = c.args.mini.now in
-    let mid = c.extend_mini_listed.new.self in
-    all_ok c.zero_in_minis.result (file-snug mid c.zero_in_minis.new.mini c.zero_in_minis.ensures.kept
-    (extended-snug v s mid c.args.lacking c.args.ids.now.items c.extend_mini_listed.new.ids.items (λ z. (c.extend_mini_listed.ensures.none z).1)
-    c.in_ok-extend_mini_listed.ensures.grown c.in_ok-extend_mini_listed.ensures.taken c.in_ok-extend_mini_listed.ensures.count c.in_ok-extend_mini_listed.ensures.measured
-    c.extend_mini_listed.ensures.limits (c.in_ok-extend_mini_listed.ensures.holds told v held) snug))
+    c.zero_in_minis.ensures.begun (λ z. (c.extend_mini_listed.ensures.longer.none z).1) c.in_ok-extend_mini_listed.ensures.ends.begun.1 not

@@ -10,7 +10,7 @@ use Rattle.cfb_resizing.proofs.CanGrow.{lacks-or-long}
 use Rattle.cfb_resizing.proofs.resizing.can_resize.Goals as goal
 
 pub content_in-len-requires : goal.content_in-len-requires
-content_in-len-requires g c = record { inside = stream-inside c.args.mini.now c.args.entry c.requires.stream }
+content_in-len-requires g c = record { inside = stream-inside c.args.mini.now c.args.entry c.requires.size_fits.stream }
 
 pub returns-then-len-clause-can : goal.returns-then-len-clause-can
 returns-then-len-clause-can g c differs v held =

@@ -4,7 +4,7 @@ use Rattle.cfb_resizing.proofs.CutShort.{cut-trims, grown-trims, mini-cut-trims,
 use Rattle.cfb_resizing.proofs.resizing.turn.Goals as goal
 
 pub content_in-len-requires : goal.content_in-len-requires
-content_in-len-requires g c = record { inside = stream-inside c.args.mini.now c.args.entry c.requires.stream }
+content_in-len-requires g c = record { inside = stream-inside c.args.mini.now c.args.entry c.requires.size_fits.stream }
 
 -- ---- a stream in sectors
 
@@ -21,7 +21,7 @@ returns-then-size-cutoff-clause-trimmed g c =
 pub returns-then-len-cutoff-clause-trimmed : goal.returns-then-len-cutoff-clause-trimmed
 returns-then-len-cutoff-clause-trimmed g c =
     moved-trims c.move_to_minis.result c.args.mini.now c.move_to_minis.new.mini c.args.entry c.args.size
-    (omega (arith, c.content_in-len.ensures.len, c.if-len-cutoff.true)) (omega (arith, c.if-size-cutoff.false)) c.move_to_minis.ensures.empty
+    (omega (arith, c.content_in-len.ensures.len, c.if-len-cutoff.true)) (omega (arith, c.if-size-cutoff.false)) c.move_to_minis.ensures.emptied.empty
 
 -- ---- a stream in mini sectors
 
@@ -33,7 +33,7 @@ returns-then-size-cutoff-2-clause-trimmed g c =
 pub returns-then-size-len-2-clause-trimmed : goal.returns-then-size-len-2-clause-trimmed
 returns-then-size-len-2-clause-trimmed g c =
     mini-cut-trims c.cut_in_minis.result c.args.mini.now c.cut_in_minis.new.mini c.args.entry c.args.size
-    (omega (arith, c.content_in-len.ensures.len, c.if-len-cutoff.false)) (omega (arith, c.if-size-cutoff-2.false)) c.cut_in_minis.ensures.few c.cut_in_minis.ensures.empty
+    (omega (arith, c.content_in-len.ensures.len, c.if-len-cutoff.false)) (omega (arith, c.if-size-cutoff-2.false)) c.cut_in_minis.ensures.cuts.few c.cut_in_minis.ensures.cuts.empty
 
 pub returns-clause-trimmed : goal.returns-clause-trimmed
 returns-clause-trimmed g c =

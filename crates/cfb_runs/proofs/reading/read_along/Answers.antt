@@ -45,12 +45,12 @@ loop-done-preserved g c =
     let long : length into - done ≡ length new = omega (arith, size, whole, rest) in
     let is : put_mid done (length into - done) into new ≡ written into done new = put_mid_written into done (length into - done) new new inv.within long refl in
     let total = ap (λ (xs : List ℕ). length xs) is ∙ length-written into done new in
-    let some = e.some in
+    let some = e.run.some in
     record {
       within = omega (arith, total, some.1, inv.within, long, size);
-      tables = e.kept.tables ∙ inv.tables;
-      file = e.kept.file ∙ ap (λ (f : SectorFile). record f { bytes = c.read_run.new.allocator.file.bytes; failures = c.read_run.new.allocator.file.failures }) inv.file;
-      same = λ told. e.same told ∙ inv.same told;
+      tables = e.reads.kept.tables ∙ inv.tables;
+      file = e.reads.kept.file ∙ ap (λ (f : SectorFile). record f { bytes = c.read_run.new.allocator.file.bytes; failures = c.read_run.new.allocator.file.failures }) inv.file;
+      same = λ told. e.reads.same told ∙ inv.same told;
       got = λ told k low. ap (λ (xs : List ℕ). slice_index xs k) is ∙ elim (cases_lt k done) [
         | inl before ↦ written_below into done new k before ∙ inv.got told k before
         | inr from ↦
@@ -60,10 +60,10 @@ loop-done-preserved g c =
             let at : c.args.at + done + j ≡ c.args.at + k = omega (arith, from) in
             let less : j < count = omega (arith, low, from) in
             let p = place_along v ids (c.args.at + done) in
-            let few = e.count.there in
-            let follow = e.count.longest.run.follow j (omega (arith, few, less)) in
+            let few = e.run.longest.there in
+            let follow = e.run.longest.longest.run.follow j (omega (arith, few, less)) in
             ap (λ m. slice_index (written into done new) m) (sym here) ∙ written_at into done new j (omega (arith, less, some.1, size))
-            ∙ sym (get_or-take count new j 0 less) ∙ ap (λ (xs : List ℕ). slice_index xs j) (e.ok told) ∙ part_at b.file.bytes p count j less
+            ∙ sym (get_or-take count new j 0 less) ∙ ap (λ (xs : List ℕ). slice_index xs j) (e.run.read told) ∙ part_at b.file.bytes p count j less
             ∙ ap (λ m. slice_index b.file.bytes m) (sym follow)
             ∙ (λ i. slice_index (inv.same told i).file.bytes (place_along (inv.same told i).tables.version ids (at i))))
       ];

@@ -1,4 +1,5 @@
-use Rattle.std.proofs.Common.{◌≡◌, ◌≤◌, ◌<◌, ◌+◌, ◌*◌, ◌/◌, ℕ, inr, refl, sym, ◌∙◌, ap, subst, arith, length, take}
+use Rattle.std.proofs.lemmas.Grind.{common_steps}
+use Rattle.std.proofs.Common.{◌≡◌, ◌≤◌, ◌<◌, ◌+◌, ◌*◌, ◌/◌, ℕ, inr, refl, sym, ◌∙◌, ap, subst, arith, length, take, rules}
 use Rattle.std.specs.Prelude.{IsTrue, slice_index}
 use Rattle.cfb_format.specs.declared.version.Version.{Version}
 use Rattle.cfb_format.specs.Bytes.{sector_len}
@@ -62,48 +63,58 @@ write_from-requires-clause-known g c =
     let at : c.args.at + (done + k) ≡ c.loop-done.index * sector_len a.tables.version + c.loop-done.offset + k = omega (arith, inv.place) in
     subst (λ m. slice_index ids (m / sector_len a.tables.version) < length a.tables.fat) at (c.requires.placed (done + k) (omega (arith, low, rest))).1)
 
-pub returns-in_err-count-clause-others : goal.returns-in_err-count-clause-others
-returns-in_err-count-clause-others g c told =
-    let a = c.args.allocator.now in
-    let b = c.loop-done.allocator in
-    let n = c.write_from.new.allocator in
-    let v = a.tables.version in
-    let ids = c.args.ids.now in
-    let bytes = c.args.bytes.now in
-    let done = c.loop-done.done in
-    let inv = c.loop-done.invariant in
-    let rest = rest_size bytes done in
-    let left = length (rest_of bytes done) in
-    let same : b.tables.version ≡ v = ap (λ (t : TableState). t.version) inv.tables in
-    let change = subst (λ (m : ℕ). ChangesOnlyRun v ids m left b.file.bytes n.file.bytes) inv.place
-    (subst (λ (u : Version). ChangesOnlyRun u ids (c.loop-done.index * sector_len u + c.loop-done.offset) left b.file.bytes n.file.bytes) same (c.write_from.ensures.others told)) in
-    let all : done + left ≡ length bytes = omega (arith, rest, inv.within) in
-    subst (λ m. ChangesOnlyPlaces (place_along v ids) c.args.at m a.file.bytes n.file.bytes) all
-    (only_more (place_along v ids) c.args.at done left a.file.bytes b.file.bytes n.file.bytes (inv.others told) (only_run v ids (c.args.at + done) left b.file.bytes n.file.bytes change))
+pub returns-in_err-count-clause-along : goal.returns-in_err-count-clause-along
+returns-in_err-count-clause-along g c = record {
+  put = first_of (search rules, grind (arith, common_steps));
+  others = λ told. (
+      let a = c.args.allocator.now in
+      let b = c.loop-done.allocator in
+      let n = c.write_from.new.allocator in
+      let v = a.tables.version in
+      let ids = c.args.ids.now in
+      let bytes = c.args.bytes.now in
+      let done = c.loop-done.done in
+      let inv = c.loop-done.invariant in
+      let rest = rest_size bytes done in
+      let left = length (rest_of bytes done) in
+      let same : b.tables.version ≡ v = ap (λ (t : TableState). t.version) inv.tables in
+      let change = subst (λ (m : ℕ). ChangesOnlyRun v ids m left b.file.bytes n.file.bytes) inv.place
+      (subst (λ (u : Version). ChangesOnlyRun u ids (c.loop-done.index * sector_len u + c.loop-done.offset) left b.file.bytes n.file.bytes) same (c.write_from.ensures.run.others told)) in
+      let all : done + left ≡ length bytes = omega (arith, rest, inv.within) in
+      subst (λ m. ChangesOnlyPlaces (place_along v ids) c.args.at m a.file.bytes n.file.bytes) all
+      (only_more (place_along v ids) c.args.at done left a.file.bytes b.file.bytes n.file.bytes (inv.others told) (only_run v ids (c.args.at + done) left b.file.bytes n.file.bytes change))
+  );
+  stops = λ told. (
+      let a = c.args.allocator.now in
+      let b = c.loop-done.allocator in
+      let n = c.write_from.new.allocator in
+      let v = a.tables.version in
+      let ids = c.args.ids.now in
+      let bytes = c.args.bytes.now in
+      let done = c.loop-done.done in
+      let inv = c.loop-done.invariant in
+      let rest = rest_size bytes done in
+      let left = length (rest_of bytes done) in
+      let same : b.tables.version ≡ v = ap (λ (t : TableState). t.version) inv.tables in
+      let change = subst (λ (m : ℕ). ChangesOnlyRun v ids m left b.file.bytes n.file.bytes) inv.place
+      (subst (λ (u : Version). ChangesOnlyRun u ids (c.loop-done.index * sector_len u + c.loop-done.offset) left b.file.bytes n.file.bytes) same (c.write_from.ensures.run.others told)) in
+      all_err c.from_residual.result
+      (stops_here v ids c.args.at done left bytes a.file.bytes b.file.bytes n.file.bytes (omega (arith, rest, c.loop-done-test.true)) (omega (arith, rest, inv.within))
+      (λ k low. (c.requires.placed k low).0) (inv.others told) (inv.put told) change)
+  );
+  counts = first_of (search rules, grind (arith, common_steps));
+}
 
-pub returns-in_err-count-clause-stops : goal.returns-in_err-count-clause-stops
-returns-in_err-count-clause-stops g c told =
-    let a = c.args.allocator.now in
-    let b = c.loop-done.allocator in
-    let n = c.write_from.new.allocator in
-    let v = a.tables.version in
-    let ids = c.args.ids.now in
-    let bytes = c.args.bytes.now in
-    let done = c.loop-done.done in
-    let inv = c.loop-done.invariant in
-    let rest = rest_size bytes done in
-    let left = length (rest_of bytes done) in
-    let same : b.tables.version ≡ v = ap (λ (t : TableState). t.version) inv.tables in
-    let change = subst (λ (m : ℕ). ChangesOnlyRun v ids m left b.file.bytes n.file.bytes) inv.place
-    (subst (λ (u : Version). ChangesOnlyRun u ids (c.loop-done.index * sector_len u + c.loop-done.offset) left b.file.bytes n.file.bytes) same (c.write_from.ensures.others told)) in
-    all_err c.from_residual.result
-    (stops_here v ids c.args.at done left bytes a.file.bytes b.file.bytes n.file.bytes (omega (arith, rest, c.loop-done-test.true)) (omega (arith, rest, inv.within))
-    (λ k low. (c.requires.placed k low).0) (inv.others told) (inv.put told) change)
-
-pub returns-in_err-count-clause-spares : goal.returns-in_err-count-clause-spares
-returns-in_err-count-clause-spares g c told =
-    let ids = c.args.ids.now in
-    spares-then ids ids c.args.allocator.now c.loop-done.allocator c.write_from.new.allocator (λ i m. inr m) (c.loop-done.invariant.spares told) (c.write_from.ensures.spares told)
+pub returns-in_err-count-clause-writes : goal.returns-in_err-count-clause-writes
+returns-in_err-count-clause-writes g c = record {
+  kept = first_of (search rules, grind (arith, common_steps));
+  spares = λ told. (
+      let ids = c.args.ids.now in
+      spares-then ids ids c.args.allocator.now c.loop-done.allocator c.write_from.new.allocator (λ i m. inr m) (c.loop-done.invariant.spares told) (c.write_from.ensures.writes.spares told)
+  );
+  holds = first_of (search rules, grind (arith, common_steps));
+  err = first_of (search rules, grind (arith, common_steps));
+}
 
 pub loop-done-preserved : goal.loop-done-preserved
 loop-done-preserved g c =
@@ -119,22 +130,22 @@ loop-done-preserved g c =
     let e = c.in_ok-count.ensures in
     let rest = rest_size bytes done in
     let left = length (rest_of bytes done) in
-    let some = e.some in
+    let some = e.run.some in
     let few : done + count ≤ length bytes = omega (arith, some.1, rest, inv.within) in
     let same : b.tables.version ≡ v = ap (λ (t : TableState). t.version) inv.tables in
     let is = c.sector_len-sector_len.ensures in
     let longest = subst (λ (m : ℕ). IsLongestRun v ids m left count) inv.place
-    (subst (λ (u : Version). IsLongestRun u ids (c.loop-done.index * sector_len u + c.loop-done.offset) left count) same e.count) in
+    (subst (λ (u : Version). IsLongestRun u ids (c.loop-done.index * sector_len u + c.loop-done.offset) left count) same e.run.longest) in
     let place : place_along b.tables.version ids (c.loop-done.index * sector_len b.tables.version + c.loop-done.offset) ≡ place_along v ids (c.args.at + done) =
     (λ j. place_along (same j) ids (c.loop-done.index * sector_len (same j) + c.loop-done.offset)) ∙ ap (place_along v ids) inv.place in
     let put : IsTrue g.F.ReadMedium.tells → n.file.bytes ≡ written b.file.bytes (place_along v ids (c.args.at + done)) (take count (rest_of bytes done)) =
-    λ told. ap (λ (f : SectorFile). f.bytes) (e.ok told) ∙ ap (λ p. written b.file.bytes p (take count (rest_of bytes done))) place in
+    λ told. ap (λ (f : SectorFile). f.bytes) (e.run.done told) ∙ ap (λ p. written b.file.bytes p (take count (rest_of bytes done))) place in
     record {
       within = few;
       place = next_place v c.loop-done.index c.loop-done.offset c.args.at done count c.sector_len-sector_len.result is inv.place;
       short = rest_short v (c.loop-done.offset + count) c.sector_len-sector_len.result is;
-      tables = e.kept.tables ∙ inv.tables;
-      file = kept_after n.file b.file a.file e.kept.file inv.file;
+      tables = e.writes.kept.tables ∙ inv.tables;
+      file = kept_after n.file b.file a.file e.writes.kept.file inv.file;
       put = λ told once.
           run_more v ids c.args.at done count (slice_index bytes) (take count (rest_of bytes done)) b.file.bytes n.file.bytes once
           (λ k low. (c.requires.placed k (omega (arith, low, few))).0) longest.run (rest_long bytes done count few inv.within) (λ j low. rest_at bytes done count j low few)
@@ -142,16 +153,22 @@ loop-done-preserved g c =
       others = λ told.
           only_more (place_along v ids) c.args.at done count a.file.bytes b.file.bytes n.file.bytes (inv.others told)
           (run_only v ids (c.args.at + done) count (take count (rest_of bytes done)) b.file.bytes n.file.bytes longest.run (rest_long bytes done count few inv.within) (put told));
-      spares = λ told. spares-then ids ids a b n (λ i m. inr m) (inv.spares told) (e.spares told);
-      holds = λ told validation h free. e.holds told validation (inv.holds told validation h free)
+      spares = λ told. spares-then ids ids a b n (λ i m. inr m) (inv.spares told) (e.writes.spares told);
+      holds = λ told validation h free. e.writes.holds told validation (inv.holds told validation h free)
           (subst (λ (t : TableState). AreDisjoint ids (table_sectors t)) (sym inv.tables) free);
       begun = (λ was. e.begun, λ some. e.begun);
       none = λ zero. absurd (omega (arith, zero, some.0));
-      counts = λ told. e.counts told ∙ inv.counts told;
+      counts = λ told. e.run.counts told ∙ inv.counts told;
     }
 
-pub returns-clause-others : goal.returns-clause-others
-returns-clause-others g c told =
-    let inv = c.loop-done.invariant in
-    subst (λ m. ChangesOnlyPlaces (place_along c.args.allocator.now.tables.version c.args.ids.now) c.args.at m c.args.allocator.now.file.bytes c.loop-done.allocator.file.bytes)
-    (omega (arith, inv.within, c.loop-done-test.false)) (inv.others told)
+pub returns-clause-along : goal.returns-clause-along
+returns-clause-along g c = record {
+  put = first_of (search rules, grind (arith, common_steps));
+  others = λ told. (
+      let inv = c.loop-done.invariant in
+      subst (λ m. ChangesOnlyPlaces (place_along c.args.allocator.now.tables.version c.args.ids.now) c.args.at m c.args.allocator.now.file.bytes c.loop-done.allocator.file.bytes)
+      (omega (arith, inv.within, c.loop-done-test.false)) (inv.others told)
+  );
+  stops = first_of (search rules, grind (arith, common_steps));
+  counts = first_of (search rules, grind (arith, common_steps));
+}

@@ -1,4 +1,5 @@
-use Rattle.std.proofs.Common.{◌≡◌, ◌≤◌, ◌<◌, ◌+◌, ◌-◌, ◌/◌, inr, ℕ, refl, sym, ◌∙◌, ap, subst, arith, inl, length, replicate}
+use Rattle.std.proofs.lemmas.Grind.{common_steps}
+use Rattle.std.proofs.Common.{◌≡◌, ◌≤◌, ◌<◌, ◌+◌, ◌-◌, ◌/◌, inr, ℕ, refl, sym, ◌∙◌, ap, subst, arith, inl, length, replicate, rules}
 use Rattle.std.specs.Prelude.{IsTrue, slice_index}
 use Rattle.std.proofs.lemmas.Bool.{cases_lt}
 use Rattle.std.proofs.lemmas.List.{get_or-replicate, length-replicate}
@@ -53,57 +54,67 @@ zero_run-requires-clause-known g c =
     subst (λ (t : TableState). (k : ℕ) → k < c.min-wanted.result → (c.loop-at.at + k) / sector_len t.version < length ids → slice_index ids ((c.loop-at.at + k) / sector_len t.version) < length t.fat)
     (sym inv.tables) (λ k low there. (c.requires.placed (c.loop-at.at + k) (omega (arith, inv.behind)) (omega (arith, low, room, c.loop-at-test.true))).1)
 
-pub returns-in_err-count-clause-others : goal.returns-in_err-count-clause-others
-returns-in_err-count-clause-others g c told =
-    let a = c.args.allocator.now in
-    let b = c.loop-at.allocator in
-    let n = c.zero_run.new.allocator in
-    let v = a.tables.version in
-    let ids = c.args.ids.now in
-    let from = c.args.from in
-    let to = c.args.to in
-    let at = c.loop-at.at in
-    let wanted = c.min-wanted.result in
-    let inv = c.loop-at.invariant in
-    let room = c.min-wanted.ensures in
-    let few : at + wanted ≤ to = omega (arith, room, c.loop-at-test.true) in
-    let same : b.tables.version ≡ v = ap (λ (t : TableState). t.version) inv.tables in
-    let change = subst (λ (u : Version). ChangesOnlyRun u ids at wanted b.file.bytes n.file.bytes) same (c.zero_run.ensures.others told) in
-    only_then (place_along v ids) from (to - from) at wanted a.file.bytes b.file.bytes n.file.bytes inv.behind (omega (arith, few, inv.behind))
-    (only_then (place_along v ids) from (to - from) from (at - from) a.file.bytes a.file.bytes b.file.bytes (omega arith) (omega (arith, few, inv.behind))
-    (only_refl (place_along v ids) from (to - from) a.file.bytes) (inv.others told))
-    (only_run v ids at wanted b.file.bytes n.file.bytes change)
+pub returns-in_err-count-clause-along : goal.returns-in_err-count-clause-along
+returns-in_err-count-clause-along g c = record {
+  put = first_of (search rules, grind (arith, common_steps));
+  others = λ told. (
+      let a = c.args.allocator.now in
+      let b = c.loop-at.allocator in
+      let n = c.zero_run.new.allocator in
+      let v = a.tables.version in
+      let ids = c.args.ids.now in
+      let from = c.args.from in
+      let to = c.args.to in
+      let at = c.loop-at.at in
+      let wanted = c.min-wanted.result in
+      let inv = c.loop-at.invariant in
+      let room = c.min-wanted.ensures in
+      let few : at + wanted ≤ to = omega (arith, room, c.loop-at-test.true) in
+      let same : b.tables.version ≡ v = ap (λ (t : TableState). t.version) inv.tables in
+      let change = subst (λ (u : Version). ChangesOnlyRun u ids at wanted b.file.bytes n.file.bytes) same (c.zero_run.ensures.run.others told) in
+      only_then (place_along v ids) from (to - from) at wanted a.file.bytes b.file.bytes n.file.bytes inv.behind (omega (arith, few, inv.behind))
+      (only_then (place_along v ids) from (to - from) from (at - from) a.file.bytes a.file.bytes b.file.bytes (omega arith) (omega (arith, few, inv.behind))
+      (only_refl (place_along v ids) from (to - from) a.file.bytes) (inv.others told))
+      (only_run v ids at wanted b.file.bytes n.file.bytes change)
+  );
+  stops = λ told. (
+      let a = c.args.allocator.now in
+      let b = c.loop-at.allocator in
+      let n = c.zero_run.new.allocator in
+      let v = a.tables.version in
+      let ids = c.args.ids.now in
+      let from = c.args.from in
+      let to = c.args.to in
+      let at = c.loop-at.at in
+      let wanted = c.min-wanted.result in
+      let inv = c.loop-at.invariant in
+      let room = c.min-wanted.ensures in
+      let few : at + wanted ≤ to = omega (arith, room, c.loop-at-test.true) in
+      let done : from + (at - from) ≡ at = omega (arith, inv.behind) in
+      let size = length-replicate {A = ℕ} (to - from) 0 in
+      let same : b.tables.version ≡ v = ap (λ (t : TableState). t.version) inv.tables in
+      let change = subst (λ (u : Version). ChangesOnlyRun u ids at wanted b.file.bytes n.file.bytes) same (c.zero_run.ensures.run.others told) in
+      all_err c.from_residual.result
+      (stops_here v ids from (at - from) wanted (replicate (to - from) 0) a.file.bytes b.file.bytes n.file.bytes (omega (arith, room, c.loop-at-test.true))
+      (omega (arith, size, few, inv.behind)) (λ k low. (c.requires.placed (from + k) (omega arith) (omega (arith, low, size))).0) (inv.others told)
+      (λ once k low.
+      let s = inv.put told once k low in
+      (s.0, s.1 ∙ sym (get_or-replicate (to - from) k 0 0 (omega (arith, low, few, inv.behind)))))
+      (subst (λ m. ChangesOnlyRun v ids m wanted b.file.bytes n.file.bytes) (sym done) change))
+  );
+  counts = first_of (search rules, grind (arith, common_steps));
+}
 
-pub returns-in_err-count-clause-stops : goal.returns-in_err-count-clause-stops
-returns-in_err-count-clause-stops g c told =
-    let a = c.args.allocator.now in
-    let b = c.loop-at.allocator in
-    let n = c.zero_run.new.allocator in
-    let v = a.tables.version in
-    let ids = c.args.ids.now in
-    let from = c.args.from in
-    let to = c.args.to in
-    let at = c.loop-at.at in
-    let wanted = c.min-wanted.result in
-    let inv = c.loop-at.invariant in
-    let room = c.min-wanted.ensures in
-    let few : at + wanted ≤ to = omega (arith, room, c.loop-at-test.true) in
-    let done : from + (at - from) ≡ at = omega (arith, inv.behind) in
-    let size = length-replicate {A = ℕ} (to - from) 0 in
-    let same : b.tables.version ≡ v = ap (λ (t : TableState). t.version) inv.tables in
-    let change = subst (λ (u : Version). ChangesOnlyRun u ids at wanted b.file.bytes n.file.bytes) same (c.zero_run.ensures.others told) in
-    all_err c.from_residual.result
-    (stops_here v ids from (at - from) wanted (replicate (to - from) 0) a.file.bytes b.file.bytes n.file.bytes (omega (arith, room, c.loop-at-test.true))
-    (omega (arith, size, few, inv.behind)) (λ k low. (c.requires.placed (from + k) (omega arith) (omega (arith, low, size))).0) (inv.others told)
-    (λ once k low.
-    let s = inv.put told once k low in
-    (s.0, s.1 ∙ sym (get_or-replicate (to - from) k 0 0 (omega (arith, low, few, inv.behind)))))
-    (subst (λ m. ChangesOnlyRun v ids m wanted b.file.bytes n.file.bytes) (sym done) change))
-
-pub returns-in_err-count-clause-spares : goal.returns-in_err-count-clause-spares
-returns-in_err-count-clause-spares g c told =
-    let ids = c.args.ids.now in
-    spares-then ids ids c.args.allocator.now c.loop-at.allocator c.zero_run.new.allocator (λ i m. inr m) (c.loop-at.invariant.spares told) (c.zero_run.ensures.spares told)
+pub returns-in_err-count-clause-writes : goal.returns-in_err-count-clause-writes
+returns-in_err-count-clause-writes g c = record {
+  kept = first_of (search rules, grind (arith, common_steps));
+  spares = λ told. (
+      let ids = c.args.ids.now in
+      spares-then ids ids c.args.allocator.now c.loop-at.allocator c.zero_run.new.allocator (λ i m. inr m) (c.loop-at.invariant.spares told) (c.zero_run.ensures.writes.spares told)
+  );
+  holds = first_of (search rules, grind (arith, common_steps));
+  err = first_of (search rules, grind (arith, common_steps));
+}
 
 pub loop-at-preserved : goal.loop-at-preserved
 loop-at-preserved g c =
@@ -122,22 +133,22 @@ loop-at-preserved g c =
     let e = c.in_ok-count.ensures in
     let room = c.min-wanted.ensures in
     let behind = inv.behind in
-    let some = e.some in
+    let some = e.run.some in
     let few : at + wanted ≤ to = omega (arith, room, lt) in
     let less : at + count ≤ to = omega (arith, few, some.1) in
     let done : from + (at - from) ≡ at = omega (arith, behind) in
     let whole : at - from + count ≡ at + count - from = omega (arith, behind) in
     let same : b.tables.version ≡ v = ap (λ (t : TableState). t.version) inv.tables in
-    let longest = subst (λ (u : Version). IsLongestRun u ids at wanted count) same e.count in
+    let longest = subst (λ (u : Version). IsLongestRun u ids at wanted count) same e.run.longest in
     let run = subst (λ m. IsRun v ids m count) (sym done) longest.run in
     let put : IsTrue g.F.ReadMedium.tells → n.file.bytes ≡ written b.file.bytes (place_along v ids (from + (at - from))) (replicate count 0) =
-    λ told. ap (λ (f : SectorFile). f.bytes) (e.ok told) ∙ (λ j. written b.file.bytes (place_along (same j) ids (sym done j)) (replicate count 0)) in
+    λ told. ap (λ (f : SectorFile). f.bytes) (e.run.done told) ∙ (λ j. written b.file.bytes (place_along (same j) ids (sym done j)) (replicate count 0)) in
     record {
       behind = omega (arith, behind);
       within = λ ordered. less;
       still = λ none. absurd (omega (arith, none, behind, lt));
-      tables = e.kept.tables ∙ inv.tables;
-      file = kept_after n.file b.file a.file e.kept.file inv.file;
+      tables = e.writes.kept.tables ∙ inv.tables;
+      file = kept_after n.file b.file a.file e.writes.kept.file inv.file;
       put = λ told once.
           subst (λ m. StandsTo (place_along v ids) from (λ k. 0) m n.file.bytes) whole
           (run_more v ids from (at - from) count (λ k. 0) (replicate count 0) b.file.bytes n.file.bytes once
@@ -147,28 +158,32 @@ loop-at-preserved g c =
           subst (λ m. ChangesOnlyPlaces (place_along v ids) from m a.file.bytes n.file.bytes) whole
           (only_more (place_along v ids) from (at - from) count a.file.bytes b.file.bytes n.file.bytes (inv.others told)
           (run_only v ids (from + (at - from)) count (replicate count 0) b.file.bytes n.file.bytes run (length-replicate {A = ℕ} count 0) (put told)));
-      spares = λ told. spares-then ids ids a b n (λ i m. inr m) (inv.spares told) (e.spares told);
-      holds = λ told validation h free. e.holds told validation (inv.holds told validation h free)
+      spares = λ told. spares-then ids ids a b n (λ i m. inr m) (inv.spares told) (e.writes.spares told);
+      holds = λ told validation h free. e.writes.holds told validation (inv.holds told validation h free)
           (subst (λ (t : TableState). AreDisjoint ids (table_sectors t)) (sym inv.tables) free);
       begun = (λ was. e.begun, λ some. e.begun);
       none = λ zero. absurd (omega (arith, zero, some.0, behind));
-      counts = λ told. e.counts told ∙ inv.counts told;
+      counts = λ told. e.run.counts told ∙ inv.counts told;
     }
 
 pub returns-clause-none : goal.returns-clause-none
 returns-clause-none g c none = (tt, c.loop-at.invariant.none (c.loop-at.invariant.still none))
 
-pub returns-clause-put : goal.returns-clause-put
-returns-clause-put g c told once =
-    let past = c.loop-at-test.false in
-    zeros_stand (place_along c.args.allocator.now.tables.version c.args.ids.now) c.args.from (c.loop-at.at - c.args.from) (c.args.to - c.args.from) c.loop-at.allocator.file.bytes
-    (omega (arith, past)) (c.loop-at.invariant.put told once)
-
-pub returns-clause-others : goal.returns-clause-others
-returns-clause-others g c told =
-    let a = c.args.allocator.now in
-    let inv = c.loop-at.invariant in
-    let past = c.loop-at-test.false in
-    only_then (place_along a.tables.version c.args.ids.now) c.args.from (c.args.to - c.args.from) c.args.from (c.loop-at.at - c.args.from) a.file.bytes a.file.bytes
-    c.loop-at.allocator.file.bytes (omega arith) (within c.args.from c.args.to c.loop-at.at past inv.within inv.still)
-    (only_refl (place_along a.tables.version c.args.ids.now) c.args.from (c.args.to - c.args.from) a.file.bytes) (inv.others told)
+pub returns-clause-along : goal.returns-clause-along
+returns-clause-along g c = record {
+  put = λ told once. (
+      let past = c.loop-at-test.false in
+      zeros_stand (place_along c.args.allocator.now.tables.version c.args.ids.now) c.args.from (c.loop-at.at - c.args.from) (c.args.to - c.args.from) c.loop-at.allocator.file.bytes
+      (omega (arith, past)) (c.loop-at.invariant.put told once)
+  );
+  others = λ told. (
+      let a = c.args.allocator.now in
+      let inv = c.loop-at.invariant in
+      let past = c.loop-at-test.false in
+      only_then (place_along a.tables.version c.args.ids.now) c.args.from (c.args.to - c.args.from) c.args.from (c.loop-at.at - c.args.from) a.file.bytes a.file.bytes
+      c.loop-at.allocator.file.bytes (omega arith) (within c.args.from c.args.to c.loop-at.at past inv.within inv.still)
+      (only_refl (place_along a.tables.version c.args.ids.now) c.args.from (c.args.to - c.args.from) a.file.bytes) (inv.others told)
+  );
+  stops = first_of (search rules, grind (arith, common_steps));
+  counts = first_of (search rules, grind (arith, common_steps));
+}

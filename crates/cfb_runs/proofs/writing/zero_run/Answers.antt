@@ -1,4 +1,5 @@
-use Rattle.std.proofs.Common.{◌≡◌, ◌+◌, ℕ, List, ap, arith, length, max, subst, take, ◌∙◌}
+use Rattle.std.proofs.lemmas.Grind.{common_steps}
+use Rattle.std.proofs.Common.{◌≡◌, ◌+◌, ℕ, List, ap, arith, length, max, subst, take, ◌∙◌, rules}
 use Rattle.std.specs.Prelude.{true}
 use Rattle.std.proofs.lemmas.List.{length-replicate, take-replicate}
 use Rattle.cfb_format.specs.Medium.{written}
@@ -18,39 +19,49 @@ write_run-requires-clause-known g c k low =
     let long = length-replicate {A = ℕ} c.args.count 0 in
     c.requires.known k (omega (arith, size, long, low))
 
-pub returns-clause-count : goal.returns-clause-count
-returns-clause-count g c =
-    let a = c.args.allocator.now in
-    let size = ap (λ (xs : List ℕ). length xs) c.zeros-bytes.ensures ∙ length-replicate {A = ℕ} c.args.count 0 in
-    subst (λ (m : ℕ). IsLongestRun a.tables.version c.args.ids.now c.args.at m c.in_ok-done.done) size c.in_ok-done.ensures.count
+pub returns-clause-run : goal.returns-clause-run
+returns-clause-run g c = record {
+  longest = (
+      let a = c.args.allocator.now in
+      let size = ap (λ (xs : List ℕ). length xs) c.zeros-bytes.ensures ∙ length-replicate {A = ℕ} c.args.count 0 in
+      subst (λ (m : ℕ). IsLongestRun a.tables.version c.args.ids.now c.args.at m c.in_ok-done.done) size c.in_ok-done.ensures.run.longest
+  );
+  some = (
+      let size = ap (λ (xs : List ℕ). length xs) c.zeros-bytes.ensures in
+      let long = length-replicate {A = ℕ} c.args.count 0 in
+      let some = c.in_ok-done.ensures.run.some in
+      (some.0, omega (arith, size, long, some.1))
+  );
+  done = λ told. (
+      let a = c.args.allocator.now in
+      let p = place_along a.tables.version c.args.ids.now c.args.at in
+      let n = c.in_ok-done.done in
+      let size = ap (λ (xs : List ℕ). length xs) c.zeros-bytes.ensures in
+      let long = length-replicate {A = ℕ} c.args.count 0 in
+      let some = c.in_ok-done.ensures.run.some in
+      let are = ap (λ (xs : List ℕ). take n xs) c.zeros-bytes.ensures ∙ take-replicate n c.args.count 0 (omega (arith, size, long, some.1)) in
+      subst (λ (xs : List ℕ). c.write_run.new.allocator.file ≡ record a.file { bytes = written a.file.bytes p xs; len = max a.file.len (p + n); begun = true }) are
+      (c.in_ok-done.ensures.run.done told)
+  );
+  len = first_of (search rules, grind (arith, common_steps));
+  others = λ told. (
+      let a = c.args.allocator.now in
+      let size = ap (λ (xs : List ℕ). length xs) c.zeros-bytes.ensures ∙ length-replicate {A = ℕ} c.args.count 0 in
+      subst (λ (m : ℕ). ChangesOnlyRun a.tables.version c.args.ids.now c.args.at m a.file.bytes c.write_run.new.allocator.file.bytes) size (c.write_run.ensures.run.others told)
+  );
+  counts = first_of (search rules, grind (arith, common_steps));
+}
 
-pub returns-clause-some : goal.returns-clause-some
-returns-clause-some g c =
-    let size = ap (λ (xs : List ℕ). length xs) c.zeros-bytes.ensures in
-    let long = length-replicate {A = ℕ} c.args.count 0 in
-    let some = c.in_ok-done.ensures.some in
-    (some.0, omega (arith, size, long, some.1))
-
-pub returns-clause-ok : goal.returns-clause-ok
-returns-clause-ok g c told =
-    let a = c.args.allocator.now in
-    let p = place_along a.tables.version c.args.ids.now c.args.at in
-    let n = c.in_ok-done.done in
-    let size = ap (λ (xs : List ℕ). length xs) c.zeros-bytes.ensures in
-    let long = length-replicate {A = ℕ} c.args.count 0 in
-    let some = c.in_ok-done.ensures.some in
-    let are = ap (λ (xs : List ℕ). take n xs) c.zeros-bytes.ensures ∙ take-replicate n c.args.count 0 (omega (arith, size, long, some.1)) in
-    subst (λ (xs : List ℕ). c.write_run.new.allocator.file ≡ record a.file { bytes = written a.file.bytes p xs; len = max a.file.len (p + n); begun = true }) are
-    (c.in_ok-done.ensures.ok told)
-
-pub returns-in_err-done-clause-others : goal.returns-in_err-done-clause-others
-returns-in_err-done-clause-others g c told =
-    let a = c.args.allocator.now in
-    let size = ap (λ (xs : List ℕ). length xs) c.zeros-bytes.ensures ∙ length-replicate {A = ℕ} c.args.count 0 in
-    subst (λ (m : ℕ). ChangesOnlyRun a.tables.version c.args.ids.now c.args.at m a.file.bytes c.write_run.new.allocator.file.bytes) size (c.write_run.ensures.others told)
-
-pub returns-clause-others : goal.returns-clause-others
-returns-clause-others g c told =
-    let a = c.args.allocator.now in
-    let size = ap (λ (xs : List ℕ). length xs) c.zeros-bytes.ensures ∙ length-replicate {A = ℕ} c.args.count 0 in
-    subst (λ (m : ℕ). ChangesOnlyRun a.tables.version c.args.ids.now c.args.at m a.file.bytes c.write_run.new.allocator.file.bytes) size (c.write_run.ensures.others told)
+pub returns-in_err-done-clause-run : goal.returns-in_err-done-clause-run
+returns-in_err-done-clause-run g c = record {
+  longest = first_of (search rules, grind (arith, common_steps));
+  some = first_of (search rules, grind (arith, common_steps));
+  done = first_of (search rules, grind (arith, common_steps));
+  len = first_of (search rules, grind (arith, common_steps));
+  others = λ told. (
+      let a = c.args.allocator.now in
+      let size = ap (λ (xs : List ℕ). length xs) c.zeros-bytes.ensures ∙ length-replicate {A = ℕ} c.args.count 0 in
+      subst (λ (m : ℕ). ChangesOnlyRun a.tables.version c.args.ids.now c.args.at m a.file.bytes c.write_run.new.allocator.file.bytes) size (c.write_run.ensures.run.others told)
+  );
+  counts = first_of (search rules, grind (arith, common_steps));
+}

@@ -1,4 +1,5 @@
-use Rattle.std.proofs.Common.{◌≡◌, ◌+◌, ◌++◌, inr, ℕ, List, ◌∷◌, drop, refl, sym, ◌∙◌, ap, subst, arith, add-one, get_or}
+use Rattle.std.proofs.lemmas.Grind.{common_steps}
+use Rattle.std.proofs.Common.{◌≡◌, ◌+◌, ◌++◌, inr, ℕ, List, ◌∷◌, drop, refl, sym, ◌∙◌, ap, subst, arith, add-one, get_or, rules}
 use Rattle.std.proofs.Math.Seq.{drop-cons}
 use Rattle.std.proofs.lemmas.List.{drop_all}
 use Rattle.std.proofs.lemmas.List.Elements.{Contains-get_or}
@@ -52,10 +53,10 @@ loop-number-preserved g c =
     let e = c.in_ok-write_entry.ensures in
     let v : b.tables.version ≡ a.tables.version = ap (λ (t : TableState). t.version) inv.tables in
     record {
-      tables = e.tables ∙ inv.tables;
-      kept = kept_after n.file b.file a.file e.kept inv.kept;
-      begun = (λ was. e.begun, λ some. e.begun);
-      holds = λ told validation h other. e.holds told validation (inv.holds told validation h other)
+      tables = e.among.tables ∙ inv.tables;
+      kept = kept_after n.file b.file a.file e.among.kept inv.kept;
+      begun = (λ was. e.puts.begun, λ some. e.puts.begun);
+      holds = λ told validation h other. e.among.holds told validation (inv.holds told validation h other)
           (λ j m. subst (λ (t : TableState). IsNoTableSector t j) (sym inv.tables) (other j m));
       slots = λ told validation late h valid whole once.
           let longer = (inv.others told).no_shorter in
@@ -69,21 +70,28 @@ loop-number-preserved g c =
           (subst (λ (w : Version). IsValidEntry w (entry_at es (get_or touched i 0))) (sym v) (valid (get_or touched i 0) member))
           (subst (λ (w : Version). HasSectors w b.file.bytes sectors) (sym v) (λ s m. let w = whole s m in omega (arith, w, longer)))
           once);
-      spares = λ told. spares-then sectors sectors a b n (λ j m. inr m) (inv.spares told) (e.spares told);
-      others = λ told. slots_after touched i c.loop-number-test.true v sectors (inv.others told) (e.others told);
-      counts = λ told. e.counts told ∙ inv.counts told;
+      spares = λ told. spares-then sectors sectors a b n (λ j m. inr m) (inv.spares told) (e.among.spares told);
+      others = λ told. slots_after touched i c.loop-number-test.true v sectors (inv.others told) (e.puts.others told);
+      counts = λ told. e.among.counts told ∙ inv.counts told;
     }
 
-pub returns-in_err-write_entry-clause-spares : goal.returns-in_err-write_entry-clause-spares
-returns-in_err-write_entry-clause-spares g c told =
-    let s = c.args.sectors.now in
-    spares-then s s c.args.allocator.now c.loop-number.allocator c.write_entry.new.allocator (λ j m. inr m) (c.loop-number.invariant.spares told) (c.write_entry.ensures.spares told)
+pub returns-in_err-write_entry-clause-among : goal.returns-in_err-write_entry-clause-among
+returns-in_err-write_entry-clause-among g c = record {
+  tables = first_of (search rules, grind (arith, common_steps));
+  kept = first_of (search rules, grind (arith, common_steps));
+  holds = first_of (search rules, grind (arith, common_steps));
+  spares = λ told. (
+      let s = c.args.sectors.now in
+      spares-then s s c.args.allocator.now c.loop-number.allocator c.write_entry.new.allocator (λ j m. inr m) (c.loop-number.invariant.spares told) (c.write_entry.ensures.among.spares told)
+  );
+  counts = first_of (search rules, grind (arith, common_steps));
+}
 
 pub returns-in_err-write_entry-clause-others : goal.returns-in_err-write_entry-clause-others
 returns-in_err-write_entry-clause-others g c told =
     let inv = c.loop-number.invariant in
     slots_after c.args.touched.now c.loop-number.number-index c.loop-number-test.true (ap (λ (t : TableState). t.version) inv.tables) c.args.sectors.now
-    (inv.others told) (c.write_entry.ensures.others told)
+    (inv.others told) (c.write_entry.ensures.puts.others told)
 
 pub returns-clause-slots : goal.returns-clause-slots
 returns-clause-slots g c told validation late h valid whole once =

@@ -1,4 +1,5 @@
-use Rattle.std.proofs.Common.{◌≡◌, ◌<◌, ◌≤◌, ◌+◌, ◌*◌, ◌/◌, ◌%◌, inl, inr, ℕ, List, [], length, sym, ◌∙◌, ap, subst, arith}
+use Rattle.std.proofs.lemmas.Grind.{common_steps}
+use Rattle.std.proofs.Common.{◌≡◌, ◌<◌, ◌≤◌, ◌+◌, ◌*◌, ◌/◌, ◌%◌, inl, inr, ℕ, List, [], length, sym, ◌∙◌, ap, subst, arith, rules}
 use Rattle.std.specs.Prelude.{slice_index, Contains}
 use Rattle.std.proofs.lemmas.List.{length-map}
 use Rattle.cfb_format.specs.Bytes.{entries_per_sector, sector_start}
@@ -32,16 +33,37 @@ write_slot-requires-clause-there g c =
     subst (λ n. slice_index sectors (c.args.number / n) < length a.tables.fat) (sym per)
     (c.requires.places.within _ (slot_member a.tables.version sectors c.args.number (omega (arith, slots, inside))))
 
-pub returns-clause-holds : goal.returns-clause-holds
-returns-clause-holds g c told validation h free =
-    let a = c.args.allocator.now in
-    let sectors = c.args.sectors.now in
-    let per = c.dir_entries_per_sector-per.ensures ∙ ap entries_per_sector c.version.ensures in
-    let slots = c.requires.places.slots in
-    let inside = c.requires.inside in
-    c.write_slot.ensures.holds told validation h
-    (subst (λ n. IsNoTableSector a.tables (slice_index sectors (c.args.number / n))) (sym per)
-    (free _ (slot_member a.tables.version sectors c.args.number (omega (arith, slots, inside)))))
+pub returns-clause-among : goal.returns-clause-among
+returns-clause-among g c = record {
+  tables = first_of (search rules, grind (arith, common_steps));
+  kept = first_of (search rules, grind (arith, common_steps));
+  holds = λ told validation h free. (
+      let a = c.args.allocator.now in
+      let sectors = c.args.sectors.now in
+      let per = c.dir_entries_per_sector-per.ensures ∙ ap entries_per_sector c.version.ensures in
+      let slots = c.requires.places.slots in
+      let inside = c.requires.inside in
+      c.write_slot.ensures.holds told validation h
+      (subst (λ n. IsNoTableSector a.tables (slice_index sectors (c.args.number / n))) (sym per)
+      (free _ (slot_member a.tables.version sectors c.args.number (omega (arith, slots, inside)))))
+  );
+  spares = λ told. (
+      let a = c.args.allocator.now in
+      let sectors = c.args.sectors.now in
+      let per = c.dir_entries_per_sector-per.ensures ∙ ap entries_per_sector c.version.ensures in
+      let slots = c.requires.places.slots in
+      let inside = c.requires.inside in
+      let member = subst (λ n. Contains sectors (slice_index sectors (c.args.number / n))) (sym per)
+      (slot_member a.tables.version sectors c.args.number (omega (arith, slots, inside))) in
+      spares-less _ sectors a c.write_slot.new.allocator
+      (λ i m. elim (Contains-cases (slice_index sectors (c.args.number / c.dir_entries_per_sector-per.result)) [] i m) [
+        | inl e ↦ subst (λ j. Contains sectors j) e member
+        | inr r ↦ absurd (Contains-nil i r)
+      ])
+      (c.write_slot.ensures.writes.spares told)
+  );
+  counts = first_of (search rules, grind (arith, common_steps));
+}
 
 pub returns-clause-slots : goal.returns-clause-slots
 returns-clause-slots g c told validation late h valid whole once =
@@ -62,30 +84,20 @@ returns-clause-slots g c told validation late h valid whole once =
     ≡ written a.file.bytes (slot_place v sectors k) slot =
     ap (λ n. written a.file.bytes (sector_start v (slice_index sectors (k / n)) + k % n * 128) slot) per in
     let after = slot_written validation v a.file.bytes sectors es late k slot once whole (omega (arith, inside, listed)) c.write_to.array_long accepts h in
-    on_ok _ _ c.write_slot.result (λ is. subst (λ (b : List ℕ). HoldSlotsBut late validation v b sectors es) (sym (is ∙ there)) after) (c.write_slot.ensures.ok told)
+    on_ok _ _ c.write_slot.result (λ is. subst (λ (b : List ℕ). HoldSlotsBut late validation v b sectors es) (sym (is ∙ there)) after) (c.write_slot.ensures.writes.done told)
 
-pub returns-clause-spares : goal.returns-clause-spares
-returns-clause-spares g c told =
-    let a = c.args.allocator.now in
-    let sectors = c.args.sectors.now in
-    let per = c.dir_entries_per_sector-per.ensures ∙ ap entries_per_sector c.version.ensures in
-    let slots = c.requires.places.slots in
-    let inside = c.requires.inside in
-    let member = subst (λ n. Contains sectors (slice_index sectors (c.args.number / n))) (sym per)
-    (slot_member a.tables.version sectors c.args.number (omega (arith, slots, inside))) in
-    spares-less _ sectors a c.write_slot.new.allocator
-    (λ i m. elim (Contains-cases (slice_index sectors (c.args.number / c.dir_entries_per_sector-per.result)) [] i m) [
-      | inl e ↦ subst (λ j. Contains sectors j) e member
-      | inr r ↦ absurd (Contains-nil i r)
-    ])
-    (c.write_slot.ensures.spares told)
-
-pub returns-clause-others : goal.returns-clause-others
-returns-clause-others g c told =
-    let a = c.args.allocator.now in
-    let sectors = c.args.sectors.now in
-    let k = c.args.number in
-    let per = c.dir_entries_per_sector-per.ensures ∙ ap entries_per_sector c.version.ensures in
-    one_slot a.tables.version sectors a.file.bytes c.write_slot.new.allocator.file.bytes k
-    (subst (λ n. ChangesOnlyBytes (sector_start a.tables.version (slice_index sectors (k / n)) + k % n * 128) 128 a.file.bytes c.write_slot.new.allocator.file.bytes) per
-    (c.write_slot.ensures.others told))
+pub returns-clause-puts : goal.returns-clause-puts
+returns-clause-puts g c = record {
+  done = first_of (search rules, grind (arith, common_steps));
+  begun = first_of (search rules, grind (arith, common_steps));
+  err = first_of (search rules, grind (arith, common_steps));
+  others = λ told. (
+      let a = c.args.allocator.now in
+      let sectors = c.args.sectors.now in
+      let k = c.args.number in
+      let per = c.dir_entries_per_sector-per.ensures ∙ ap entries_per_sector c.version.ensures in
+      one_slot a.tables.version sectors a.file.bytes c.write_slot.new.allocator.file.bytes k
+      (subst (λ n. ChangesOnlyBytes (sector_start a.tables.version (slice_index sectors (k / n)) + k % n * 128) 128 a.file.bytes c.write_slot.new.allocator.file.bytes) per
+      (c.write_slot.ensures.writes.others told))
+  );
+}

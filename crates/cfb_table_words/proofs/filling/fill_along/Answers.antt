@@ -1,4 +1,5 @@
-use Rattle.std.proofs.Common.{◌≡◌, ◌≤◌, ◌<◌, ◌+◌, ◌-◌, ◌*◌, ◌/◌, ◌%◌, refl, sym, ◌∙◌, ap, subst, arith, length, take, drop}
+use Rattle.std.proofs.lemmas.Grind.{common_steps}
+use Rattle.std.proofs.Common.{◌≡◌, ◌≤◌, ◌<◌, ◌+◌, ◌-◌, ◌*◌, ◌/◌, ◌%◌, refl, sym, ◌∙◌, ap, subst, arith, length, take, drop, rules}
 use Rattle.std.specs.Prelude.{slice_index}
 use Rattle.std.proofs.lemmas.List.{drop-drop}
 use Rattle.cfb_format.specs.declared.version.Version.{Version}
@@ -63,18 +64,24 @@ put_run-requires-clause-below g c i m =
     let lt = c.requires.below i m in
     omega (arith, lt, same)
 
-pub returns-in_err-count-clause-changes : goal.returns-in_err-count-clause-changes
-returns-in_err-count-clause-changes g c told =
-    let old = c.args.sectors.now in
-    let l = c.loop-index in
-    let ids = c.args.numbers.now in
-    let same = ap (λ (f : SectorFile). f.version) l.invariant.kept in
-    changes_trans ids old.version old.bytes l.sectors.bytes c.put_run.new.sectors.bytes (l.invariant.changes told)
-    (subst (λ (v : Version). ChangesSectors ids v l.sectors.bytes c.put_run.new.sectors.bytes) same (c.put_run.ensures.changes told))
-
-pub returns-in_err-count-clause-front : goal.returns-in_err-count-clause-front
-returns-in_err-count-clause-front g c told =
-    Stays_trans 0 512 c.args.sectors.now.bytes c.loop-index.sectors.bytes c.put_run.new.sectors.bytes (c.loop-index.invariant.front told) (c.put_run.ensures.front told)
+pub returns-in_err-count-clause-fills : goal.returns-in_err-count-clause-fills
+returns-in_err-count-clause-fills g c = record {
+  kept = first_of (search rules, grind (arith, common_steps));
+  measured = first_of (search rules, grind (arith, common_steps));
+  changes = λ told. (
+      let old = c.args.sectors.now in
+      let l = c.loop-index in
+      let ids = c.args.numbers.now in
+      let same = ap (λ (f : SectorFile). f.version) l.invariant.kept in
+      changes_trans ids old.version old.bytes l.sectors.bytes c.put_run.new.sectors.bytes (l.invariant.changes told)
+      (subst (λ (v : Version). ChangesSectors ids v l.sectors.bytes c.put_run.new.sectors.bytes) same (c.put_run.ensures.writes.changes told))
+  );
+  front = λ told. Stays_trans 0 512 c.args.sectors.now.bytes c.loop-index.sectors.bytes c.put_run.new.sectors.bytes (c.loop-index.invariant.front told) (c.put_run.ensures.writes.front told);
+  raised = first_of (search rules, grind (arith, common_steps));
+  err = first_of (search rules, grind (arith, common_steps));
+  begun = first_of (search rules, grind (arith, common_steps));
+  counts = first_of (search rules, grind (arith, common_steps));
+}
 
 pub loop-index-preserved : goal.loop-index-preserved
 loop-index-preserved g c =
@@ -94,19 +101,19 @@ loop-index-preserved g c =
     let q = (l.index + (l.offset + n) / len) * sector_len v + (l.offset + n) % len in
     let same : l.sectors.version ≡ v = ap (λ (f : SectorFile). f.version) l.invariant.kept in
     let longest : IsLongestRun v ids p (length piece) n =
-    subst (λ (u : Version). IsLongestRun u ids (l.index * sector_len u + l.offset) (length piece) n) same e.longest in
+    subst (λ (u : Version). IsLongestRun u ids (l.index * sector_len u + l.offset) (length piece) n) same e.run.longest in
     let zero : p ≡ 0 + p = omega arith in
     let back : 0 + (p + n) ≡ p + n = omega arith in
     let next : q ≡ p + n = next_place v l.index l.offset 0 p n len is zero ∙ back in
-    let some = e.some in
-    let last = longest.run.listed (n - 1) (omega (arith, e.some.0)) in
+    let some = e.run.few in
+    let last = longest.run.listed (n - 1) (omega (arith, e.run.few.0)) in
     record {
-      within = subst (λ m. l.index + (l.offset + n) / m ≤ length ids) (sym is) (subst (λ (u : Version). l.index + (l.offset + n) / sector_len u ≤ length ids) same e.next);
+      within = subst (λ m. l.index + (l.offset + n) / m ≤ length ids) (sym is) (subst (λ (u : Version). l.index + (l.offset + n) / sector_len u ≤ length ids) same e.run.next);
       short = rest_short v (l.offset + n) len is;
       left = c.rest_behind-left.ensures ∙ ap (drop n) l.invariant.left ∙ drop-drop n p from ∙ ap (λ m. drop m from) (sym next);
-      kept = keeps_next old l.sectors new l.invariant.kept (keeps_begun l.sectors new c.put_run.ensures.kept);
-      raised = (λ up. ap (λ (f : SectorFile). f.begun) c.put_run.ensures.kept, λ some. ap (λ (f : SectorFile). f.begun) c.put_run.ensures.kept);
-      measured = λ told m. e.measured told (l.invariant.measured told m);
+      kept = keeps_next old l.sectors new l.invariant.kept (keeps_begun l.sectors new c.put_run.ensures.writes.kept);
+      raised = (λ up. ap (λ (f : SectorFile). f.begun) c.put_run.ensures.writes.kept, λ some. ap (λ (f : SectorFile). f.begun) c.put_run.ensures.writes.kept);
+      measured = λ told m. e.writes.measured told (l.invariant.measured told m);
       filled = λ told once.
           let put : new.bytes ≡ written l.sectors.bytes (place_along v ids (0 + p)) (take n piece) =
           e.ok told ∙ (λ j. written l.sectors.bytes (place_along (same j) ids (l.index * sector_len (same j) + l.offset)) (take n piece))
@@ -118,9 +125,9 @@ loop-index-preserved g c =
           (λ j low. piece_given v from fresh l.left.now piece l.index l.offset n j l.invariant.left c.next_piece-piece.ensures.given c.next_piece-piece.ensures.fresh c.requires.repeats some.1 low)
           put (l.invariant.filled told once));
       changes = λ told. changes_trans ids v old.bytes l.sectors.bytes new.bytes (l.invariant.changes told)
-          (subst (λ (u : Version). ChangesSectors ids u l.sectors.bytes new.bytes) same (c.put_run.ensures.changes told));
-      front = λ told. Stays_trans 0 512 old.bytes l.sectors.bytes new.bytes (l.invariant.front told) (c.put_run.ensures.front told);
-      calm = λ told. e.counts told ∙ l.invariant.calm told;
+          (subst (λ (u : Version). ChangesSectors ids u l.sectors.bytes new.bytes) same (c.put_run.ensures.writes.changes told));
+      front = λ told. Stays_trans 0 512 old.bytes l.sectors.bytes new.bytes (l.invariant.front told) (c.put_run.ensures.writes.front told);
+      calm = λ told. e.writes.counts told ∙ l.invariant.calm told;
     }
 
 pub returns-clause-filled : goal.returns-clause-filled
@@ -133,11 +140,21 @@ returns-clause-filled g c told once k low =
     subst (λ m. (place_along v ids m < length bytes) × (slice_index bytes (place_along v ids m) ≡ byte_given c.args.from.now c.args.fresh.now (sector_len v) k)) same
     (l.invariant.filled told once k (all_put v (length ids) l.index l.offset k c.loop-index-test.false low))
 
-pub returns-clause-raised : goal.returns-clause-raised
-returns-clause-raised g c =
-    let l = c.loop-index in
-    let raised = l.invariant.raised in
-    (raised.0, λ some. raised.1 (some_put c.args.sectors.now.version (length c.args.numbers.now) l.index l.offset c.loop-index-test.false some))
+pub returns-clause-fills : goal.returns-clause-fills
+returns-clause-fills g c = record {
+  kept = first_of (search rules, grind (arith, common_steps));
+  measured = first_of (search rules, grind (arith, common_steps));
+  changes = first_of (search rules, grind (arith, common_steps));
+  front = first_of (search rules, grind (arith, common_steps));
+  raised = (
+      let l = c.loop-index in
+      let raised = l.invariant.raised in
+      (raised.0, λ some. raised.1 (some_put c.args.sectors.now.version (length c.args.numbers.now) l.index l.offset c.loop-index-test.false some))
+  );
+  err = first_of (search rules, grind (arith, common_steps));
+  begun = first_of (search rules, grind (arith, common_steps));
+  counts = first_of (search rules, grind (arith, common_steps));
+}
 
 pub loop-index-smaller : goal.loop-index-smaller
 loop-index-smaller g c =
@@ -149,5 +166,5 @@ loop-index-smaller g c =
     let zero : p ≡ 0 + p = omega arith in
     let next = next_place v l.index l.offset 0 p n len c.sector_len-sector_len.ensures zero in
     let low = not_all_put v (length c.args.numbers.now) l.index l.offset c.loop-index-test.true l.invariant.short in
-    let some = c.in_ok-count.ensures.some in
+    let some = c.in_ok-count.ensures.run.few in
     omega (arith, next, low, some.0)

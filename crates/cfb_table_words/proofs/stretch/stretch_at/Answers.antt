@@ -4,7 +4,7 @@ use Rattle.cfb_table_words.proofs.stretch.stretch_at.Goals as goal
 pub returns-then-rising-falling-clause-all : goal.returns-then-rising-falling-clause-all
 returns-then-rising-falling-clause-all c =
     let e = c.count_consecutive-rising.ensures in
-    rising_all c.args.numbers.now c.args.index c.count_consecutive-rising.result e.listed e.follow
+    rising_all c.args.numbers.now c.args.index c.count_consecutive-rising.result e.run.listed e.run.follow
 
 pub returns-clause-all : goal.returns-clause-all
 returns-clause-all c =

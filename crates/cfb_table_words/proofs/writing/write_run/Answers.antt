@@ -13,8 +13,8 @@ use Rattle.cfb_table_words.proofs.writing.write_run.Goals as goal
 
 pub put_words_in-requires-clause-below : goal.put_words_in-requires-clause-below
 put_words_in-requires-clause-below g c i m =
-    let lt = c.requires.placed.fats i (subst (λ (l : List ℕ). Contains l i) c.fat_sectors.ensures m) in
-    omega (arith, lt, c.requires.placed.count)
+    let lt = c.requires.tables.placed.fats i (subst (λ (l : List ℕ). Contains l i) c.fat_sectors.ensures m) in
+    omega (arith, lt, c.requires.tables.placed.count)
 
 pub returns-clause-ok : goal.returns-clause-ok
 returns-clause-ok g c told validation before late but held =
@@ -25,7 +25,7 @@ returns-clause-ok g c told validation before late but held =
     let n = c.args.run.count in
     let some = c.requires.some in
     let more : suc (n - 1) ≡ n = omega (arith, some) in
-    let same : old.version ≡ t.version = c.requires.placed.same_version in
+    let same : old.version ≡ t.version = c.requires.tables.placed.same_version in
     let words : c.words_per_sector-words.result ≡ words_per_sector t.version =
     c.words_per_sector-words.ensures ∙ ap (λ (v : Version). words_per_sector v) (c.version.ensures ∙ same) in
     let home : sector_start old.version (slice_index c.fat_sectors.result.now (x / c.words_per_sector-words.result)) + 4 * (x % c.words_per_sector-words.result)

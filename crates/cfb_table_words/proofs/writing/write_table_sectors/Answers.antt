@@ -1,4 +1,5 @@
-use Rattle.std.proofs.Common.{arith, ap, ◌∙◌, sym, subst, ◌≡◌, ◌+◌, ◌-◌, ◌<◌, ◌≤◌, ◌++◌, ◌∷◌, inl, inr, max, ℕ, List, Bool, true, false, refl, length, take, drop, get_or, get_or-drop}
+use Rattle.std.proofs.lemmas.Grind.{common_steps}
+use Rattle.std.proofs.Common.{arith, ap, ◌∙◌, sym, subst, ◌≡◌, ◌+◌, ◌-◌, ◌<◌, ◌≤◌, ◌++◌, ◌∷◌, inl, inr, max, ℕ, List, Bool, true, false, refl, length, take, drop, get_or, get_or-drop, rules}
 use Rattle.std.specs.Prelude.{Contains, nat_lt, if◌then◌else◌}
 use Rattle.std.proofs.lemmas.Bool.{cases_eq, ltb-true, ltb-false}
 use Rattle.std.proofs.lemmas.List.{take_all, length-drop}
@@ -24,7 +25,7 @@ loop-index-init g c = record {
   kept = refl;
   raised = (λ up. up, λ (some : c.args.fats < c.args.fats). absurd (omega arith));
   from = omega arith;
-  counted = difats-suffice c.args.sectors.now.version c.args.fats c.args.difats c.requires.places;
+  counted = difats-suffice c.args.sectors.now.version c.args.fats c.args.difats c.requires.tables.places;
   listed = λ told validation l measured once apart. l;
   filled = λ told once apart k from below. absurd (omega (arith, from, below));
   measured = λ told m. m;
@@ -32,15 +33,22 @@ loop-index-init g c = record {
   calm = λ told. refl;
 }
 
-pub add_fat_sector-requires-clause-below : goal.add_fat_sector-requires-clause-below
-add_fat_sector-requires-clause-below g c i m =
-    let same = ap (λ (f : SectorFile). f.num_sectors) c.loop-index.invariant.kept in
-    omega (arith, c.requires.below i m, same)
+pub add_fat_sector-requires-clause-next : goal.add_fat_sector-requires-clause-next
+add_fat_sector-requires-clause-next g c = record {
+  short = first_of (search rules, grind (arith, common_steps));
+  begun = first_of (search rules, grind (arith, common_steps));
+  full = first_of (search rules, grind (arith, common_steps));
+  within = first_of (search rules, grind (arith, common_steps));
+  below = λ i m. (
+      let same = ap (λ (f : SectorFile). f.num_sectors) c.loop-index.invariant.kept in
+      omega (arith, c.requires.tables.below i m, same)
+  );
+}
 
 pub add_fat_sector-requires-clause-there : goal.add_fat_sector-requires-clause-there
 add_fat_sector-requires-clause-there g c =
     let same = ap (λ (f : SectorFile). f.num_sectors) c.loop-index.invariant.kept in
-    let lt = c.requires.there _ (Contains-get_or c.args.fat_sectors.now c.loop-index.index 0 c.loop-index-test.true) in
+    let lt = c.requires.tables.there _ (Contains-get_or c.args.fat_sectors.now c.loop-index.index 0 c.loop-index-test.true) in
     omega (arith, lt, same)
 
 -- a sector past the first ones
@@ -79,11 +87,18 @@ all_listed : (v : Version) (len k d n all : ℕ) → len ≤ k → all ≡ max d
 all_listed V3 len k d n all le a h = omega (arith, le, a, h)
 all_listed V4 len k d n all le a h = omega (arith, le, a, h)
 
-pub returns-in_err-listed-clause-changes : goal.returns-in_err-listed-clause-changes
-returns-in_err-listed-clause-changes g c told =
-    let l = c.loop-index in
-    change c.args.fat_sectors.now c.args.difat_sectors.now c.args.fats l.index c.args.sectors.now.version l.sectors.version c.args.sectors.now.bytes l.sectors.bytes c.add_fat_sector.new.sectors.bytes
-    l.invariant.from c.loop-index-test.true (ap (λ (f : SectorFile). f.version) l.invariant.kept) (l.invariant.changes told) (c.add_fat_sector.ensures.changes told)
+pub returns-in_err-listed-clause-writes : goal.returns-in_err-listed-clause-writes
+returns-in_err-listed-clause-writes g c = record {
+  kept = first_of (search rules, grind (arith, common_steps));
+  measured = first_of (search rules, grind (arith, common_steps));
+  changes = λ told. (
+      let l = c.loop-index in
+      change c.args.fat_sectors.now c.args.difat_sectors.now c.args.fats l.index c.args.sectors.now.version l.sectors.version c.args.sectors.now.bytes l.sectors.bytes c.add_fat_sector.new.sectors.bytes
+      l.invariant.from c.loop-index-test.true (ap (λ (f : SectorFile). f.version) l.invariant.kept) (l.invariant.changes told) (c.add_fat_sector.ensures.writes.changes told)
+  );
+  err = first_of (search rules, grind (arith, common_steps));
+  counts = first_of (search rules, grind (arith, common_steps));
+}
 
 pub loop-index-preserved : goal.loop-index-preserved
 loop-index-preserved g c =
@@ -96,8 +111,8 @@ loop-index-preserved g c =
     let same = ap (λ (f : SectorFile). f.version) l.invariant.kept in
     let n = c.in_ok-listed.listed in
     record {
-      kept = keeps_next old l.sectors new l.invariant.kept (keeps_begun l.sectors new c.add_fat_sector.ensures.kept);
-      raised = (λ up. ap (λ (f : SectorFile). f.begun) c.add_fat_sector.ensures.kept, λ some. ap (λ (f : SectorFile). f.begun) c.add_fat_sector.ensures.kept);
+      kept = keeps_next old l.sectors new l.invariant.kept (keeps_begun l.sectors new c.add_fat_sector.ensures.writes.kept);
+      raised = (λ up. ap (λ (f : SectorFile). f.begun) c.add_fat_sector.ensures.writes.kept, λ some. ap (λ (f : SectorFile). f.begun) c.add_fat_sector.ensures.writes.kept);
       from = let f = l.invariant.from in omega (arith, f);
       counted = c.in_ok-listed.ensures.answer ∙ ap (λ (u : Version). if nat_lt l.index (difat_places u l.listed) then l.listed else l.listed + 1) same
           ∙ counted_next v l.index c.args.difats l.listed l.invariant.counted;
@@ -112,7 +127,7 @@ loop-index-preserved g c =
             let low : k < l.index = omega (arith, below, ne) in
             let lt : k < length list = let t = c.loop-index-test.true in omega (arith, low, t) in
             let mine : Contains list (get_or list k 0) = Contains-get_or list k 0 lt in
-            let step = subst (λ (u : Version). ChangesSectors (get_or list l.index 0 ∷ own) u l.sectors.bytes new.bytes) same (c.add_fat_sector.ensures.changes told) in
+            let step = subst (λ (u : Version). ChangesSectors (get_or list l.index 0 ∷ own) u l.sectors.bytes new.bytes) same (c.add_fat_sector.ensures.writes.changes told) in
             stays_filled v Fat (get_or list k 0) l.sectors.bytes new.bytes
             (step.sectors (get_or list k 0) (λ m. elim (Contains-cases (get_or list l.index 0) own (get_or list k 0) m) [
               | inl e ↦ ne (place_once list once k l.index lt c.loop-index-test.true (sym e))
@@ -120,10 +135,10 @@ loop-index-preserved g c =
             ]))
             (l.invariant.filled told once apart k from low)
       ];
-      measured = λ told m. c.in_ok-listed.ensures.measured told (l.invariant.measured told m);
+      measured = λ told m. c.in_ok-listed.ensures.writes.measured told (l.invariant.measured told m);
       changes = λ told. change list own c.args.fats l.index v l.sectors.version old.bytes l.sectors.bytes new.bytes l.invariant.from c.loop-index-test.true same
-          (l.invariant.changes told) (c.add_fat_sector.ensures.changes told);
-      calm = λ told. c.in_ok-listed.ensures.counts told ∙ l.invariant.calm told;
+          (l.invariant.changes told) (c.add_fat_sector.ensures.writes.changes told);
+      calm = λ told. c.in_ok-listed.ensures.writes.counts told ∙ l.invariant.calm told;
     }
 
 pub returns-clause-listed : goal.returns-clause-listed
@@ -132,7 +147,7 @@ returns-clause-listed g c told validation t measured once apart =
     let list = c.args.fat_sectors.now in
     let own = c.args.difat_sectors.now in
     let v = c.args.sectors.now.version in
-    let all = all_listed v (length list) l.index c.args.difats l.listed (length own) c.loop-index-test.false c.requires.counted l.invariant.counted in
+    let all = all_listed v (length list) l.index c.args.difats l.listed (length own) c.loop-index-test.false c.requires.tables.counted l.invariant.counted in
     subst (λ (ys : List ℕ). ListsTables validation v l.sectors.bytes list ys) (take_all l.listed own all)
     (subst (λ (xs : List ℕ). ListsTables validation v l.sectors.bytes xs (take l.listed own)) (take_all l.index list c.loop-index-test.false)
     (l.invariant.listed told validation t measured once apart))

@@ -1,5 +1,6 @@
+use Rattle.std.proofs.lemmas.Grind.{common_steps}
 use Rattle.cfb_format.specs.Bytes.{words_per_sector}
-use Rattle.std.proofs.Common.{sym, ◌%◌, ◌≤◌, arith, ap, ◌∙◌, subst, ◌+◌, ◌-◌, ◌<◌, ◌++◌, refl, drop}
+use Rattle.std.proofs.Common.{sym, ◌%◌, ◌≤◌, arith, ap, ◌∙◌, subst, ◌+◌, ◌-◌, ◌<◌, ◌++◌, refl, drop, rules}
 use Rattle.cfb_format.specs.declared.version.Version.{Version}
 use Rattle.cfb_table_words.specs.Holding.{ChangesSectors}
 use Rattle.cfb_sectors.specs.Sectors.{SectorFile}
@@ -31,12 +32,20 @@ write_run-requires-clause-together g c =
     let same = c.version-version.ensures ∙ sym (ap (λ (f : SectorFile). f.version) c.loop-done.invariant.kept) in
     subst (λ (v : Version). run.first % words_per_sector v + run.count ≤ words_per_sector v) same c.stretch_at-run.ensures.together
 
-pub returns-in_err-write_run-clause-changes : goal.returns-in_err-write_run-clause-changes
-returns-in_err-write_run-clause-changes g c told =
-    let old = c.args.sectors.now in
-    let same = ap (λ (f : SectorFile). f.version) c.loop-done.invariant.kept in
-    changes_trans c.args.tables.now.fat_sectors old.version old.bytes c.loop-done.sectors.bytes c.write_run.new.sectors.bytes (c.loop-done.invariant.changes told)
-    (subst (λ (v : Version). ChangesSectors c.args.tables.now.fat_sectors v c.loop-done.sectors.bytes c.write_run.new.sectors.bytes) same (c.write_run.ensures.changes told))
+pub returns-in_err-write_run-clause-writes : goal.returns-in_err-write_run-clause-writes
+returns-in_err-write_run-clause-writes g c = record {
+  kept = first_of (search rules, grind (arith, common_steps));
+  changes = λ told. (
+      let old = c.args.sectors.now in
+      let same = ap (λ (f : SectorFile). f.version) c.loop-done.invariant.kept in
+      changes_trans c.args.tables.now.fat_sectors old.version old.bytes c.loop-done.sectors.bytes c.write_run.new.sectors.bytes (c.loop-done.invariant.changes told)
+      (subst (λ (v : Version). ChangesSectors c.args.tables.now.fat_sectors v c.loop-done.sectors.bytes c.write_run.new.sectors.bytes) same (c.write_run.ensures.writes.changes told))
+  );
+  raised = first_of (search rules, grind (arith, common_steps));
+  err = first_of (search rules, grind (arith, common_steps));
+  begun = first_of (search rules, grind (arith, common_steps));
+  counts = first_of (search rules, grind (arith, common_steps));
+}
 
 pub loop-done-preserved : goal.loop-done-preserved
 loop-done-preserved g c =
@@ -48,12 +57,12 @@ loop-done-preserved g c =
     let same = ap (λ (f : SectorFile). f.version) l.invariant.kept in
     record {
       within = omega (arith, c.stretch_at-run.ensures.listed);
-      kept = keeps_next old l.sectors new l.invariant.kept (keeps_begun l.sectors new c.write_run.ensures.kept);
-      raised = (λ up. ap (λ (f : SectorFile). f.begun) c.write_run.ensures.kept, λ some. ap (λ (f : SectorFile). f.begun) c.write_run.ensures.kept);
+      kept = keeps_next old l.sectors new l.invariant.kept (keeps_begun l.sectors new c.write_run.ensures.writes.kept);
+      raised = (λ up. ap (λ (f : SectorFile). f.begun) c.write_run.ensures.writes.kept, λ some. ap (λ (f : SectorFile). f.begun) c.write_run.ensures.writes.kept);
       held = λ told validation late h.
           c.in_ok-write_run.ensures.ok told validation (drop l.done xs ++ late) (drop (l.done + run.count) xs ++ late)
           (rest_late xs late l.done run.count run.first c.stretch_at-run.ensures.within) (l.invariant.held told validation late h);
       changes = λ told. changes_trans c.args.tables.now.fat_sectors old.version old.bytes l.sectors.bytes new.bytes (l.invariant.changes told)
-          (subst (λ (v : Version). ChangesSectors c.args.tables.now.fat_sectors v l.sectors.bytes new.bytes) same (c.write_run.ensures.changes told));
-      calm = λ told. c.in_ok-write_run.ensures.counts told ∙ l.invariant.calm told;
+          (subst (λ (v : Version). ChangesSectors c.args.tables.now.fat_sectors v l.sectors.bytes new.bytes) same (c.write_run.ensures.writes.changes told));
+      calm = λ told. c.in_ok-write_run.ensures.writes.counts told ∙ l.invariant.calm told;
     }

@@ -1,4 +1,5 @@
-use Rattle.std.proofs.Common.{arith, ap, ◌∙◌, subst, ◌+◌, ◌*◌, ◌≤◌, [], ◌∷◌, ◌<◌, ℕ, Bool, get_or, refl}
+use Rattle.std.proofs.lemmas.Grind.{common_steps}
+use Rattle.std.proofs.Common.{arith, ap, ◌∙◌, subst, ◌+◌, ◌*◌, ◌≤◌, [], ◌∷◌, ◌<◌, ℕ, Bool, get_or, refl, rules}
 use Rattle.std.specs.Prelude.{Contains}
 use Rattle.std.proofs.lemmas.List.Elements.{Contains-get_or}
 use Rattle.cfb_format.specs.declared.version.Version.{Version}
@@ -15,32 +16,33 @@ fits : (v : Version) (index : ℕ) → index < words_per_sector v → 4 * index 
 fits V3 index lt = omega (arith, lt)
 fits V4 index lt = omega (arith, lt)
 
-pub returns-clause-kept : goal.returns-clause-kept
-returns-clause-kept g c =
-    let old = c.args.sectors.now in
-    let new = c.write_word.new.self in
-    let mine = Contains-get_or c.args.list.now c.args.place 0 c.requires.place in
-    c.write_word.ensures.kept
-    ∙ ap (λ (b : Bool). record old { len = new.len; bytes = new.bytes; failures = new.failures; begun = b }) (c.write_word.ensures.inside (c.requires.below _ mine)).1
-
-pub returns-clause-err : goal.returns-clause-err
-returns-clause-err g c =
-    let mine = Contains-get_or c.args.list.now c.args.place 0 c.requires.place in
-    (c.write_word.ensures.inside (c.requires.below _ mine)).0
-
-pub returns-clause-changes : goal.returns-clause-changes
-returns-clause-changes g c told =
-    let old = c.args.sectors.now in
-    let list = c.args.list.now in
-    let home = get_or list c.args.place 0 in
-    let mine : Contains list home = Contains-get_or list c.args.place 0 c.requires.place in
-    changes_more (home ∷ []) list old.version old.bytes c.write_word.new.self.bytes
-    (λ i m. subst (Contains list) (Contains-one home i m) mine)
-    (changes_in_sector old.version home (4 * c.args.index) 4 _ old.bytes c.write_word.new.self.bytes refl (fits old.version c.args.index c.requires.index) (c.write_word.ensures.others told))
-
-pub returns-clause-measured : goal.returns-clause-measured
-returns-clause-measured g c told measured =
-    let old = c.args.sectors.now in
-    on_ok _ _ c.write_word.result
-    (λ is. measured_word _ c.args.value old.len c.write_word.new.self.len old.bytes c.write_word.new.self.bytes measured (ap (λ (f : SectorFile). f.len) is) (ap (λ (f : SectorFile). f.bytes) is))
-    (c.write_word.ensures.ok told)
+pub returns-clause-writes : goal.returns-clause-writes
+returns-clause-writes g c = record {
+  kept = (
+      let old = c.args.sectors.now in
+      let new = c.write_word.new.self in
+      let mine = Contains-get_or c.args.list.now c.args.place 0 c.requires.place.listed in
+      c.write_word.ensures.kept.kept
+      ∙ ap (λ (b : Bool). record old { len = new.len; bytes = new.bytes; failures = new.failures; begun = b }) (c.write_word.ensures.error.inside (c.requires.place.below _ mine)).1
+  );
+  measured = λ told measured. (
+      let old = c.args.sectors.now in
+      on_ok _ _ c.write_word.result
+      (λ is. measured_word _ c.args.value old.len c.write_word.new.self.len old.bytes c.write_word.new.self.bytes measured (ap (λ (f : SectorFile). f.len) is) (ap (λ (f : SectorFile). f.bytes) is))
+      (c.write_word.ensures.ok told)
+  );
+  changes = λ told. (
+      let old = c.args.sectors.now in
+      let list = c.args.list.now in
+      let home = get_or list c.args.place 0 in
+      let mine : Contains list home = Contains-get_or list c.args.place 0 c.requires.place.listed in
+      changes_more (home ∷ []) list old.version old.bytes c.write_word.new.self.bytes
+      (λ i m. subst (Contains list) (Contains-one home i m) mine)
+      (changes_in_sector old.version home (4 * c.args.index) 4 _ old.bytes c.write_word.new.self.bytes refl (fits old.version c.args.index c.requires.place.inside) (c.write_word.ensures.there.others told))
+  );
+  err = (
+      let mine = Contains-get_or c.args.list.now c.args.place 0 c.requires.place.listed in
+      (c.write_word.ensures.error.inside (c.requires.place.below _ mine)).0
+  );
+  counts = first_of (search rules, grind (arith, common_steps));
+}

@@ -1,4 +1,5 @@
-use Rattle.std.proofs.Common.{◌≡◌, ◌≢◌, ℕ, ◌<◌, length, sym, ◌∙◌, subst, arith}
+use Rattle.std.proofs.lemmas.Grind.{common_steps}
+use Rattle.std.proofs.Common.{◌≡◌, ◌≢◌, ℕ, ◌<◌, length, sym, ◌∙◌, subst, arith, rules}
 use Rattle.cfb_format.specs.Bytes.{free_sector}
 use Rattle.cfb_format.specs.Chain.{value}
 use Rattle.cfb_tables.specs.Changes.{ListsFree, TakesLastFirst}
@@ -43,14 +44,18 @@ loop-number-preserved g c =
           }
     ]
 
-pub returns-clause-ok : goal.returns-clause-ok
-returns-clause-ok g c =
-    let l = c.loop-number in
-    let end : l.number ≡ c.args.end = omega arith in
-    subst (λ (n : ℕ). ListsFree n l.free.items c.args.table.now) end l.invariant.listed
-
-pub returns-clause-next : goal.returns-clause-next
-returns-clause-next g c =
-    let l = c.loop-number in
-    let end : l.number ≡ c.args.end = omega arith in
-    subst (λ n. TakesLastFirst n l.free.items c.args.table.now) end l.invariant.next
+pub returns : goal.returns
+returns g c = record { lists = record {
+  listed = (
+      let l = c.loop-number in
+      let end : l.number ≡ c.args.end = omega arith in
+      subst (λ (n : ℕ). ListsFree n l.free.items c.args.table.now) end l.invariant.listed
+  );
+  next = (
+      let l = c.loop-number in
+      let end : l.number ≡ c.args.end = omega arith in
+      subst (λ n. TakesLastFirst n l.free.items c.args.table.now) end l.invariant.next
+  );
+  room = first_of (search rules, grind (arith, common_steps));
+  err = first_of (search rules, grind (arith, common_steps));
+} }

@@ -33,21 +33,24 @@ stream g c =
     let order : AreInOrder (cases_of s) (entries_of s) = c.entries-entries.ensures.in_order in
     below-stream s order.outline c.args.entry order.is (c.requires.below order.outline order.is) (sym (ap (λ (x : Entry). x.obj_type) c.dir_entry.ensures) ∙ c.in-Stream.is)
 
-pub resize_content-requires-clause-stream : goal.resize_content-requires-clause-stream
-resize_content-requires-clause-stream g c = stream g (goal.at.resize_content-requires-clause-stream g c).In-Stream
+pub resize_content-requires : goal.resize_content-requires
+resize_content-requires g c = record { size_fits = record {
+  stream = stream g (goal.at.resize_content-requires g c).In-Stream;
+  limit = first_of (search rules, grind (arith, common_steps));
+} }
 
 pub returns-in_err-resize_content-in-Stream-clause-error : goal.returns-in_err-resize_content-in-Stream-clause-error
 returns-in_err-resize_content-in-Stream-clause-error g c =
     let p = err_from_is_err_and c.from_residual.result c.from_residual.ensures.1 in
     record {
-      first = λ told. rw (p.1, p.2) (c.in_err-resize_content-in-Stream.ensures.first told refl);
+      first = λ told. rw (p.1, p.2) (c.in_err-resize_content-in-Stream.ensures.emptied.first told refl);
       still = first_of (search rules, grind (arith, common_steps));
       err = λ told v change. (
           let s = c.args.mini.now in
           let i = c.args.entry in
           rw (p.1, p.2) (empty-break (IsTrue g.F.ReadMedium.tells → IsNotChangeable s) ((validation : Validation) → HoldsMini validation s → IsTooLongFor s i 0)
           (λ none. none told v change) (λ long. emptying-fits s i change.held c.minifat_len.ensures.short (long v change.held))
-          c.in_err-resize_content-in-Stream.field-0.0 c.in_err-resize_content-in-Stream.ensures.err)
+          c.in_err-resize_content-in-Stream.field-0.0 c.in_err-resize_content-in-Stream.ensures.refused.err)
           );
     }
 
@@ -68,36 +71,36 @@ returns-in_ok-resize_content-in-Stream-clause-gives g c =
       emptied = λ told. (
           let e = c.resize_content.ensures in
           record {
-            limits = e.moves.limits;
-            entries = e.moves.entries;
-            others = (e.spares told).others;
-            holds = (ok.changed told).holds;
+            limits = e.changes.moves.limits;
+            entries = e.changes.moves.entries;
+            others = (e.changes.spares told).others;
+            holds = (ok.changes.changed told).holds;
             parts = λ v change.
                 let s = c.args.mini.now in
                 let new = c.resize_content.new.mini in
                 let i = c.args.entry in
                 let at = stream g (goal.at.returns-in_ok-resize_content-in-Stream-clause-gives g c).In-Stream in
-                let made = ok.changed told in
-                content-keeps-parts i s new e.moves at (made.holds Strict) (made.tidy v change) (made.owned v change) ok.tight.exact
-                (sized-is-snug s new i e.moves.limits e.moves.entries ((e.spares told).others v change) at (made.sized v change)) (made.snug_mini v change) (made.gives_back v change)
-                (sized-at-end s new i 0 ok.len (λ same. ap entries_of (ok.none same).1) ok.trimmed);
-            empty = λ stream. ok.len;
-            erased = λ v change stream. emptied-zeros c.args.mini.now c.resize_content.new.mini c.args.entry ok.len ((ok.content told).erased v change);
+                let made = ok.changes.changed told in
+                content-keeps-parts i s new e.changes.moves at (made.holds Strict) (made.tidy v change) (made.owned v change) ok.changes.tight.exact
+                (sized-is-snug s new i e.changes.moves.limits e.changes.moves.entries ((e.changes.spares told).others v change) at (made.sized v change)) (made.snug_mini v change) (made.gives_back v change)
+                (sized-at-end s new i 0 ok.sized.len (λ same. ap entries_of (ok.sized.none same).1) ok.sized.trimmed);
+            empty = λ stream. ok.sized.len;
+            erased = λ v change stream. emptied-zeros c.args.mini.now c.resize_content.new.mini c.args.entry ok.sized.len ((ok.sized.content told).erased v change);
           }
           );
       none = first_of (search rules, grind (arith, common_steps));
       quiet = λ down. (
           let s = c.args.mini.now in
           elim (cases_lt 0 (len_of s c.args.entry)) [
-            | inl some ↦ absurd (let clash : true ≡ false = sym (ok.begun.1 (λ same. omega (arith, some, same))) ∙ down in cc)
-            | inr none ↦ (ok.none (omega (arith, none))).1
+            | inl some ↦ absurd (let clash : true ≡ false = sym (ok.sized.begun.1 (λ same. omega (arith, some, same))) ∙ down in cc)
+            | inr none ↦ (ok.sized.none (omega (arith, none))).1
           ]
           );
       gave_back = (
           let s = c.args.mini.now in
           elim (cases_lt 0 (len_of s c.args.entry)) [
-            | inl some ↦ inr (some, ok.len)
-            | inr none ↦ inl (ok.none (omega (arith, none))).1
+            | inl some ↦ inr (some, ok.sized.len)
+            | inr none ↦ inl (ok.sized.none (omega (arith, none))).1
           ]
           );
     }

@@ -1,4 +1,5 @@
-use Rattle.std.proofs.Common.{arith, sym, subst, refl, [], ◌∷◌}
+use Rattle.std.proofs.lemmas.Grind.{common_steps}
+use Rattle.std.proofs.Common.{arith, sym, subst, refl, [], ◌∷◌, rules}
 use Rattle.std.proofs.lemmas.Result.{err_from_is_err_and}
 use Rattle.cfb_alloc.specs.Alloc.{AllocatorState}
 use Rattle.cfb_tables.specs.Tables.{IsTooFew}
@@ -8,85 +9,134 @@ use Rattle.cfb_table_words.proofs.FilledSectors.{filled_each}
 use Rattle.cfb_alloc.proofs.alloc.Allocator.begin_chain.Goals as goal
 use Rattle.cfb_format.proofs.Members.{Contains-here}
 
-pub returns-in_err-before-clause-others : goal.returns-in_err-before-clause-others
-returns-in_err-before-clause-others g c told = others_refl c.args.self.now
+pub returns-in_err-before-clause-takes : goal.returns-in_err-before-clause-takes
+returns-in_err-before-clause-takes g c = record {
+  holds = first_of (search rules, search (rules, refused_changed), grind (arith, common_steps));
+  others = λ told. others_refl c.args.self.now;
+  begun = first_of (search rules, search (rules, refused_changed), grind (arith, common_steps));
+  enough = first_of (search rules, search (rules, refused_changed), grind (arith, common_steps));
+  counts = first_of (search rules, search (rules, refused_changed), grind (arith, common_steps));
+}
 
-pub returns-in_err-sector-clause-others : goal.returns-in_err-sector-clause-others
-returns-in_err-sector-clause-others g c told = others_unchanged c.self.view_is c.take.new.self c.in_err-sector.ensures.unchanged
+pub returns-in_err-sector-clause-takes : goal.returns-in_err-sector-clause-takes
+returns-in_err-sector-clause-takes g c = record {
+  holds = first_of (search rules, search (rules, refused_changed), grind (arith, common_steps));
+  others = λ told. others_unchanged c.self.view_is c.take.new.self c.in_err-sector.ensures.error.unchanged;
+  begun = first_of (search rules, search (rules, refused_changed), grind (arith, common_steps));
+  enough = first_of (search rules, search (rules, refused_changed), grind (arith, common_steps));
+  counts = first_of (search rules, search (rules, refused_changed), grind (arith, common_steps));
+}
 
-pub returns-in_err-sector-clause-err : goal.returns-in_err-sector-clause-err
-returns-in_err-sector-clause-err g c =
-    let p = err_from_is_err_and c.from_residual-in_err-sector.result c.from_residual-in_err-sector.ensures.1 in
-    rw (p.1, p.2) (refused_changed _ _ _ _ c.in_err-sector.field-0.0 (rw (← c.self.view_is) c.in_err-sector.ensures.err))
+pub returns-in_err-sector-clause-begins : goal.returns-in_err-sector-clause-begins
+returns-in_err-sector-clause-begins g c = record {
+  spares = λ told. spares_unchanged [] c.self.view_is c.take.new.self c.in_err-sector.ensures.error.unchanged;
+  refused = first_of (search rules, search (rules, refused_changed), grind (arith, common_steps));
+  err = (
+      let p = err_from_is_err_and c.from_residual-in_err-sector.result c.from_residual-in_err-sector.ensures.1 in
+      rw (p.1, p.2) (refused_changed _ _ _ _ c.in_err-sector.field-0.0 (rw (← c.self.view_is) c.in_err-sector.ensures.error.err))
+  );
+}
 
-pub write_taken-requires-clause-placed : goal.write_taken-requires-clause-placed
-write_taken-requires-clause-placed g c =
-    placed_reserved (c.in_ok-sector.sector ∷ []) refl c.self.view_is c.in_ok-sector.ensures.taken
-    c.reserve_sectors.new.self c.len.result c.reserve_sectors.ensures c.len.ensures.len c.self.invariant.0
+pub write_taken-requires-clause-tables : goal.write_taken-requires-clause-tables
+write_taken-requires-clause-tables g c = record {
+  placed = (
+      placed_reserved (c.in_ok-sector.sector ∷ []) refl c.self.view_is c.in_ok-sector.ensures.number.taken
+      c.reserve_sectors.new.self c.len.result c.reserve_sectors.ensures c.len.ensures.len c.self.invariant.0
+  );
+  covered = first_of (search rules, search (rules, refused_changed), grind (arith, common_steps));
+}
 
-pub write_taken-requires-clause-places : goal.write_taken-requires-clause-places
-write_taken-requires-clause-places g c =
-    let e = c.in_ok-before.ensures in
-    places_known (c.in_ok-sector.sector ∷ []) refl c.self.view_is c.in_ok-sector.ensures.taken c.in_ok-before.before.fats c.in_ok-before.before.difats e.ok.0 e.ok.1 e.sizes
+pub write_taken-requires-clause-taken : goal.write_taken-requires-clause-taken
+write_taken-requires-clause-taken g c = record {
+  few = first_of (search rules, search (rules, refused_changed), grind (arith, common_steps));
+  begun = first_of (search rules, search (rules, refused_changed), grind (arith, common_steps));
+  places = (
+      let e = c.in_ok-before.ensures in
+      places_known (c.in_ok-sector.sector ∷ []) refl c.self.view_is c.in_ok-sector.ensures.number.taken c.in_ok-before.before.fats c.in_ok-before.before.difats e.ok.0 e.ok.1 e.sizes
+  );
+  counted = first_of (search rules, search (rules, refused_changed), grind (arith, common_steps));
+  known = first_of (search rules, search (rules, refused_changed), grind (arith, common_steps));
+  taken = first_of (search rules, search (rules, refused_changed), grind (arith, common_steps));
+}
 
 pub invariant_of-self-in_err-write_taken : goal.invariant_of-self-in_err-write_taken
 invariant_of-self-in_err-write_taken g c = (
-  placed_written (c.in_ok-sector.sector ∷ []) refl c.self.view_is c.in_ok-sector.ensures.taken
-      c.reserve_sectors.new.self c.write_taken.new.sectors c.len.result c.reserve_sectors.ensures c.write_taken.ensures.kept c.len.ensures.len c.self.invariant.0,
+  placed_written (c.in_ok-sector.sector ∷ []) refl c.self.view_is c.in_ok-sector.ensures.number.taken
+      c.reserve_sectors.new.self c.write_taken.new.sectors c.len.result c.reserve_sectors.ensures c.write_taken.ensures.writes.kept c.len.ensures.len c.self.invariant.0,
   tt,
 )
 
-pub returns-in_err-write_taken-clause-others : goal.returns-in_err-write_taken-clause-others
-returns-in_err-write_taken-clause-others g c told =
-    others_written (c.in_ok-sector.sector ∷ []) refl c.self.view_is c.in_ok-sector.ensures.taken
-    c.reserve_sectors.new.self c.write_taken.new.sectors c.len.result c.reserve_sectors.ensures (c.write_taken.ensures.changes told)
+pub returns-in_err-write_taken-clause-takes : goal.returns-in_err-write_taken-clause-takes
+returns-in_err-write_taken-clause-takes g c = record {
+  holds = first_of (search rules, search (rules, refused_changed), grind (arith, common_steps));
+  others = λ told. (
+      others_written (c.in_ok-sector.sector ∷ []) refl c.self.view_is c.in_ok-sector.ensures.number.taken
+      c.reserve_sectors.new.self c.write_taken.new.sectors c.len.result c.reserve_sectors.ensures (c.write_taken.ensures.writes.changes told)
+  );
+  begun = first_of (search rules, search (rules, refused_changed), grind (arith, common_steps));
+  enough = first_of (search rules, search (rules, refused_changed), grind (arith, common_steps));
+  counts = first_of (search rules, search (rules, refused_changed), grind (arith, common_steps));
+}
 
 pub invariant_of-self-2 : goal.invariant_of-self-2
 invariant_of-self-2 g c = (
-  placed_written (c.in_ok-sector.sector ∷ []) refl c.self.view_is c.in_ok-sector.ensures.taken
-      c.reserve_sectors.new.self c.write_taken.new.sectors c.len.result c.reserve_sectors.ensures c.write_taken.ensures.kept c.len.ensures.len c.self.invariant.0,
+  placed_written (c.in_ok-sector.sector ∷ []) refl c.self.view_is c.in_ok-sector.ensures.number.taken
+      c.reserve_sectors.new.self c.write_taken.new.sectors c.len.result c.reserve_sectors.ensures c.write_taken.ensures.writes.kept c.len.ensures.len c.self.invariant.0,
   tt,
 )
 
-pub returns-clause-enough : goal.returns-clause-enough
-returns-clause-enough g c few = c.in_ok-sector.ensures.enough (subst (λ (a : AllocatorState). IsTooFew a.tables 1) (sym c.self.view_is) few)
+pub returns-clause-takes : goal.returns-clause-takes
+returns-clause-takes g c = record {
+  holds = λ told validation h. (
+      let now = c.in_ok-sector.sector ∷ [] in
+      let taken = c.in_ok-sector.ensures.number.taken in
+      let clean = clean_taken now refl c.self.view_is taken validation h c.in_ok-sector.sector c.in_ok-sector.ensures.number.chain (omega arith) in
+      record {
+        holds = c.in_ok-write_taken.ensures.holds told validation c.self.inside.tables taken clean
+            (fats_known now refl c.self.view_is taken c.in_ok-before.before.fats c.in_ok-before.ensures.ok.0)
+            (difats_known now refl c.self.view_is taken c.in_ok-before.before.difats c.in_ok-before.ensures.ok.1)
+            (held_counted now refl c.self.view_is taken validation h c.reserve_sectors.new.self c.len.result c.reserve_sectors.ensures);
+        clean = clean;
+      }
+  );
+  others = λ told. (
+      others_written (c.in_ok-sector.sector ∷ []) refl c.self.view_is c.in_ok-sector.ensures.number.taken
+      c.reserve_sectors.new.self c.write_taken.new.sectors c.len.result c.reserve_sectors.ensures (c.write_taken.ensures.writes.changes told)
+  );
+  begun = first_of (search rules, search (rules, refused_changed), grind (arith, common_steps));
+  enough = λ few. c.in_ok-sector.ensures.error.enough (subst (λ (a : AllocatorState). IsTooFew a.tables 1) (sym c.self.view_is) few);
+  counts = first_of (search rules, search (rules, refused_changed), grind (arith, common_steps));
+}
 
 pub returns-clause-filled : goal.returns-clause-filled
 returns-clause-filled g c told validation h =
     let x = c.in_ok-sector.sector in
-    let taken = c.in_ok-sector.ensures.taken in
+    let taken = c.in_ok-sector.ensures.number.taken in
     filled_each _ _ _ (x ∷ []) (c.in_ok-write_taken.ensures.filled told taken.once (fats_apart_shown (x ∷ []) refl c.self.view_is taken validation h)) x (Contains-here x [])
 
-pub returns-clause-holds : goal.returns-clause-holds
-returns-clause-holds g c told validation h =
-    let now = c.in_ok-sector.sector ∷ [] in
-    let taken = c.in_ok-sector.ensures.taken in
-    let clean = clean_taken now refl c.self.view_is taken validation h c.in_ok-sector.sector c.in_ok-sector.ensures.chain (omega arith) in
-    record {
-      holds = c.in_ok-write_taken.ensures.holds told validation c.self.inside.tables taken clean
-          (fats_known now refl c.self.view_is taken c.in_ok-before.before.fats c.in_ok-before.ensures.ok.0)
-          (difats_known now refl c.self.view_is taken c.in_ok-before.before.difats c.in_ok-before.ensures.ok.1)
-          (held_counted now refl c.self.view_is taken validation h c.reserve_sectors.new.self c.len.result c.reserve_sectors.ensures);
-      clean = clean;
-    }
+pub returns-in_err-before-clause-begins : goal.returns-in_err-before-clause-begins
+returns-in_err-before-clause-begins g c = record {
+  spares = λ told. spares_refl [] c.args.self.now;
+  refused = first_of (search rules, search (rules, refused_changed), grind (arith, common_steps));
+  err = first_of (search rules, search (rules, refused_changed), grind (arith, common_steps));
+}
 
-pub returns-clause-others : goal.returns-clause-others
-returns-clause-others g c told =
-    others_written (c.in_ok-sector.sector ∷ []) refl c.self.view_is c.in_ok-sector.ensures.taken
-    c.reserve_sectors.new.self c.write_taken.new.sectors c.len.result c.reserve_sectors.ensures (c.write_taken.ensures.changes told)
+pub returns-in_err-write_taken-clause-begins : goal.returns-in_err-write_taken-clause-begins
+returns-in_err-write_taken-clause-begins g c = record {
+  spares = λ told. (
+      taken_written (c.in_ok-sector.sector ∷ []) refl c.self.view_is c.in_ok-sector.ensures.number.taken
+      c.reserve_sectors.new.self c.write_taken.new.sectors c.len.result c.reserve_sectors.ensures (c.write_taken.ensures.writes.changes told)
+  );
+  refused = first_of (search rules, search (rules, refused_changed), grind (arith, common_steps));
+  err = first_of (search rules, search (rules, refused_changed), grind (arith, common_steps));
+}
 
-pub returns-in_err-before-clause-spares : goal.returns-in_err-before-clause-spares
-returns-in_err-before-clause-spares g c told = spares_refl [] c.args.self.now
-
-pub returns-in_err-sector-clause-spares : goal.returns-in_err-sector-clause-spares
-returns-in_err-sector-clause-spares g c told = spares_unchanged [] c.self.view_is c.take.new.self c.in_err-sector.ensures.unchanged
-
-pub returns-in_err-write_taken-clause-spares : goal.returns-in_err-write_taken-clause-spares
-returns-in_err-write_taken-clause-spares g c told =
-    taken_written (c.in_ok-sector.sector ∷ []) refl c.self.view_is c.in_ok-sector.ensures.taken
-    c.reserve_sectors.new.self c.write_taken.new.sectors c.len.result c.reserve_sectors.ensures (c.write_taken.ensures.changes told)
-
-pub returns-clause-spares : goal.returns-clause-spares
-returns-clause-spares g c told =
-    taken_written (c.in_ok-sector.sector ∷ []) refl c.self.view_is c.in_ok-sector.ensures.taken
-    c.reserve_sectors.new.self c.write_taken.new.sectors c.len.result c.reserve_sectors.ensures (c.write_taken.ensures.changes told)
+pub returns-clause-begins : goal.returns-clause-begins
+returns-clause-begins g c = record {
+  spares = λ told. (
+      taken_written (c.in_ok-sector.sector ∷ []) refl c.self.view_is c.in_ok-sector.ensures.number.taken
+      c.reserve_sectors.new.self c.write_taken.new.sectors c.len.result c.reserve_sectors.ensures (c.write_taken.ensures.writes.changes told)
+  );
+  refused = first_of (search rules, search (rules, refused_changed), grind (arith, common_steps));
+  err = first_of (search rules, search (rules, refused_changed), grind (arith, common_steps));
+}

@@ -1,4 +1,5 @@
-use Rattle.std.proofs.Common.{◌∙◌, [], arith, sym, subst, refl, ℕ, List}
+use Rattle.std.proofs.lemmas.Grind.{common_steps}
+use Rattle.std.proofs.Common.{◌∙◌, [], arith, sym, subst, refl, ℕ, List, rules}
 use Rattle.std.specs.Prelude.{Contains}
 use Rattle.std.proofs.lemmas.Result.{err_from_is_err_and}
 use Rattle.cfb_alloc.proofs.AllocLemmas.{taken_reserved, others_refl, others_unchanged, placed_reserved, placed_written, shown_below, shown_taken, others_written, held_counted, fats_apart_shown, clean_taken, fats_known, difats_known, refused_changed}
@@ -10,118 +11,226 @@ use Rattle.cfb_table_words.proofs.FilledSectors.{filled_each}
 use Rattle.cfb_alloc.proofs.alloc.Allocator.begin_chain_by.Goals as goal
 use Rattle.cfb_format.proofs.Walks.{chain_of}
 
-pub returns-in_err-before-clause-others : goal.returns-in_err-before-clause-others
-returns-in_err-before-clause-others g c told = others_refl c.args.self.now
+pub returns-in_err-before-clause-takes : goal.returns-in_err-before-clause-takes
+returns-in_err-before-clause-takes g c = record {
+  holds = first_of (search rules, search (rules, refused_changed), grind (arith, common_steps));
+  others = λ told. others_refl c.args.self.now;
+  begun = first_of (search rules, search (rules, refused_changed), grind (arith, common_steps));
+  enough = first_of (search rules, search (rules, refused_changed), grind (arith, common_steps));
+  counts = first_of (search rules, search (rules, refused_changed), grind (arith, common_steps));
+}
 
-pub returns-in_err-clone-clause-others : goal.returns-in_err-clone-clause-others
-returns-in_err-clone-clause-others g c told = others_refl c.args.self.now
+pub returns-in_err-clone-clause-takes : goal.returns-in_err-clone-clause-takes
+returns-in_err-clone-clause-takes g c = record {
+  holds = first_of (search rules, search (rules, refused_changed), grind (arith, common_steps));
+  others = λ told. others_refl c.args.self.now;
+  begun = first_of (search rules, search (rules, refused_changed), grind (arith, common_steps));
+  enough = first_of (search rules, search (rules, refused_changed), grind (arith, common_steps));
+  counts = first_of (search rules, search (rules, refused_changed), grind (arith, common_steps));
+}
 
-pub returns-then-count-eq0-clause-taken : goal.returns-then-count-eq0-clause-taken
-returns-then-count-eq0-clause-taken g c =
-    let t = c.args.self.now.tables in
-    subst (HasTaken t t []) (sym c.new.ensures.items) (taken-nothing t c.in_ok-before.ensures.sizes.places)
+pub returns-then-count-eq0-clause-list : goal.returns-then-count-eq0-clause-list
+returns-then-count-eq0-clause-list g c = record {
+  taken = (
+      let t = c.args.self.now.tables in
+      subst (HasTaken t t []) (sym c.new.ensures.items) (taken-nothing t c.in_ok-before.ensures.sizes.places)
+  );
+  chain = (
+      let fat = c.args.self.now.tables.fat in
+      subst (λ (z : List ℕ). IsChain fat (first_or_end z) z) (sym c.new.ensures.items) (chain_of fat (first_or_end []) [] refl)
+  );
+  counted = first_of (search rules, search (rules, refused_changed), grind (arith, common_steps));
+}
 
-pub returns-then-count-eq0-clause-chain : goal.returns-then-count-eq0-clause-chain
-returns-then-count-eq0-clause-chain g c =
-    let fat = c.args.self.now.tables.fat in
-    subst (λ (z : List ℕ). IsChain fat (first_or_end z) z) (sym c.new.ensures.items) (chain_of fat (first_or_end []) [] refl)
+pub returns-then-count-eq0-clause-takes : goal.returns-then-count-eq0-clause-takes
+returns-then-count-eq0-clause-takes g c = record {
+  holds = first_of (search rules, search (rules, refused_changed), grind (arith, common_steps));
+  others = λ told. others_refl c.args.self.now;
+  begun = first_of (search rules, search (rules, refused_changed), grind (arith, common_steps));
+  enough = first_of (search rules, search (rules, refused_changed), grind (arith, common_steps));
+  counts = first_of (search rules, search (rules, refused_changed), grind (arith, common_steps));
+}
 
-pub returns-then-count-eq0-clause-others : goal.returns-then-count-eq0-clause-others
-returns-then-count-eq0-clause-others g c told = others_refl c.args.self.now
+pub returns-in_err-reserve-clause-takes : goal.returns-in_err-reserve-clause-takes
+returns-in_err-reserve-clause-takes g c = record {
+  holds = first_of (search rules, search (rules, refused_changed), grind (arith, common_steps));
+  others = λ told. others_unchanged c.self.view_is c.reserve.new.self c.reserve.ensures.unchanged;
+  begun = first_of (search rules, search (rules, refused_changed), grind (arith, common_steps));
+  enough = first_of (search rules, search (rules, refused_changed), grind (arith, common_steps));
+  counts = first_of (search rules, search (rules, refused_changed), grind (arith, common_steps));
+}
 
-pub returns-in_err-reserve-clause-others : goal.returns-in_err-reserve-clause-others
-returns-in_err-reserve-clause-others g c told = others_unchanged c.self.view_is c.reserve.new.self c.reserve.ensures.unchanged
+pub returns-in_err-clone-2-clause-takes : goal.returns-in_err-clone-2-clause-takes
+returns-in_err-clone-2-clause-takes g c = record {
+  holds = first_of (search rules, search (rules, refused_changed), grind (arith, common_steps));
+  others = λ told. others_unchanged c.self.view_is c.reserve.new.self c.reserve.ensures.unchanged;
+  begun = first_of (search rules, search (rules, refused_changed), grind (arith, common_steps));
+  enough = first_of (search rules, search (rules, refused_changed), grind (arith, common_steps));
+  counts = first_of (search rules, search (rules, refused_changed), grind (arith, common_steps));
+}
 
-pub returns-in_err-clone-2-clause-others : goal.returns-in_err-clone-2-clause-others
-returns-in_err-clone-2-clause-others g c told = others_unchanged c.self.view_is c.reserve.new.self c.reserve.ensures.unchanged
+pub returns-in_err-list-clause-takes : goal.returns-in_err-list-clause-takes
+returns-in_err-list-clause-takes g c = record {
+  holds = first_of (search rules, search (rules, refused_changed), grind (arith, common_steps));
+  others = λ told. others_unchanged c.self.view_is c.take_by.new.self (c.in_err-list.ensures.error.unchanged ∙ c.reserve.ensures.unchanged);
+  begun = first_of (search rules, search (rules, refused_changed), grind (arith, common_steps));
+  enough = first_of (search rules, search (rules, refused_changed), grind (arith, common_steps));
+  counts = first_of (search rules, search (rules, refused_changed), grind (arith, common_steps));
+}
 
-pub returns-in_err-list-clause-others : goal.returns-in_err-list-clause-others
-returns-in_err-list-clause-others g c told = others_unchanged c.self.view_is c.take_by.new.self (c.in_err-list.ensures.unchanged ∙ c.reserve.ensures.unchanged)
+pub returns-in_err-list-clause-begins : goal.returns-in_err-list-clause-begins
+returns-in_err-list-clause-begins g c = record {
+  none = first_of (search rules, search (rules, refused_changed), grind (arith, common_steps));
+  filled = first_of (search rules, search (rules, refused_changed), grind (arith, common_steps));
+  spares = λ told. spares_unchanged [] c.self.view_is c.take_by.new.self (c.in_err-list.ensures.error.unchanged ∙ c.reserve.ensures.unchanged);
+  refused = first_of (search rules, search (rules, refused_changed), grind (arith, common_steps));
+  err = (
+      let p = err_from_is_err_and c.from_residual-in_err-list.result c.from_residual-in_err-list.ensures.1 in
+      rw (p.1, p.2) (refused_changed _ _ _ _ c.in_err-list.field-0.0 (rw (← c.self.view_is, ← c.reserve.ensures.unchanged) c.in_err-list.ensures.error.err))
+  );
+}
 
-pub returns-in_err-list-clause-err : goal.returns-in_err-list-clause-err
-returns-in_err-list-clause-err g c =
-    let p = err_from_is_err_and c.from_residual-in_err-list.result c.from_residual-in_err-list.ensures.1 in
-    rw (p.1, p.2) (refused_changed _ _ _ _ c.in_err-list.field-0.0 (rw (← c.self.view_is, ← c.reserve.ensures.unchanged) c.in_err-list.ensures.err))
+pub write_taken-requires-clause-tables : goal.write_taken-requires-clause-tables
+write_taken-requires-clause-tables g c = record {
+  placed = (
+      placed_reserved c.deref.result.now c.deref.ensures.value c.self.view_is (taken_reserved c.reserve.ensures.unchanged c.in_ok-list.ensures.list.taken)
+      c.reserve_sectors.new.self c.len.result c.reserve_sectors.ensures c.len.ensures.len c.self.invariant.0
+  );
+  covered = first_of (search rules, search (rules, refused_changed), grind (arith, common_steps));
+}
 
-pub write_taken-requires-clause-placed : goal.write_taken-requires-clause-placed
-write_taken-requires-clause-placed g c =
-    placed_reserved c.deref.result.now c.deref.ensures.value c.self.view_is (taken_reserved c.reserve.ensures.unchanged c.in_ok-list.ensures.taken)
-    c.reserve_sectors.new.self c.len.result c.reserve_sectors.ensures c.len.ensures.len c.self.invariant.0
-
-pub write_taken-requires-clause-more : goal.write_taken-requires-clause-more
-write_taken-requires-clause-more g c = shown_below c.deref.result.now c.deref.ensures.value c.self.view_is (taken_reserved c.reserve.ensures.unchanged c.in_ok-list.ensures.taken)
+pub write_taken-requires-clause-taken : goal.write_taken-requires-clause-taken
+write_taken-requires-clause-taken g c = record {
+  few = first_of (search rules, search (rules, refused_changed), grind (arith, common_steps));
+  begun = first_of (search rules, search (rules, refused_changed), grind (arith, common_steps));
+  places = first_of (search rules, search (rules, refused_changed), grind (arith, common_steps));
+  counted = first_of (search rules, search (rules, refused_changed), grind (arith, common_steps));
+  known = first_of (search rules, search (rules, refused_changed), grind (arith, common_steps));
+  taken = shown_below c.deref.result.now c.deref.ensures.value c.self.view_is (taken_reserved c.reserve.ensures.unchanged c.in_ok-list.ensures.list.taken);
+}
 
 pub invariant_of-self-in_err-write_taken : goal.invariant_of-self-in_err-write_taken
 invariant_of-self-in_err-write_taken g c = (
-  placed_written c.deref.result.now c.deref.ensures.value c.self.view_is (taken_reserved c.reserve.ensures.unchanged c.in_ok-list.ensures.taken)
-      c.reserve_sectors.new.self c.write_taken.new.sectors c.len.result c.reserve_sectors.ensures c.write_taken.ensures.kept c.len.ensures.len c.self.invariant.0,
+  placed_written c.deref.result.now c.deref.ensures.value c.self.view_is (taken_reserved c.reserve.ensures.unchanged c.in_ok-list.ensures.list.taken)
+      c.reserve_sectors.new.self c.write_taken.new.sectors c.len.result c.reserve_sectors.ensures c.write_taken.ensures.writes.kept c.len.ensures.len c.self.invariant.0,
   tt,
 )
 
-pub returns-in_err-write_taken-clause-others : goal.returns-in_err-write_taken-clause-others
-returns-in_err-write_taken-clause-others g c told =
-    others_written c.deref.result.now c.deref.ensures.value c.self.view_is (taken_reserved c.reserve.ensures.unchanged c.in_ok-list.ensures.taken)
-    c.reserve_sectors.new.self c.write_taken.new.sectors c.len.result c.reserve_sectors.ensures (c.write_taken.ensures.changes told)
+pub returns-in_err-write_taken-clause-takes : goal.returns-in_err-write_taken-clause-takes
+returns-in_err-write_taken-clause-takes g c = record {
+  holds = first_of (search rules, search (rules, refused_changed), grind (arith, common_steps));
+  others = λ told. (
+      others_written c.deref.result.now c.deref.ensures.value c.self.view_is (taken_reserved c.reserve.ensures.unchanged c.in_ok-list.ensures.list.taken)
+      c.reserve_sectors.new.self c.write_taken.new.sectors c.len.result c.reserve_sectors.ensures (c.write_taken.ensures.writes.changes told)
+  );
+  begun = first_of (search rules, search (rules, refused_changed), grind (arith, common_steps));
+  enough = first_of (search rules, search (rules, refused_changed), grind (arith, common_steps));
+  counts = first_of (search rules, search (rules, refused_changed), grind (arith, common_steps));
+}
 
 pub invariant_of-self-2 : goal.invariant_of-self-2
 invariant_of-self-2 g c = (
-  placed_written c.deref.result.now c.deref.ensures.value c.self.view_is (taken_reserved c.reserve.ensures.unchanged c.in_ok-list.ensures.taken)
-      c.reserve_sectors.new.self c.write_taken.new.sectors c.len.result c.reserve_sectors.ensures c.write_taken.ensures.kept c.len.ensures.len c.self.invariant.0,
+  placed_written c.deref.result.now c.deref.ensures.value c.self.view_is (taken_reserved c.reserve.ensures.unchanged c.in_ok-list.ensures.list.taken)
+      c.reserve_sectors.new.self c.write_taken.new.sectors c.len.result c.reserve_sectors.ensures c.write_taken.ensures.writes.kept c.len.ensures.len c.self.invariant.0,
   tt,
 )
 
-pub returns-clause-filled : goal.returns-clause-filled
-returns-clause-filled g c told validation h i m =
-    let now = c.deref.result.now in
-    let same = c.deref.ensures.value in
-    let taken = (taken_reserved c.reserve.ensures.unchanged c.in_ok-list.ensures.taken) in
-    let known = shown_taken now same c.self.view_is taken in
-    filled_each _ _ _ now (c.in_ok-write_taken.ensures.filled told known.once (fats_apart_shown now same c.self.view_is taken validation h)) i
-    (subst (λ (xs : List ℕ). Contains xs i) (sym same) m)
+pub returns-clause-begins : goal.returns-clause-begins
+returns-clause-begins g c = record {
+  none = first_of (search rules, search (rules, refused_changed), grind (arith, common_steps));
+  filled = λ told validation h i m. (
+      let now = c.deref.result.now in
+      let same = c.deref.ensures.value in
+      let taken = (taken_reserved c.reserve.ensures.unchanged c.in_ok-list.ensures.list.taken) in
+      let known = shown_taken now same c.self.view_is taken in
+      filled_each _ _ _ now (c.in_ok-write_taken.ensures.filled told known.once (fats_apart_shown now same c.self.view_is taken validation h)) i
+      (subst (λ (xs : List ℕ). Contains xs i) (sym same) m)
+  );
+  spares = λ told. (
+      taken_written c.deref.result.now c.deref.ensures.value c.self.view_is (taken_reserved c.reserve.ensures.unchanged c.in_ok-list.ensures.list.taken)
+      c.reserve_sectors.new.self c.write_taken.new.sectors c.len.result c.reserve_sectors.ensures (c.write_taken.ensures.writes.changes told)
+  );
+  refused = first_of (search rules, search (rules, refused_changed), grind (arith, common_steps));
+  err = first_of (search rules, search (rules, refused_changed), grind (arith, common_steps));
+}
 
-pub returns-clause-holds : goal.returns-clause-holds
-returns-clause-holds g c told validation h =
-    let now = c.deref.result.now in
-    let same = c.deref.ensures.value in
-    let taken = (taken_reserved c.reserve.ensures.unchanged c.in_ok-list.ensures.taken) in
-    let clean = clean_taken now same c.self.view_is taken validation h (first_or_end c.in_ok-list.list.items) c.in_ok-list.ensures.chain (omega arith) in
-    record {
-      holds = c.in_ok-write_taken.ensures.holds told validation c.self.inside.tables (shown_taken now same c.self.view_is taken) clean
-          (fats_known now same c.self.view_is taken c.in_ok-before.before.fats c.in_ok-before.ensures.ok.0)
-          (difats_known now same c.self.view_is taken c.in_ok-before.before.difats c.in_ok-before.ensures.ok.1)
-          (held_counted now same c.self.view_is taken validation h c.reserve_sectors.new.self c.len.result c.reserve_sectors.ensures);
-      clean = clean;
-    }
+pub returns-clause-takes : goal.returns-clause-takes
+returns-clause-takes g c = record {
+  holds = λ told validation h. (
+      let now = c.deref.result.now in
+      let same = c.deref.ensures.value in
+      let taken = (taken_reserved c.reserve.ensures.unchanged c.in_ok-list.ensures.list.taken) in
+      let clean = clean_taken now same c.self.view_is taken validation h (first_or_end c.in_ok-list.list.items) c.in_ok-list.ensures.list.chain (omega arith) in
+      record {
+        holds = c.in_ok-write_taken.ensures.holds told validation c.self.inside.tables (shown_taken now same c.self.view_is taken) clean
+            (fats_known now same c.self.view_is taken c.in_ok-before.before.fats c.in_ok-before.ensures.ok.0)
+            (difats_known now same c.self.view_is taken c.in_ok-before.before.difats c.in_ok-before.ensures.ok.1)
+            (held_counted now same c.self.view_is taken validation h c.reserve_sectors.new.self c.len.result c.reserve_sectors.ensures);
+        clean = clean;
+      }
+  );
+  others = λ told. (
+      others_written c.deref.result.now c.deref.ensures.value c.self.view_is (taken_reserved c.reserve.ensures.unchanged c.in_ok-list.ensures.list.taken)
+      c.reserve_sectors.new.self c.write_taken.new.sectors c.len.result c.reserve_sectors.ensures (c.write_taken.ensures.writes.changes told)
+  );
+  begun = first_of (search rules, search (rules, refused_changed), grind (arith, common_steps));
+  enough = first_of (search rules, search (rules, refused_changed), grind (arith, common_steps));
+  counts = first_of (search rules, search (rules, refused_changed), grind (arith, common_steps));
+}
 
-pub returns-clause-others : goal.returns-clause-others
-returns-clause-others g c told =
-    others_written c.deref.result.now c.deref.ensures.value c.self.view_is (taken_reserved c.reserve.ensures.unchanged c.in_ok-list.ensures.taken)
-    c.reserve_sectors.new.self c.write_taken.new.sectors c.len.result c.reserve_sectors.ensures (c.write_taken.ensures.changes told)
+pub returns-in_err-before-clause-begins : goal.returns-in_err-before-clause-begins
+returns-in_err-before-clause-begins g c = record {
+  none = first_of (search rules, search (rules, refused_changed), grind (arith, common_steps));
+  filled = first_of (search rules, search (rules, refused_changed), grind (arith, common_steps));
+  spares = λ told. spares_refl [] c.args.self.now;
+  refused = first_of (search rules, search (rules, refused_changed), grind (arith, common_steps));
+  err = first_of (search rules, search (rules, refused_changed), grind (arith, common_steps));
+}
 
-pub returns-in_err-before-clause-spares : goal.returns-in_err-before-clause-spares
-returns-in_err-before-clause-spares g c told = spares_refl [] c.args.self.now
+pub returns-in_err-clone-clause-begins : goal.returns-in_err-clone-clause-begins
+returns-in_err-clone-clause-begins g c = record {
+  none = first_of (search rules, search (rules, refused_changed), grind (arith, common_steps));
+  filled = first_of (search rules, search (rules, refused_changed), grind (arith, common_steps));
+  spares = λ told. spares_refl [] c.args.self.now;
+  refused = first_of (search rules, search (rules, refused_changed), grind (arith, common_steps));
+  err = first_of (search rules, search (rules, refused_changed), grind (arith, common_steps));
+}
 
-pub returns-in_err-clone-clause-spares : goal.returns-in_err-clone-clause-spares
-returns-in_err-clone-clause-spares g c told = spares_refl [] c.args.self.now
+pub returns-then-count-eq0-clause-begins : goal.returns-then-count-eq0-clause-begins
+returns-then-count-eq0-clause-begins g c = record {
+  none = first_of (search rules, search (rules, refused_changed), grind (arith, common_steps));
+  filled = first_of (search rules, search (rules, refused_changed), grind (arith, common_steps));
+  spares = λ told. spares_refl [] c.args.self.now;
+  refused = first_of (search rules, search (rules, refused_changed), grind (arith, common_steps));
+  err = first_of (search rules, search (rules, refused_changed), grind (arith, common_steps));
+}
 
-pub returns-then-count-eq0-clause-spares : goal.returns-then-count-eq0-clause-spares
-returns-then-count-eq0-clause-spares g c told = spares_refl [] c.args.self.now
+pub returns-in_err-reserve-clause-begins : goal.returns-in_err-reserve-clause-begins
+returns-in_err-reserve-clause-begins g c = record {
+  none = first_of (search rules, search (rules, refused_changed), grind (arith, common_steps));
+  filled = first_of (search rules, search (rules, refused_changed), grind (arith, common_steps));
+  spares = λ told. spares_unchanged [] c.self.view_is c.reserve.new.self c.reserve.ensures.unchanged;
+  refused = first_of (search rules, search (rules, refused_changed), grind (arith, common_steps));
+  err = first_of (search rules, search (rules, refused_changed), grind (arith, common_steps));
+}
 
-pub returns-in_err-reserve-clause-spares : goal.returns-in_err-reserve-clause-spares
-returns-in_err-reserve-clause-spares g c told = spares_unchanged [] c.self.view_is c.reserve.new.self c.reserve.ensures.unchanged
+pub returns-in_err-clone-2-clause-begins : goal.returns-in_err-clone-2-clause-begins
+returns-in_err-clone-2-clause-begins g c = record {
+  none = first_of (search rules, search (rules, refused_changed), grind (arith, common_steps));
+  filled = first_of (search rules, search (rules, refused_changed), grind (arith, common_steps));
+  spares = λ told. spares_unchanged [] c.self.view_is c.reserve.new.self c.reserve.ensures.unchanged;
+  refused = first_of (search rules, search (rules, refused_changed), grind (arith, common_steps));
+  err = first_of (search rules, search (rules, refused_changed), grind (arith, common_steps));
+}
 
-pub returns-in_err-clone-2-clause-spares : goal.returns-in_err-clone-2-clause-spares
-returns-in_err-clone-2-clause-spares g c told = spares_unchanged [] c.self.view_is c.reserve.new.self c.reserve.ensures.unchanged
-
-pub returns-in_err-list-clause-spares : goal.returns-in_err-list-clause-spares
-returns-in_err-list-clause-spares g c told = spares_unchanged [] c.self.view_is c.take_by.new.self (c.in_err-list.ensures.unchanged ∙ c.reserve.ensures.unchanged)
-
-pub returns-in_err-write_taken-clause-spares : goal.returns-in_err-write_taken-clause-spares
-returns-in_err-write_taken-clause-spares g c told =
-    taken_written c.deref.result.now c.deref.ensures.value c.self.view_is (taken_reserved c.reserve.ensures.unchanged c.in_ok-list.ensures.taken)
-    c.reserve_sectors.new.self c.write_taken.new.sectors c.len.result c.reserve_sectors.ensures (c.write_taken.ensures.changes told)
-
-pub returns-clause-spares : goal.returns-clause-spares
-returns-clause-spares g c told =
-    taken_written c.deref.result.now c.deref.ensures.value c.self.view_is (taken_reserved c.reserve.ensures.unchanged c.in_ok-list.ensures.taken)
-    c.reserve_sectors.new.self c.write_taken.new.sectors c.len.result c.reserve_sectors.ensures (c.write_taken.ensures.changes told)
+pub returns-in_err-write_taken-clause-begins : goal.returns-in_err-write_taken-clause-begins
+returns-in_err-write_taken-clause-begins g c = record {
+  none = first_of (search rules, search (rules, refused_changed), grind (arith, common_steps));
+  filled = first_of (search rules, search (rules, refused_changed), grind (arith, common_steps));
+  spares = λ told. (
+      taken_written c.deref.result.now c.deref.ensures.value c.self.view_is (taken_reserved c.reserve.ensures.unchanged c.in_ok-list.ensures.list.taken)
+      c.reserve_sectors.new.self c.write_taken.new.sectors c.len.result c.reserve_sectors.ensures (c.write_taken.ensures.writes.changes told)
+  );
+  refused = first_of (search rules, search (rules, refused_changed), grind (arith, common_steps));
+  err = first_of (search rules, search (rules, refused_changed), grind (arith, common_steps));
+}

@@ -8,4 +8,4 @@ returns-clause-filled g c told validation h =
     let new = c.extend_listed_from.new.self in
     on_ok _ _ c.extend_listed_from.result
     (filled_each new.tables.version c.args.init new.file.bytes (gained c.args.ids.now.items c.extend_listed_from.new.ids.items))
-    (c.extend_listed_from.ensures.put told validation h)
+    (c.extend_listed_from.ensures.fills.put told validation h)

@@ -1,4 +1,5 @@
-use Rattle.std.proofs.Common.{refl, ap, sym, subst, []}
+use Rattle.std.proofs.lemmas.Grind.{common_steps}
+use Rattle.std.proofs.Common.{refl, ap, sym, subst, [], rules, arith}
 use Rattle.cfb_format.specs.Chain.{IsChain}
 use Rattle.cfb_alloc.specs.Alloc.{AllocatorState, HoldsTables}
 use Rattle.cfb_table_words.specs.Holding.{HoldsBut}
@@ -10,10 +11,14 @@ use Rattle.cfb_alloc.proofs.FreeingLemmas.{changes_said, placed_changed}
 use Rattle.cfb_alloc.proofs.ListedLemmas.{shown_cut, cut_below, listed_cut_clean, listed_cut_holds, listed_cut_spares}
 use Rattle.cfb_alloc.proofs.alloc.Allocator.free_behind.Goals as goal
 
-pub write_values-requires-clause-placed : goal.write_values-requires-clause-placed
-write_values-requires-clause-placed g c =
-    placed_changed c.self.inside.tables c.cut_listed.new.self c.cut_listed.ensures.rest c.cut_listed.ensures.cut.same_length c.self.inside.sectors c.self.inside.sectors
-    refl refl c.self.invariant.0
+pub write_values-requires-clause-tables : goal.write_values-requires-clause-tables
+write_values-requires-clause-tables g c = record {
+  placed = (
+      placed_changed c.self.inside.tables c.cut_listed.new.self c.cut_listed.ensures.cuts.rest c.cut_listed.ensures.cuts.cut.same_length c.self.inside.sectors c.self.inside.sectors
+      refl refl c.self.invariant.0
+  );
+  covered = first_of (search rules, grind (arith, common_steps));
+}
 
 pub write_values-requires-clause-below : goal.write_values-requires-clause-below
 write_values-requires-clause-below g c i m =
@@ -21,12 +26,12 @@ write_values-requires-clause-below g c i m =
     let t0 = c.self.inside.tables in
     let chain = subst (λ (a : AllocatorState). IsChain a.tables.fat (first_or_end ids) ids) (sym c.self.view_is) c.requires.chain in
     let same = shown_cut t0.fat ids c.args.left c.saturating_sub.result chain c.requires.fewer c.saturating_sub.ensures in
-    cut_below t0 c.cut_listed.new.self c.cut_listed.ensures.rest ids c.args.left chain c.requires.fewer c.cut_listed.ensures.cut _ same i m
+    cut_below t0 c.cut_listed.new.self c.cut_listed.ensures.cuts.rest ids c.args.left chain c.requires.fewer c.cut_listed.ensures.cuts.cut _ same i m
 
 pub invariant_of-self : goal.invariant_of-self
 invariant_of-self g c =
-    let kept = c.write_values.ensures.kept in (
-      placed_changed c.self.inside.tables c.cut_listed.new.self c.cut_listed.ensures.rest c.cut_listed.ensures.cut.same_length c.self.inside.sectors c.write_values.new.sectors
+    let kept = c.write_values.ensures.writes.kept in (
+      placed_changed c.self.inside.tables c.cut_listed.new.self c.cut_listed.ensures.cuts.rest c.cut_listed.ensures.cuts.cut.same_length c.self.inside.sectors c.write_values.new.sectors
           (ap (λ (f : SectorFile). f.version) kept) (ap (λ (f : SectorFile). f.num_sectors) kept) c.self.invariant.0,
       tt,
     )
@@ -42,23 +47,31 @@ returns-clause-holds g c told validation h unnamed =
     let e = c.cut_listed.ensures in
     let chain = subst (λ (a : AllocatorState). IsChain a.tables.fat (first_or_end ids) ids) back c.requires.chain in
     let same = shown_cut t0.fat ids left c.saturating_sub.result chain c.requires.fewer c.saturating_sub.ensures in
-    let clean = listed_cut_clean t0 t e.rest ids left chain c.requires.fewer e.cut
+    let clean = listed_cut_clean t0 t e.cuts.rest ids left chain c.requires.fewer e.cuts.cut
     (λ none. subst (λ (a : AllocatorState). IsUnnamed a.tables.fat (first_or_end ids)) back (unnamed none))
     (subst (λ (a : AllocatorState). IsClean a.tables.fat) back h.clean) in
-    let late = listed_cut_holds t0 t e.rest ids left chain c.requires.fewer e.cut _ same validation s0 clean
+    let late = listed_cut_holds t0 t e.cuts.rest ids left chain c.requires.fewer e.cuts.cut _ same validation s0 clean
     (subst (λ (a : AllocatorState). HoldsBut validation [] a.file a.tables) back h.holds) in
     on_ok (HoldsBut validation [] c.write_values.new.sectors t) (HoldsTables validation (record { file = c.write_values.new.sectors; tables = t })) c.write_values.result
     (λ b. record { holds = b; clean = clean })
     (c.write_values.ensures.ok told validation [] late)
 
-pub returns-clause-spares : goal.returns-clause-spares
-returns-clause-spares g c told =
-    let ids = c.args.ids.now in
-    let s0 = c.self.inside.sectors in
-    let s1 = c.write_values.new.sectors in
-    let t0 = c.self.inside.tables in
-    let t = c.cut_listed.new.self in
-    let e = c.cut_listed.ensures in
-    let chain = subst (λ (a : AllocatorState). IsChain a.tables.fat (first_or_end ids) ids) (sym c.self.view_is) c.requires.chain in
-    listed_cut_spares t0 t e.rest ids c.args.left chain c.requires.fewer e.cut s1 c.self.view_is
-    (changes_said t0 t e.rest c.args.self.now s0 s1.bytes c.self.view_is c.self.invariant.0 (c.write_values.ensures.changes told))
+pub returns-clause-frees : goal.returns-clause-frees
+returns-clause-frees g c = record {
+  given_back = first_of (search rules, grind (arith, common_steps));
+  changes = first_of (search rules, grind (arith, common_steps));
+  spares = λ told. (
+      let ids = c.args.ids.now in
+      let s0 = c.self.inside.sectors in
+      let s1 = c.write_values.new.sectors in
+      let t0 = c.self.inside.tables in
+      let t = c.cut_listed.new.self in
+      let e = c.cut_listed.ensures in
+      let chain = subst (λ (a : AllocatorState). IsChain a.tables.fat (first_or_end ids) ids) (sym c.self.view_is) c.requires.chain in
+      listed_cut_spares t0 t e.cuts.rest ids c.args.left chain c.requires.fewer e.cuts.cut s1 c.self.view_is
+      (changes_said t0 t e.cuts.rest c.args.self.now s0 s1.bytes c.self.view_is c.self.invariant.0 (c.write_values.ensures.writes.changes told))
+  );
+  begun = first_of (search rules, grind (arith, common_steps));
+  err = first_of (search rules, grind (arith, common_steps));
+  counts = first_of (search rules, grind (arith, common_steps));
+}

@@ -9,7 +9,7 @@ pub returns-clause-filled : goal.returns-clause-filled
 returns-clause-filled g c told validation h =
     let now = c.args.self.now in
     let grown = c.grow_from.new.self in
-    on_ok _ _ c.grow_from.result (λ put. filled_each (version_of grown) (init_of now) (allocator_of grown).now.file.bytes (gained (ids_of now) (ids_of grown)) put) (c.grow_from.ensures.put told validation h)
+    on_ok _ _ c.grow_from.result (λ put. filled_each (version_of grown) (init_of now) (allocator_of grown).now.file.bytes (gained (ids_of now) (ids_of grown)) put) (c.grow_from.ensures.fills.put told validation h)
 
 pub returns-clause-content : goal.returns-clause-content
 returns-clause-content g c told validation h whole =
@@ -18,6 +18,6 @@ returns-clause-content g c told validation h whole =
     let e = c.grow_from.ensures in
     on_three _ _ _ _ c.grow_from.result
     (λ listed counted put. content_grown validation (allocator_of now).now (allocator_of grown).now (start_sector_of now) (ids_of now) (ids_of grown) now.chained h whole
-    e.version c.args.count (init_of now) (gained (ids_of now) (ids_of grown)) listed counted (e.others told)
+    e.same.version c.args.count (init_of now) (gained (ids_of now) (ids_of grown)) listed counted (e.takes.others told)
     (filled_each (version_of grown) (init_of now) (allocator_of grown).now.file.bytes (gained (ids_of now) (ids_of grown)) put))
-    e.ids e.count (e.put told validation h)
+    e.grows.listed e.grows.counted (e.fills.put told validation h)

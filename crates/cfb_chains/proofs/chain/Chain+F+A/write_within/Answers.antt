@@ -1,4 +1,5 @@
-use Rattle.std.proofs.Common.{◌≡◌, ◌≤◌, ◌<◌, ◌+◌, ◌*◌, ◌/◌, ◌∙◌, ℕ, List, ap, arith, length, length-take, max, refl, subst, sym, take}
+use Rattle.std.proofs.lemmas.Grind.{common_steps}
+use Rattle.std.proofs.Common.{◌≡◌, ◌≤◌, ◌<◌, ◌+◌, ◌*◌, ◌/◌, ◌∙◌, ℕ, List, ap, arith, length, length-take, max, refl, subst, sym, take, rules}
 use Rattle.std.specs.Prelude.{slice_index, true}
 use Rattle.std.proofs.lemmas.List.Elements.{Contains-get_or}
 use Rattle.cfb_format.specs.Bytes.{sector_len}
@@ -21,8 +22,15 @@ use Rattle.cfb_chains.proofs.chain.Chain+F+A.write_within.Goals as goal
 pub returns-then-room-eq0-clause-sectors : goal.returns-then-room-eq0-clause-sectors
 returns-then-room-eq0-clause-sectors g c told i other = SectorStays_refl _ i _
 
-pub returns-then-room-eq0-clause-spares : goal.returns-then-room-eq0-clause-spares
-returns-then-room-eq0-clause-spares g c told = spares_refl (ids_of c.args.self.now) (allocator_of c.args.self.now).now
+pub returns-then-room-eq0-clause-writes : goal.returns-then-room-eq0-clause-writes
+returns-then-room-eq0-clause-writes g c = record {
+  tables = first_of (search rules, grind (arith, common_steps));
+  kept = first_of (search rules, grind (arith, common_steps));
+  holds = first_of (search rules, grind (arith, common_steps));
+  err = first_of (search rules, grind (arith, common_steps));
+  spares = λ told. spares_refl (ids_of c.args.self.now) (allocator_of c.args.self.now).now;
+  counts = first_of (search rules, grind (arith, common_steps));
+}
 
 pub write_run-requires-clause-listed : goal.write_run-requires-clause-listed
 write_run-requires-clause-listed g c =
@@ -49,69 +57,82 @@ invariant_of-self-2-clause-within g c =
     let ids = ids_of now in
     let e = c.in_ok-written.ensures in
     let n = c.in_ok-written.written in
-    let longest = subst (λ (xs : List ℕ). IsLongestRun v xs (position_of now) (length c.args.from.now) n) c.numbers.ensures e.count in
-    subst (λ (t : TableState). position_of now + n ≤ length ids * sector_len t.version) (sym e.kept.tables) (run_fits v ids (position_of now) n e.some.0 longest.run)
+    let longest = subst (λ (xs : List ℕ). IsLongestRun v xs (position_of now) (length c.args.from.now) n) c.numbers.ensures e.run.longest in
+    subst (λ (t : TableState). position_of now + n ≤ length ids * sector_len t.version) (sym e.writes.kept.tables) (run_fits v ids (position_of now) n e.run.some.0 longest.run)
 
-pub returns-clause-count : goal.returns-clause-count
-returns-clause-count g c =
-    let now = c.args.self.now in
-    let v = version_of now in
-    let ids = ids_of now in
-    let e = c.in_ok-written.ensures in
-    let n = c.in_ok-written.written in
-    let longest = subst (λ (xs : List ℕ). IsLongestRun v xs (position_of now) (length c.args.from.now) n) c.numbers.ensures e.count in
-    let fits = run_fits v ids (position_of now) n e.some.0 longest.run in
-    let few = e.some.1 in
-    omega (arith, fits, few)
+pub returns-clause-part : goal.returns-clause-part
+returns-clause-part g c = record {
+  most = (
+      let now = c.args.self.now in
+      let v = version_of now in
+      let ids = ids_of now in
+      let e = c.in_ok-written.ensures in
+      let n = c.in_ok-written.written in
+      let longest = subst (λ (xs : List ℕ). IsLongestRun v xs (position_of now) (length c.args.from.now) n) c.numbers.ensures e.run.longest in
+      let fits = run_fits v ids (position_of now) n e.run.some.0 longest.run in
+      let few = e.run.some.1 in
+      omega (arith, fits, few)
+  );
+  some = first_of (search rules, grind (arith, common_steps));
+  none = first_of (search rules, grind (arith, common_steps));
+  done = λ told some. (
+      let now = c.args.self.now in
+      let file = (allocator_of now).now.file in
+      let n = c.in_ok-written.written in
+      subst (λ (xs : List ℕ). c.write_run.new.allocator.file ≡ record file {
+        bytes = written file.bytes (place_along (version_of now) xs (position_of now)) (take n c.args.from.now);
+        len = max file.len (place_along (version_of now) xs (position_of now) + n);
+        begun = true;
+      }) c.numbers.ensures (c.in_ok-written.ensures.run.done told)
+  );
+  places = λ told. (
+      let now = c.args.self.now in
+      let v = version_of now in
+      let ids = ids_of now in
+      let file = (allocator_of now).now.file in
+      let e = c.in_ok-written.ensures in
+      let n = c.in_ok-written.written in
+      let longest = subst (λ (xs : List ℕ). IsLongestRun v xs (position_of now) (length c.args.from.now) n) c.numbers.ensures e.run.longest in
+      let put = ap (λ (f : SectorFile). f.bytes) (e.run.done told)
+      ∙ ap (λ (xs : List ℕ). written file.bytes (place_along v xs (position_of now)) (take n c.args.from.now)) c.numbers.ensures in
+      wrote_run now _ n c.args.from.now (ap (λ (t : TableState). t.version) e.writes.kept.tables) refl (found_chain _ _ _ now.chained).distinct put longest.run e.run.some.1
+  );
+  content = λ told whole some. (
+      let now = c.args.self.now in
+      let v = version_of now in
+      let ids = ids_of now in
+      let file = (allocator_of now).now.file in
+      let e = c.in_ok-written.ensures in
+      let n = c.in_ok-written.written in
+      let from = c.args.from.now in
+      let size = length-take n from in
+      let full : length (take n from) ≡ n = omega (arith, size, e.run.some.1) in
+      let longest = subst (λ (xs : List ℕ). IsLongestRun v xs (position_of now) (length from) n) c.numbers.ensures e.run.longest in
+      let put = ap (λ (f : SectorFile). f.bytes) (e.run.done told) ∙ ap (λ (xs : List ℕ). written file.bytes (place_along v xs (position_of now)) (take n from)) c.numbers.ensures in
+      content_put v (c.write_run.new.allocator).tables.version file.bytes (c.write_run.new.allocator).file.bytes ids ids (position_of now) (take n from)
+      (ap (λ (t : TableState). t.version) e.writes.kept.tables) refl (found_chain _ _ _ now.chained).distinct whole (omega (arith, full, some))
+      (subst (λ m. IsRun v ids (position_of now) m) (sym full) longest.run) put
+  );
+}
 
-pub returns-clause-ok : goal.returns-clause-ok
-returns-clause-ok g c told some =
-    let now = c.args.self.now in
-    let file = (allocator_of now).now.file in
-    let n = c.in_ok-written.written in
-    subst (λ (xs : List ℕ). c.write_run.new.allocator.file ≡ record file {
-      bytes = written file.bytes (place_along (version_of now) xs (position_of now)) (take n c.args.from.now);
-      len = max file.len (place_along (version_of now) xs (position_of now) + n);
-      begun = true;
-    }) c.numbers.ensures (c.in_ok-written.ensures.ok told)
-
-pub returns-clause-places : goal.returns-clause-places
-returns-clause-places g c told =
-    let now = c.args.self.now in
-    let v = version_of now in
-    let ids = ids_of now in
-    let file = (allocator_of now).now.file in
-    let e = c.in_ok-written.ensures in
-    let n = c.in_ok-written.written in
-    let longest = subst (λ (xs : List ℕ). IsLongestRun v xs (position_of now) (length c.args.from.now) n) c.numbers.ensures e.count in
-    let put = ap (λ (f : SectorFile). f.bytes) (e.ok told)
-    ∙ ap (λ (xs : List ℕ). written file.bytes (place_along v xs (position_of now)) (take n c.args.from.now)) c.numbers.ensures in
-    wrote_run now _ n c.args.from.now (ap (λ (t : TableState). t.version) e.kept.tables) refl (found_chain _ _ _ now.chained).distinct put longest.run e.some.1
-
-pub returns-clause-holds : goal.returns-clause-holds
-returns-clause-holds g c told validation h =
-    let now = c.args.self.now in
-    let a = (allocator_of now).now in
-    c.in_ok-written.ensures.holds told validation h
-    (subst (λ (xs : List ℕ). AreDisjoint xs (table_sectors a.tables)) (sym c.numbers.ensures)
-    (λ i m t. no_table_sector validation a (start_sector_of now) (ids_of now) now.chained h i m t))
-
-pub returns-clause-content : goal.returns-clause-content
-returns-clause-content g c told whole some =
-    let now = c.args.self.now in
-    let v = version_of now in
-    let ids = ids_of now in
-    let file = (allocator_of now).now.file in
-    let e = c.in_ok-written.ensures in
-    let n = c.in_ok-written.written in
-    let from = c.args.from.now in
-    let size = length-take n from in
-    let full : length (take n from) ≡ n = omega (arith, size, e.some.1) in
-    let longest = subst (λ (xs : List ℕ). IsLongestRun v xs (position_of now) (length from) n) c.numbers.ensures e.count in
-    let put = ap (λ (f : SectorFile). f.bytes) (e.ok told) ∙ ap (λ (xs : List ℕ). written file.bytes (place_along v xs (position_of now)) (take n from)) c.numbers.ensures in
-    content_put v (c.write_run.new.allocator).tables.version file.bytes (c.write_run.new.allocator).file.bytes ids ids (position_of now) (take n from)
-    (ap (λ (t : TableState). t.version) e.kept.tables) refl (found_chain _ _ _ now.chained).distinct whole (omega (arith, full, some))
-    (subst (λ m. IsRun v ids (position_of now) m) (sym full) longest.run) put
+pub returns-clause-writes : goal.returns-clause-writes
+returns-clause-writes g c = record {
+  tables = first_of (search rules, grind (arith, common_steps));
+  kept = first_of (search rules, grind (arith, common_steps));
+  holds = λ told validation h. (
+      let now = c.args.self.now in
+      let a = (allocator_of now).now in
+      c.in_ok-written.ensures.writes.holds told validation h
+      (subst (λ (xs : List ℕ). AreDisjoint xs (table_sectors a.tables)) (sym c.numbers.ensures)
+      (λ i m t. no_table_sector validation a (start_sector_of now) (ids_of now) now.chained h i m t))
+  );
+  err = first_of (search rules, grind (arith, common_steps));
+  spares = λ told. (
+      let now = c.args.self.now in
+      subst (λ (xs : List ℕ). Spares xs (allocator_of now).now c.write_run.new.allocator) c.numbers.ensures (c.write_run.ensures.writes.spares told)
+  );
+  counts = first_of (search rules, grind (arith, common_steps));
+}
 
 pub returns-in_err-written-clause-sectors : goal.returns-in_err-written-clause-sectors
 returns-in_err-written-clause-sectors g c told =
@@ -119,7 +140,7 @@ returns-in_err-written-clause-sectors g c told =
     let bytes = (allocator_of now).now.file.bytes in
     let new = (c.write_run.new.allocator).file.bytes in
     run_sectors now new (length c.args.from.now)
-    (subst (λ (xs : List ℕ). ChangesOnlyRun (version_of now) xs (position_of now) (length c.args.from.now) bytes new) c.numbers.ensures (c.write_run.ensures.others told))
+    (subst (λ (xs : List ℕ). ChangesOnlyRun (version_of now) xs (position_of now) (length c.args.from.now) bytes new) c.numbers.ensures (c.write_run.ensures.run.others told))
 
 pub returns-clause-sectors : goal.returns-clause-sectors
 returns-clause-sectors g c told =
@@ -127,7 +148,7 @@ returns-clause-sectors g c told =
     let bytes = (allocator_of now).now.file.bytes in
     let new = (c.write_run.new.allocator).file.bytes in
     run_sectors now new (length c.args.from.now)
-    (subst (λ (xs : List ℕ). ChangesOnlyRun (version_of now) xs (position_of now) (length c.args.from.now) bytes new) c.numbers.ensures (c.write_run.ensures.others told))
+    (subst (λ (xs : List ℕ). ChangesOnlyRun (version_of now) xs (position_of now) (length c.args.from.now) bytes new) c.numbers.ensures (c.write_run.ensures.run.others told))
 
 pub returns-in_err-written-clause-others : goal.returns-in_err-written-clause-others
 returns-in_err-written-clause-others g c told =
@@ -135,7 +156,7 @@ returns-in_err-written-clause-others g c told =
     let bytes = (allocator_of now).now.file.bytes in
     let new = (c.write_run.new.allocator).file.bytes in
     run_wanted now _ (length c.args.from.now)
-    (subst (λ (xs : List ℕ). ChangesOnlyRun (version_of now) xs (position_of now) (length c.args.from.now) bytes new) c.numbers.ensures (c.write_run.ensures.others told))
+    (subst (λ (xs : List ℕ). ChangesOnlyRun (version_of now) xs (position_of now) (length c.args.from.now) bytes new) c.numbers.ensures (c.write_run.ensures.run.others told))
 
 pub returns-clause-others : goal.returns-clause-others
 returns-clause-others g c told =
@@ -143,14 +164,17 @@ returns-clause-others g c told =
     let bytes = (allocator_of now).now.file.bytes in
     let new = (c.write_run.new.allocator).file.bytes in
     run_wanted now _ (length c.args.from.now)
-    (subst (λ (xs : List ℕ). ChangesOnlyRun (version_of now) xs (position_of now) (length c.args.from.now) bytes new) c.numbers.ensures (c.write_run.ensures.others told))
+    (subst (λ (xs : List ℕ). ChangesOnlyRun (version_of now) xs (position_of now) (length c.args.from.now) bytes new) c.numbers.ensures (c.write_run.ensures.run.others told))
 
-pub returns-in_err-written-clause-spares : goal.returns-in_err-written-clause-spares
-returns-in_err-written-clause-spares g c told =
-    let now = c.args.self.now in
-    subst (λ (xs : List ℕ). Spares xs (allocator_of now).now c.write_run.new.allocator) c.numbers.ensures (c.write_run.ensures.spares told)
-
-pub returns-clause-spares : goal.returns-clause-spares
-returns-clause-spares g c told =
-    let now = c.args.self.now in
-    subst (λ (xs : List ℕ). Spares xs (allocator_of now).now c.write_run.new.allocator) c.numbers.ensures (c.write_run.ensures.spares told)
+pub returns-in_err-written-clause-writes : goal.returns-in_err-written-clause-writes
+returns-in_err-written-clause-writes g c = record {
+  tables = first_of (search rules, grind (arith, common_steps));
+  kept = first_of (search rules, grind (arith, common_steps));
+  holds = first_of (search rules, grind (arith, common_steps));
+  err = first_of (search rules, grind (arith, common_steps));
+  spares = λ told. (
+      let now = c.args.self.now in
+      subst (λ (xs : List ℕ). Spares xs (allocator_of now).now c.write_run.new.allocator) c.numbers.ensures (c.write_run.ensures.writes.spares told)
+  );
+  counts = first_of (search rules, grind (arith, common_steps));
+}

@@ -1,4 +1,5 @@
-use Rattle.std.proofs.Common.{◌≡◌, ℕ, List, ◌∷◌, sym, subst}
+use Rattle.std.proofs.lemmas.Grind.{common_steps}
+use Rattle.std.proofs.Common.{◌≡◌, ℕ, List, ◌∷◌, sym, subst, rules, arith}
 use Rattle.std.specs.Prelude.{OnOk}
 use Rattle.cfb_format.specs.Reading.{Outline, numbers}
 use Rattle.cfb_directory.specs.cfb_outline.Outlines.{HasInside}
@@ -16,20 +17,33 @@ pub clear_storage-requires-clause-above : goal.clear_storage-requires-clause-abo
 clear_storage-requires-clause-above g c = least-kept c.self.inside.sectors.items c.deref.result.now c.self.inside.above c.deref.ensures.value c.self.invariant
 
 pub returns-clause-holds : goal.returns-clause-holds
-returns-clause-holds g c told validation h =
-    let table = c.self.inside.allocator in
-    let list = c.self.inside.entries in
-    let here = subst (λ (s : List ℕ). HoldsDirectory validation (directory_of table s list)) (sym c.deref.ensures.value) (subst (HoldsDirectory validation) (sym c.self.view_is) h) in
-    subst (λ (s : List ℕ). OnOk c.clear_storage.result (HoldsDirectory validation (directory_of c.clear_storage.new.allocator s c.clear_storage.new.entries))) c.deref.ensures.value
-    (c.clear_storage.ensures.holds told validation here)
+returns-clause-holds g c = record {
+  holds = λ told validation h. (
+      let table = c.self.inside.allocator in
+      let list = c.self.inside.entries in
+      let here = subst (λ (s : List ℕ). HoldsDirectory validation (directory_of table s list)) (sym c.deref.ensures.value) (subst (HoldsDirectory validation) (sym c.self.view_is) h) in
+      subst (λ (s : List ℕ). OnOk c.clear_storage.result (HoldsDirectory validation (directory_of c.clear_storage.new.allocator s c.clear_storage.new.entries))) c.deref.ensures.value
+      (c.clear_storage.ensures.holds.holds told validation here)
+  );
+  err = first_of (search rules, grind (arith, common_steps));
+}
 
-pub returns-clause-others : goal.returns-clause-others
-returns-clause-others g c told =
-    let table = c.self.inside.allocator in
-    let list = c.self.inside.entries in
-    subst (λ (d : DirectoryState). KeepsOtherSectors d (directory_of c.clear_storage.new.allocator c.self.inside.sectors.items c.clear_storage.new.entries)) c.self.view_is
-    (subst (λ (s : List ℕ). KeepsOtherSectors (directory_of table s list) (directory_of c.clear_storage.new.allocator s c.clear_storage.new.entries)) c.deref.ensures.value
-    (c.clear_storage.ensures.others told))
+pub returns-clause-changes : goal.returns-clause-changes
+returns-clause-changes g c = record {
+  limits = first_of (search rules, grind (arith, common_steps));
+  header = first_of (search rules, grind (arith, common_steps));
+  others = λ told. (
+      let table = c.self.inside.allocator in
+      let list = c.self.inside.entries in
+      subst (λ (d : DirectoryState). KeepsOtherSectors d (directory_of c.clear_storage.new.allocator c.self.inside.sectors.items c.clear_storage.new.entries)) c.self.view_is
+      (subst (λ (s : List ℕ). KeepsOtherSectors (directory_of table s list) (directory_of c.clear_storage.new.allocator s c.clear_storage.new.entries)) c.deref.ensures.value
+      (c.clear_storage.ensures.changes.others told))
+  );
+  spares = first_of (search rules, grind (arith, common_steps));
+  begun = first_of (search rules, grind (arith, common_steps));
+  refused = first_of (search rules, grind (arith, common_steps));
+  counts = first_of (search rules, grind (arith, common_steps));
+}
 
 pub returns-clause-slots : goal.returns-clause-slots
 returns-clause-slots g c told validation h =

@@ -11,5 +11,5 @@ returns-clause-holds g c told validation h =
     let here = subst (λ (s : MiniState). HoldsMini validation s) (sym c.self.view_is) h in
     let sizes = subst (λ (a : AllocatorState). AreSizes a.tables.version (sizes_of a.tables)) c.allocator.ensures c.file_len-fact.ensures.sizes in
     let was = c.begin_chain-begun.ensures in
-    chains-held c.begin_chain-begun.result validation [] _ c.begin_chain-begun.new.self here was.rest (was.holds told validation here.directory.tables) sizes (was.spares told)
-    (λ i m o. Contains-nil i o) (was.others told).header
+    chains-held c.begin_chain-begun.result validation [] _ c.begin_chain-begun.new.self here was.rest (was.holds told validation here.directory.tables) sizes (was.begins.spares told)
+    (λ i m o. Contains-nil i o) (was.takes.others told).header

@@ -1,4 +1,5 @@
-use Rattle.std.proofs.Common.{◌≡◌, ◌∷◌, sym, subst}
+use Rattle.std.proofs.lemmas.Grind.{common_steps}
+use Rattle.std.proofs.Common.{◌≡◌, ◌∷◌, sym, subst, rules, arith}
 use Rattle.cfb_format.specs.Reading.{Outline, numbers}
 use Rattle.cfb_mini.specs.cfb_outline.Outlines.{HasInside, IsReachedStorage}
 use Rattle.cfb_mini.specs.cfb_directory.Clearing.{KeepsSlotsOutside}
@@ -9,18 +10,32 @@ use Rattle.cfb_mini.proofs.MiniDirectory.{cleared-holds}
 use Rattle.cfb_mini.proofs.mini_allocator.MiniAllocator.clear.Goals as goal
 
 pub returns-clause-holds : goal.returns-clause-holds
-returns-clause-holds g c told validation h =
-    let here = subst (λ (s : MiniState). HoldsMini validation s) (sym c.self.view_is) h in
-    let top = subst (λ (s : MiniState). IsReachedStorage (cases_of s) (entries_of s) c.args.top) (sym c.self.view_is) c.requires.top in
-    let all = subst (λ (s : MiniState). (o : Outline) → HasInside (cases_of s) (entries_of s) c.args.top o → c.args.inside.now ≡ numbers o) (sym c.self.view_is) c.requires.all in
-    let was = c.clear.ensures in
-    cleared-holds c.clear.result validation _ c.clear.new.self c.args.top c.args.inside.now here top all
-    (was.holds told validation here.directory) (was.spares told) (was.header told) was.cleared was.kept.0
+returns-clause-holds g c = record {
+  holds = λ told validation h. (
+      let here = subst (λ (s : MiniState). HoldsMini validation s) (sym c.self.view_is) h in
+      let top = subst (λ (s : MiniState). IsReachedStorage (cases_of s) (entries_of s) c.args.top) (sym c.self.view_is) c.requires.top in
+      let all = subst (λ (s : MiniState). (o : Outline) → HasInside (cases_of s) (entries_of s) c.args.top o → c.args.inside.now ≡ numbers o) (sym c.self.view_is) c.requires.all in
+      let was = c.clear.ensures in
+      cleared-holds c.clear.result validation _ c.clear.new.self c.args.top c.args.inside.now here top all
+      (was.holds.holds told validation here.directory) (was.changes.spares told) (was.changes.header told) was.cleared was.changes.kept.0
+  );
+  limits = first_of (search rules, grind (arith, common_steps));
+  err = first_of (search rules, grind (arith, common_steps));
+}
 
 pub returns-clause-slots : goal.returns-clause-slots
 returns-clause-slots g c told validation =
     subst (λ (s : MiniState). HoldsDirectory validation s.directory → KeepsSlotsOutside (c.args.top ∷ c.args.inside.now) s.directory c.clear.new.self) c.self.view_is
     (c.clear.ensures.slots told validation)
 
-pub returns-clause-others : goal.returns-clause-others
-returns-clause-others g c told = subst (λ (s : MiniState). KeepsOtherSectors s.directory c.clear.new.self) c.self.view_is (c.clear.ensures.others told)
+pub returns-clause-changes : goal.returns-clause-changes
+returns-clause-changes g c = record {
+  kept = first_of (search rules, grind (arith, common_steps));
+  spares = first_of (search rules, grind (arith, common_steps));
+  header = first_of (search rules, grind (arith, common_steps));
+  others = λ told. subst (λ (s : MiniState). KeepsOtherSectors s.directory c.clear.new.self) c.self.view_is (c.clear.ensures.changes.others told);
+  mini = first_of (search rules, grind (arith, common_steps));
+  begun = first_of (search rules, grind (arith, common_steps));
+  refused = first_of (search rules, grind (arith, common_steps));
+  counts = first_of (search rules, grind (arith, common_steps));
+}

@@ -17,4 +17,4 @@ returns-clause-holds g c told validation h list chain apart =
     let sizes = subst (λ (a : AllocatorState). AreSizes a.tables.version (sizes_of a.tables)) c.allocator.ensures c.file_len-fact.ensures.sizes in
     let was = c.extend_chain-extended.ensures in
     chains-held c.extend_chain-extended.result validation list _ c.extend_chain-extended.new.self here was.rest (was.holds told validation here.directory.tables) sizes
-    (was.spares told list there) out (was.others told).header
+    (was.extends.spares told list there) out (was.takes.others told).header

@@ -19,4 +19,4 @@ returns-clause-holds g c told validation h list chain apart unnamed =
     let sizes = subst (λ (a : AllocatorState). AreSizes a.tables.version (sizes_of a.tables)) c.allocator.ensures c.file_len-fact.ensures.sizes in
     let was = c.free_chain-freed.ensures in
     chains-held c.free_chain-freed.result validation list _ c.free_chain-freed.new.self here was.rest (was.holds told validation here.directory.tables alone) sizes
-    (was.spares told list there) out (was.changes told).header
+    (was.frees.spares told list there) out (was.frees.changes told).header

@@ -1,4 +1,5 @@
-use Rattle.std.proofs.Common.{sym, subst}
+use Rattle.std.proofs.lemmas.Grind.{common_steps}
+use Rattle.std.proofs.Common.{sym, subst, rules, arith}
 use Rattle.std.specs.Prelude.{IfOk, OnOk, chars}
 use Rattle.cfb_mini.specs.cfb_directory.Inserting.{CanInsert, InsertsObject, SparesRest, WritesDirectory}
 use Rattle.cfb_mini.specs.cfb_mini_sectors.State.{HoldsMini, MiniState}
@@ -8,13 +9,21 @@ use Rattle.cfb_mini.proofs.mini_allocator.MiniAllocator.insert_dir_entry.Goals a
 pub insert_dir_entry-requires : goal.insert_dir_entry-requires
 insert_dir_entry-requires g c = subst (λ (s : MiniState). CanInsert s.directory c.args.parent (chars c.args.name.now) c.args.kind) (sym c.self.view_is) c.requires
 
-pub returns-clause-inserted : goal.returns-clause-inserted
-returns-clause-inserted g c = subst (λ (s : MiniState). IfOk c.insert_dir_entry.result (λ n.
-    InsertsObject s.directory c.insert_dir_entry.new.self c.args.parent n (chars c.args.name.now) c.args.kind c.args.moment)) c.self.view_is c.insert_dir_entry.ensures.inserted
-
-pub returns-clause-written : goal.returns-clause-written
-returns-clause-written g c told = subst (λ (s : MiniState). OnOk c.insert_dir_entry.result (WritesDirectory s.directory c.insert_dir_entry.new.self)) c.self.view_is
-    (c.insert_dir_entry.ensures.written told)
+pub returns-clause-inserts : goal.returns-clause-inserts
+returns-clause-inserts g c = record {
+  inserted = (
+      subst (λ (s : MiniState). IfOk c.insert_dir_entry.result (λ n.
+      InsertsObject s.directory c.insert_dir_entry.new.self c.args.parent n (chars c.args.name.now) c.args.kind c.args.moment)) c.self.view_is c.insert_dir_entry.ensures.inserts.inserted
+  );
+  kept = first_of (search rules, grind (arith, common_steps));
+  written = λ told. (
+      subst (λ (s : MiniState). OnOk c.insert_dir_entry.result (WritesDirectory s.directory c.insert_dir_entry.new.self)) c.self.view_is
+      (c.insert_dir_entry.ensures.inserts.written told)
+  );
+  spared = λ told. subst (λ (s : MiniState). SparesRest s.directory c.insert_dir_entry.new.self c.args.parent) c.self.view_is (c.insert_dir_entry.ensures.inserts.spared told);
+  err = first_of (search rules, grind (arith, common_steps));
+  counts = first_of (search rules, grind (arith, common_steps));
+}
 
 pub returns-clause-holds : goal.returns-clause-holds
 returns-clause-holds g c told validation h =
@@ -22,7 +31,4 @@ returns-clause-holds g c told validation h =
     let can = subst (λ (s : MiniState). CanInsert s.directory c.args.parent (chars c.args.name.now) c.args.kind) (sym c.self.view_is) c.requires in
     let was = c.insert_dir_entry.ensures in
     inserted-holds c.insert_dir_entry.result validation _ c.insert_dir_entry.new.self c.args.parent (chars c.args.name.now) c.args.kind c.args.moment here can.storage
-    was.inserted was.kept (was.written told) (was.spared told)
-
-pub returns-clause-spared : goal.returns-clause-spared
-returns-clause-spared g c told = subst (λ (s : MiniState). SparesRest s.directory c.insert_dir_entry.new.self c.args.parent) c.self.view_is (c.insert_dir_entry.ensures.spared told)
+    was.inserts.inserted was.inserts.kept (was.inserts.written told) (was.inserts.spared told)

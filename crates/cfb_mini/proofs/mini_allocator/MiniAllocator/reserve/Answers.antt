@@ -27,7 +27,7 @@ returns-in_err-reserve-clause-err g c =
     (λ none validation h. none (subst (λ (w : TableState). IsUsable w) (sym same) (held-usable validation (table_of s) h.directory.tables)))
     (λ _. enough)
     (λ few. inr (given-back-first (tables_in s) back lacks (subst (λ (w : TableState). IsTooFew w (lacks - back)) same (subst (λ n. IsTooFew t n) taken few))))
-    c.in_err-reserve.field-0.0 c.in_err-reserve.ensures.err)
+    c.in_err-reserve.field-0.0 c.in_err-reserve.ensures.usable.err)
 
 pub invariant_of-self-in_err-reserve : goal.invariant_of-self-in_err-reserve
 invariant_of-self-in_err-reserve g c =

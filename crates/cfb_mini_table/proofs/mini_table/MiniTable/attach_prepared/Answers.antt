@@ -9,7 +9,7 @@ invariant_of-self g c =
     let n = vec_len c.args.list.now in
     let more = drop n e.new.list.items in
     let p = rw (← c.self.view_is) at c.requires.prepared in
-    rw e.ensures.free_capacity
+    rw e.ensures.free.free_capacity
     (mini-taken s.limit s.minifat.items s.free.items e.new.minifat.items e.new.free.items (c.args.last ∷ []) more s.unused c.saturating_sub-self-inside.result _ c.args.count
-    c.self.invariant e.ensures.taken (omega (arith, e.ensures.count, e.new.list.ok.0, length-drop n e.new.list.items)) e.ensures.listed e.ensures.next e.ensures.fewer p.enough (omega (arith, p.held))
+    c.self.invariant e.ensures.attaches.taken (omega (arith, e.ensures.attaches.counted, e.new.list.ok.0, length-drop n e.new.list.items)) e.ensures.free.listed e.ensures.free.next e.ensures.free.fewer p.enough (omega (arith, p.held))
     c.saturating_sub-self-inside.ensures)

@@ -7,6 +7,6 @@ invariant_of-self g c =
     let s = c.self.inside in
     let b = c.begin in
     let p = rw (← c.self.view_is) at c.requires.prepared in
-    rw b.ensures.free_capacity
+    rw b.ensures.free.free_capacity
     (mini-taken s.limit s.minifat.items s.free.items b.new.minifat.items b.new.free.items [] b.new.list.items s.unused c.saturating_sub-self-inside.result _ c.args.count
-    c.self.invariant b.ensures.taken (omega (arith, b.ensures.count, b.new.list.ok.0)) b.ensures.listed b.ensures.next b.ensures.fewer p.enough (omega (arith, p.held)) c.saturating_sub-self-inside.ensures)
+    c.self.invariant b.ensures.begins.taken (omega (arith, b.ensures.begins.counted, b.new.list.ok.0)) b.ensures.free.listed b.ensures.free.next b.ensures.free.fewer p.enough (omega (arith, p.held)) c.saturating_sub-self-inside.ensures)

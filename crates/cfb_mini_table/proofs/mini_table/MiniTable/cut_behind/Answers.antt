@@ -31,9 +31,9 @@ pub invariant_of-self : goal.invariant_of-self
 invariant_of-self g c =
     let s = c.self.inside in
     let b = c.give_back-dropped in
-    rw b.ensures.free_capacity
+    rw b.ensures.gives.free_capacity
     (cut-again s.limit s.minifat.items c.args.list.now s.free.items c.args.last s.unused _ c.self.invariant (rw (← c.self.view_is) at c.requires.below) (rw (← c.self.view_is) at c.requires.chain)
-    b.new.minifat.items b.new.free.items b.result b.ensures.minifat b.ensures.listed b.ensures.free b.ensures.counted)
+    b.new.minifat.items b.new.free.items b.result b.ensures.gives.cut b.ensures.gives.listed b.ensures.gives.joined b.ensures.gives.counted)
 
 pub returns : goal.returns
 returns g c = record {
@@ -45,7 +45,7 @@ returns g c = record {
         let some : 0 < length list = omega (arith, eqb-false (length list) 0 (sym c.is_empty.ensures ∙ c.if-is_empty.false)) in
         rw (← c.self.view_is)
         (cut-is s.limit s.minifat.items list s.free.items c.args.last s.unused _ c.self.invariant (rw (← c.self.view_is) at c.requires.below) (rw (← c.self.view_is) at c.requires.chain)
-        b.new.minifat.items b.result some b.ensures.minifat b.ensures.counted (omega (arith, b.ensures.len, b.new.minifat.ok.0, s.minifat.ok.0)))
+        b.new.minifat.items b.result some b.ensures.gives.cut b.ensures.gives.counted (omega (arith, b.ensures.gives.len, b.new.minifat.ok.0, s.minifat.ok.0)))
         );
     prepared = λ count p. (
         let s = c.self.inside in
@@ -53,8 +53,8 @@ returns g c = record {
         let q = rw (← c.self.view_is) at p in
         let same = cut-count s.limit s.minifat.items c.args.list.now s.free.items c.args.last s.unused _ c.self.invariant (rw (← c.self.view_is) at c.requires.below) (rw (← c.self.view_is) at c.requires.chain) in
         record {
-          held = omega (arith, q.held, same, b.ensures.counted, b.ensures.len, b.ensures.capacity, b.ensures.free_capacity, b.new.minifat.ok.0, s.minifat.ok.0);
-          enough = omega (arith, q.enough, same, b.ensures.counted, b.ensures.len, b.new.minifat.ok.0, s.minifat.ok.0);
+          held = omega (arith, q.held, same, b.ensures.gives.counted, b.ensures.gives.len, b.ensures.gives.capacity, b.ensures.gives.free_capacity, b.new.minifat.ok.0, s.minifat.ok.0);
+          enough = omega (arith, q.enough, same, b.ensures.gives.counted, b.ensures.gives.len, b.new.minifat.ok.0, s.minifat.ok.0);
         }
         );
     rest = first_of (search rules, grind (arith, common_steps));

@@ -26,9 +26,9 @@ invariant_of-self g c =
     let s = c.self.inside in
     let m = c.self.invariant in
     let b = c.give_back-dropped in
-    rw b.ensures.free_capacity
+    rw b.ensures.gives.free_capacity
     (mini-freed s.limit s.minifat.items c.args.list.now b.new.minifat.items s.free.items b.new.free.items s.unused b.result _
-    m.short m.limited (rw (← c.self.view_is) at c.requires.busy) b.ensures.minifat b.ensures.listed b.ensures.free b.ensures.counted m.counted m.table_places m.free_places)
+    m.short m.limited (rw (← c.self.view_is) at c.requires.busy) b.ensures.gives.cut b.ensures.gives.listed b.ensures.gives.joined b.ensures.gives.counted m.counted m.table_places m.free_places)
 
 pub returns : goal.returns
 returns g c = record {
@@ -39,16 +39,16 @@ returns g c = record {
         let b = c.give_back-dropped in
         let some : 0 < length list = omega (arith, eqb-false (length list) 0 (sym c.is_empty.ensures ∙ c.if-is_empty.false)) in
         rw (← c.self.view_is)
-        (freed-is s.minifat.items list b.new.minifat.items b.result some (rw (← c.self.view_is) at c.requires.busy) b.ensures.minifat b.ensures.counted
-        (omega (arith, b.ensures.len, b.new.minifat.ok.0, s.minifat.ok.0)))
+        (freed-is s.minifat.items list b.new.minifat.items b.result some (rw (← c.self.view_is) at c.requires.busy) b.ensures.gives.cut b.ensures.gives.counted
+        (omega (arith, b.ensures.gives.len, b.new.minifat.ok.0, s.minifat.ok.0)))
         );
     prepared = λ count p. (
         let s = c.self.inside in
         let b = c.give_back-dropped in
         let q = rw (← c.self.view_is) at p in
         record {
-          held = omega (arith, q.held, b.ensures.counted, b.ensures.len, b.ensures.capacity, b.ensures.free_capacity, b.new.minifat.ok.0, s.minifat.ok.0);
-          enough = omega (arith, q.enough, b.ensures.counted, b.ensures.len, b.new.minifat.ok.0, s.minifat.ok.0);
+          held = omega (arith, q.held, b.ensures.gives.counted, b.ensures.gives.len, b.ensures.gives.capacity, b.ensures.gives.free_capacity, b.new.minifat.ok.0, s.minifat.ok.0);
+          enough = omega (arith, q.enough, b.ensures.gives.counted, b.ensures.gives.len, b.new.minifat.ok.0, s.minifat.ok.0);
         }
         );
     rest = first_of (search rules, grind (arith, common_steps));

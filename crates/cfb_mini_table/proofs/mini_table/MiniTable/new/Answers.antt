@@ -16,11 +16,11 @@ invariant_of-result g c =
     let len = ap (λ (z : List ℕ). length z) c.in_ok-minifat.ensures.minifat in
     let all = ap (λ (z : List ℕ). length z) same in
     record {
-      listed = subst (ListsMiniFree free.items) same (mini-listed free.items _ e.ok);
-      next = subst (TakesEndFirst free.items) same e.next;
+      listed = subst (ListsMiniFree free.items) same (mini-listed free.items _ e.lists.listed);
+      next = subst (TakesEndFirst free.items) same e.lists.next;
       counted = c.len-unused.ensures ∙ count;
       short = omega (arith, len, c.in_ok-minifat.ensures.accepted.table.short);
       limited = subst (λ n. n ≤ max_regular_sector) (sym c.max_len-limit.ensures) (max-mini c.args.version);
-      table_places = omega (arith, all, e.room);
-      free_places = λ i m. let w = (e.ok.sound i m).0 in omega (arith, w, e.room);
+      table_places = omega (arith, all, e.lists.room);
+      free_places = λ i m. let w = (e.lists.listed.sound i m).0 in omega (arith, w, e.lists.room);
     }

@@ -8,59 +8,108 @@ use Rattle.cfb_stream_window.proofs.Reading.{empty_read, end_read, read_runs, pa
 use Rattle.cfb_stream_window.proofs.Refusing.{failed_for, read_for}
 use Rattle.cfb_stream_window.proofs.read_window.ReadWindow.read.Goals as goal
 
-pub returns-then-is_failed-clause-refused : goal.returns-then-is_failed-clause-refused
-returns-then-is_failed-clause-refused g c = λ _.
-    failed_for _ _ _ _ _ (read (length c.args.into.now)) (sym c.is_failed.ensures ∙ c.if-is_failed.true) refl
+pub returns-then-is_failed-clause-answers : goal.returns-then-is_failed-clause-answers
+returns-then-is_failed-clause-answers g c = record {
+  most = first_of (search rules, grind (arith, common_steps));
+  rest = first_of (search rules, grind (arith, common_steps));
+  runs = first_of (search rules, grind (arith, common_steps));
+  refused = (
+      λ _.
+      failed_for _ _ _ _ _ (read (length c.args.into.now)) (sym c.is_failed.ensures ∙ c.if-is_failed.true) refl
+  );
+}
 
-pub returns-then-is_empty-clause-runs : goal.returns-then-is_empty-clause-runs
-returns-then-is_empty-clause-runs g c = λ _.
-    empty_read _ _ _ _ (sym c.is_failed.ensures ∙ c.if-is_failed.false) (c.take_back.ensures ∙ ap (λ (z : Window). record z { ahead = 0 }) c.self.view_is) c.args.into.now (is_empty_from _ (sym c.is_empty.ensures ∙ c.if-is_empty.true))
+pub returns-then-is_empty-clause-answers : goal.returns-then-is_empty-clause-answers
+returns-then-is_empty-clause-answers g c = record {
+  most = first_of (search rules, grind (arith, common_steps));
+  rest = first_of (search rules, grind (arith, common_steps));
+  runs = (
+      λ _.
+      empty_read _ _ _ _ (sym c.is_failed.ensures ∙ c.if-is_failed.false) (c.take_back.ensures ∙ ap (λ (z : Window). record z { ahead = 0 }) c.self.view_is) c.args.into.now (is_empty_from _ (sym c.is_empty.ensures ∙ c.if-is_empty.true))
+  );
+  refused = first_of (search rules, grind (arith, common_steps));
+}
 
-pub returns-then-position-len-clause-runs : goal.returns-then-position-len-clause-runs
-returns-then-position-len-clause-runs g c = λ _.
-    end_read _ _ _ _ (sym c.is_failed.ensures ∙ c.if-is_failed.false) (c.take_back-then-position-len.ensures ∙ ap (λ (z : Window). record z { ahead = 0 }) c.self.view_is) c.args.into.now (sym c.position.ensures.value ∙ c.if-position-len.true ∙ c.len.ensures.value)
+pub returns-then-position-len-clause-answers : goal.returns-then-position-len-clause-answers
+returns-then-position-len-clause-answers g c = record {
+  most = first_of (search rules, grind (arith, common_steps));
+  rest = first_of (search rules, grind (arith, common_steps));
+  runs = (
+      λ _.
+      end_read _ _ _ _ (sym c.is_failed.ensures ∙ c.if-is_failed.false) (c.take_back-then-position-len.ensures ∙ ap (λ (z : Window). record z { ahead = 0 }) c.self.view_is) c.args.into.now (sym c.position.ensures.value ∙ c.if-position-len.true ∙ c.len.ensures.value)
+  );
+  refused = first_of (search rules, grind (arith, common_steps));
+}
 
-pub returns-in_err-have_rest-clause-refused : goal.returns-in_err-have_rest-clause-refused
-returns-in_err-have_rest-clause-refused g c = λ (h : IsOpen g.C.ReadContents c.args.content.now c.args.id c.args.self.now).
-    let a = h.suits (sym c.is_failed.ensures ∙ c.if-is_failed.false) in
-    let r : IsReady g.C.ReadContents c.args.content.now c.args.id c.args.self.now = record { told = h.told; agrees = a } in
-    let e = c.in_err-have_rest.ensures in
-    let some = not_empty _ (sym c.is_empty.ensures ∙ c.if-is_empty.false) in
-    let p = err_from_is_err_and c.from_residual-in_err-have_rest.result c.from_residual-in_err-have_rest.ensures.1 in
-    rw (p.1, p.2) (read_for _ _ _ _ _ _ _ _ _
-    (refused_read _ _ _ _ _ _ _ _ _ a (omega (arith, c.position.ensures.value, c.position.ensures.inside, c.len.ensures.value)) (e.reads.around h.told).counts (e.refused r) (length c.args.into.now) some) _ (λ _. (e.reads.around h.told).kept) (e.refused r))
+pub returns-in_err-have_rest-clause-answers : goal.returns-in_err-have_rest-clause-answers
+returns-in_err-have_rest-clause-answers g c = record {
+  most = first_of (search rules, grind (arith, common_steps));
+  rest = first_of (search rules, grind (arith, common_steps));
+  runs = first_of (search rules, grind (arith, common_steps));
+  refused = (
+      λ (h : IsOpen g.C.ReadContents c.args.content.now c.args.id c.args.self.now).
+      let a = h.suits (sym c.is_failed.ensures ∙ c.if-is_failed.false) in
+      let r : IsReady g.C.ReadContents c.args.content.now c.args.id c.args.self.now = record { told = h.told; agrees = a } in
+      let e = c.in_err-have_rest.ensures in
+      let some = not_empty _ (sym c.is_empty.ensures ∙ c.if-is_empty.false) in
+      let p = err_from_is_err_and c.from_residual-in_err-have_rest.result c.from_residual-in_err-have_rest.ensures.1 in
+      rw (p.1, p.2) (read_for _ _ _ _ _ _ _ _ _
+      (refused_read _ _ _ _ _ _ _ _ _ a (omega (arith, c.position.ensures.value, c.position.ensures.inside, c.len.ensures.value)) (e.reads.around h.told).counts (e.refused r) (length c.args.into.now) some) _ (λ _. (e.reads.around h.told).kept) (e.refused r))
+  );
+}
 
-pub returns-in_err-count-clause-refused : goal.returns-in_err-count-clause-refused
-returns-in_err-count-clause-refused g c = λ (h : IsOpen g.C.ReadContents c.args.content.now c.args.id c.args.self.now).
-    let a = h.suits (sym c.is_failed.ensures ∙ c.if-is_failed.false) in
-    let r : IsReady g.C.ReadContents c.args.content.now c.args.id c.args.self.now = record { told = h.told; agrees = a } in
-    let e = c.in_err-count.ensures in
-    let some = not_empty _ (sym c.is_empty.ensures ∙ c.if-is_empty.false) in
-    let p = err_from_is_err_and c.from_residual.result c.from_residual.ensures.1 in
-    let broke = e.refused r in
-    rw (p.1, p.2) (read_for _ _ _ _ _ _ _ _ _
-    (refused_read _ _ _ _ _ _ _ _ _ a (omega (arith, c.position.ensures.value, c.position.ensures.inside, c.len.ensures.value)) (e.reads.around h.told).counts broke (length c.args.into.now) some) _ (λ _. (e.reads.around h.told).kept) broke)
+pub returns-in_err-count-clause-answers : goal.returns-in_err-count-clause-answers
+returns-in_err-count-clause-answers g c = record {
+  most = first_of (search rules, grind (arith, common_steps));
+  rest = first_of (search rules, grind (arith, common_steps));
+  runs = first_of (search rules, grind (arith, common_steps));
+  refused = (
+      λ (h : IsOpen g.C.ReadContents c.args.content.now c.args.id c.args.self.now).
+      let a = h.suits (sym c.is_failed.ensures ∙ c.if-is_failed.false) in
+      let r : IsReady g.C.ReadContents c.args.content.now c.args.id c.args.self.now = record { told = h.told; agrees = a } in
+      let e = c.in_err-count.ensures in
+      let some = not_empty _ (sym c.is_empty.ensures ∙ c.if-is_empty.false) in
+      let p = err_from_is_err_and c.from_residual.result c.from_residual.ensures.1 in
+      let broke = e.refused r in
+      rw (p.1, p.2) (read_for _ _ _ _ _ _ _ _ _
+      (refused_read _ _ _ _ _ _ _ _ _ a (omega (arith, c.position.ensures.value, c.position.ensures.inside, c.len.ensures.value)) (e.reads.around h.told).counts broke (length c.args.into.now) some) _ (λ _. (e.reads.around h.told).kept) broke)
+  );
+}
 
-pub returns-then-not-has_rest-clause-runs : goal.returns-then-not-has_rest-clause-runs
-returns-then-not-has_rest-clause-runs g c = λ (h : IsOpen g.C.ReadContents c.args.content.now c.args.id c.args.self.now).
-    let a = h.suits (sym c.is_failed.ensures ∙ c.if-is_failed.false) in
-    let r : IsReady g.C.ReadContents c.args.content.now c.args.id c.args.self.now = record { told = h.told; agrees = a } in
-    let e = c.in_ok-count.ensures in
-    past_runs _ _ _ _ _ _ a.unfailed (omega (arith, c.position.ensures.value, c.position.ensures.inside, c.len.ensures.value)) (length c.args.into.now) c.in_ok-count.count (omega (arith, e.most)) (e.ok r)
+pub returns-then-not-has_rest-clause-answers : goal.returns-then-not-has_rest-clause-answers
+returns-then-not-has_rest-clause-answers g c = record {
+  most = first_of (search rules, grind (arith, common_steps));
+  rest = first_of (search rules, grind (arith, common_steps));
+  runs = (
+      λ (h : IsOpen g.C.ReadContents c.args.content.now c.args.id c.args.self.now).
+      let a = h.suits (sym c.is_failed.ensures ∙ c.if-is_failed.false) in
+      let r : IsReady g.C.ReadContents c.args.content.now c.args.id c.args.self.now = record { told = h.told; agrees = a } in
+      let e = c.in_ok-count.ensures in
+      past_runs _ _ _ _ _ _ a.unfailed (omega (arith, c.position.ensures.value, c.position.ensures.inside, c.len.ensures.value)) (length c.args.into.now) c.in_ok-count.count (omega (arith, e.past.most)) (e.past.carries r)
+  );
+  refused = first_of (search rules, grind (arith, common_steps));
+}
 
-pub returns-clause-runs : goal.returns-clause-runs
-returns-clause-runs g c = λ (h : IsOpen g.C.ReadContents c.args.content.now c.args.id c.args.self.now).
-    let a = h.suits (sym c.is_failed.ensures ∙ c.if-is_failed.false) in
-    let r : IsReady g.C.ReadContents c.args.content.now c.args.id c.args.self.now = record { told = h.told; agrees = a } in
-    let some = not_empty _ (sym c.is_empty.ensures ∙ c.if-is_empty.false) in
-    let had = c.in_ok-have_rest.ensures in
-    let v = c.self-2.view_is in
-    let n = c.serve.result in
-    let count = c.serve.ensures.count in
-    let held = ap (λ (z : Window). length z.filled - z.cursor) v in
-    let more = had.some r in
-    read_runs _ _ _ _ _ _ a.unfailed (had.ok r) (omega (arith, c.position.ensures.value, c.position.ensures.inside, c.len.ensures.value)) c.serve.new.into (length c.args.into.now) n (omega (arith, count, held, more, some)) (omega (arith, count)) (omega (arith, count, held, more))
-    (c.serve.ensures.bytes ∙ ap (λ (z : Window). take n (drop z.cursor z.filled)) v) (c.serve.ensures.window ∙ ap (λ (z : Window). record z { cursor = z.cursor + n; ahead = 0 }) v)
+pub returns-clause-answers : goal.returns-clause-answers
+returns-clause-answers g c = record {
+  most = first_of (search rules, grind (arith, common_steps));
+  rest = first_of (search rules, grind (arith, common_steps));
+  runs = (
+      λ (h : IsOpen g.C.ReadContents c.args.content.now c.args.id c.args.self.now).
+      let a = h.suits (sym c.is_failed.ensures ∙ c.if-is_failed.false) in
+      let r : IsReady g.C.ReadContents c.args.content.now c.args.id c.args.self.now = record { told = h.told; agrees = a } in
+      let some = not_empty _ (sym c.is_empty.ensures ∙ c.if-is_empty.false) in
+      let had = c.in_ok-have_rest.ensures in
+      let v = c.self-2.view_is in
+      let n = c.serve.result in
+      let count = c.serve.ensures.count in
+      let held = ap (λ (z : Window). length z.filled - z.cursor) v in
+      let more = had.rest.some r in
+      read_runs _ _ _ _ _ _ a.unfailed (had.rest.carries r) (omega (arith, c.position.ensures.value, c.position.ensures.inside, c.len.ensures.value)) c.serve.new.into (length c.args.into.now) n (omega (arith, count, held, more, some)) (omega (arith, count)) (omega (arith, count, held, more))
+      (c.serve.ensures.bytes ∙ ap (λ (z : Window). take n (drop z.cursor z.filled)) v) (c.serve.ensures.window ∙ ap (λ (z : Window). record z { cursor = z.cursor + n; ahead = 0 }) v)
+  );
+  refused = first_of (search rules, grind (arith, common_steps));
+}
 
 pub returns-clause-open : goal.returns-clause-open
 returns-clause-open g c = record {

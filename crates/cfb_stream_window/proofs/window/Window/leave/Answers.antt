@@ -1,10 +1,16 @@
-use Rattle.std.proofs.Common.{◌+◌, ◌∙◌, ap}
+use Rattle.std.proofs.lemmas.Grind.{common_steps}
+use Rattle.std.proofs.Common.{◌+◌, ◌∙◌, ap, rules, arith}
 use Rattle.cfb_stream_window.specs.Answers.{IsReady}
 use Rattle.cfb_stream_window.specs.Windows.{Window, window_at}
 use Rattle.cfb_stream_window.proofs.Carrying.{left_to}
 use Rattle.cfb_stream_window.proofs.window.Window.leave.Goals as goal
 
-pub returns-clause-ok : goal.returns-clause-ok
-returns-clause-ok g c = λ (h : IsReady g.C.ReadContents c.args.content.now c.args.id c.args.self.now).
-    let out = c.in_ok-write_out.ensures in
-    left_to _ _ _ _ h.agrees c.position-at.ensures.inside (out.ok h) (c.let_go.ensures ∙ ap (λ (z : Window). window_at (z.base + z.cursor) z) out.window)
+pub returns-clause-carries : goal.returns-clause-carries
+returns-clause-carries g c = record {
+  carried = (
+      λ (h : IsReady g.C.ReadContents c.args.content.now c.args.id c.args.self.now).
+      let out = c.in_ok-write_out.ensures in
+      left_to _ _ _ _ h.agrees c.position-at.ensures.inside (out.settled.kept_back h) (c.let_go.ensures ∙ ap (λ (z : Window). window_at (z.base + z.cursor) z) out.settled.window)
+  );
+  kept_back = first_of (search rules, grind (arith, common_steps));
+}

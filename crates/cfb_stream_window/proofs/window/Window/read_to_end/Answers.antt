@@ -1,4 +1,5 @@
-use Rattle.std.proofs.Common.{◌∙◌, true, ap, sym, refl, inl, inr}
+use Rattle.std.proofs.lemmas.Grind.{common_steps}
+use Rattle.std.proofs.Common.{◌∙◌, true, ap, sym, refl, inl, inr, rules, arith}
 use Rattle.std.proofs.lemmas.Result.{err_from_is_err_and}
 use Rattle.cfb_format.specs.Refused.{IsMemory}
 use Rattle.cfb_stream_window.specs.cfb_rules.StreamCalls.{read_to_end}
@@ -9,64 +10,106 @@ use Rattle.cfb_stream_window.proofs.Refusing.{failed_for, broke_for, counts_none
 use Rattle.cfb_stream_window.proofs.Ending.{unreadable_refused, memory_broke, memory_counts, held_end_runs, appended_runs, appended_from, broken_from, more_left, test_eq, readable_same, agrees_same}
 use Rattle.cfb_stream_window.proofs.window.Window.read_to_end.Goals as goal
 
-pub returns-then-is_failed-clause-refused : goal.returns-then-is_failed-clause-refused
-returns-then-is_failed-clause-refused g c = λ _.
-    failed_for _ _ _ _ _ read_to_end (sym c.is_failed.ensures ∙ c.if-is_failed.true) refl
+pub returns-then-is_failed-clause-answers : goal.returns-then-is_failed-clause-answers
+returns-then-is_failed-clause-answers g c = record {
+  runs = first_of (search rules, grind (arith, common_steps));
+  refused = (
+      λ _.
+      failed_for _ _ _ _ _ read_to_end (sym c.is_failed.ensures ∙ c.if-is_failed.true) refl
+  );
+  foreseen = first_of (search rules, grind (arith, common_steps));
+  settles = first_of (search rules, grind (arith, common_steps));
+}
 
-pub returns-in_err-check_rest-clause-refused : goal.returns-in_err-check_rest-clause-refused
-returns-in_err-check_rest-clause-refused g c = λ (h : IsOpen g.C.ReadContents c.args.content.now c.args.id c.args.self.now).
-    let a = h.suits (sym c.is_failed.ensures ∙ c.if-is_failed.false) in
-    let r : IsReady g.C.ReadContents c.args.content.now c.args.id c.args.self.now = record { told = h.told; agrees = a } in
-    let e = c.in_err-check_rest.ensures in
-    let p = err_from_is_err_and c.from_residual.result c.from_residual.ensures.1 in
-    rw (p.1, p.2) (elim (e.refused r) [
-      | inl m ↦
-          let why = memory_broke (g.C.Contents.is_full c.args.content.now) (g.C.ReadContents.stored c.args.content.now c.args.id) c.args.self.now c.check_rest.new.self c.in_err-check_rest.field-0.0 a m.0 m.1 in
-          broke_for _ _ _ _ _ _ _ _ _ (read_broken _ (λ f. true) _ _ _ _ _ _ read_to_end _ refl a.unfailed tt (counts_none (λ f. true) _ _ _ e.kinds) why) _ _ IsMemory why
-      | inr u ↦ record {
-        rules = unreadable_refused _ _ _ _ _ a.unfailed u;
-        stops = inl refl;
-        untouched = invalid_untouched _ _ _ u.is refl;
-      }
-    ])
+pub returns-in_err-check_rest-clause-answers : goal.returns-in_err-check_rest-clause-answers
+returns-in_err-check_rest-clause-answers g c = record {
+  runs = first_of (search rules, grind (arith, common_steps));
+  refused = (
+      λ (h : IsOpen g.C.ReadContents c.args.content.now c.args.id c.args.self.now).
+      let a = h.suits (sym c.is_failed.ensures ∙ c.if-is_failed.false) in
+      let r : IsReady g.C.ReadContents c.args.content.now c.args.id c.args.self.now = record { told = h.told; agrees = a } in
+      let e = c.in_err-check_rest.ensures in
+      let p = err_from_is_err_and c.from_residual.result c.from_residual.ensures.1 in
+      rw (p.1, p.2) (elim (e.refused r) [
+        | inl m ↦
+            let why = memory_broke (g.C.Contents.is_full c.args.content.now) (g.C.ReadContents.stored c.args.content.now c.args.id) c.args.self.now c.check_rest.new.self c.in_err-check_rest.field-0.0 a m.0 m.1 in
+            broke_for _ _ _ _ _ _ _ _ _ (read_broken _ (λ f. true) _ _ _ _ _ _ read_to_end _ refl a.unfailed tt (counts_none (λ f. true) _ _ _ e.kinds) why) _ _ IsMemory why
+        | inr u ↦ record {
+          rules = unreadable_refused _ _ _ _ _ a.unfailed u;
+          stops = inl refl;
+          untouched = invalid_untouched _ _ _ u.is refl;
+        }
+      ])
+  );
+  foreseen = first_of (search rules, grind (arith, common_steps));
+  settles = first_of (search rules, grind (arith, common_steps));
+}
 
-pub returns-then-holds_rest-clause-runs : goal.returns-then-holds_rest-clause-runs
-returns-then-holds_rest-clause-runs g c = λ (h : IsOpen g.C.ReadContents c.args.content.now c.args.id c.args.self.now).
-    let a = h.suits (sym c.is_failed.ensures ∙ c.if-is_failed.false) in
-    let r : IsReady g.C.ReadContents c.args.content.now c.args.id c.args.self.now = record { told = h.told; agrees = a } in
-    let seen = c.in_ok-check_rest.ensures in
-    let q = c.in_ok-count.ensures in
-    held_end_runs _ _ _ c.check_rest.new.self _ c.args.into.now.items _ a (seen.ok r) seen.window q.inside (test_eq _ _ (sym c.holds_rest.ensures ∙ c.if-holds_rest.true)) q.bytes q.window
+pub returns-then-holds_rest-clause-answers : goal.returns-then-holds_rest-clause-answers
+returns-then-holds_rest-clause-answers g c = record {
+  runs = (
+      λ (h : IsOpen g.C.ReadContents c.args.content.now c.args.id c.args.self.now).
+      let a = h.suits (sym c.is_failed.ensures ∙ c.if-is_failed.false) in
+      let r : IsReady g.C.ReadContents c.args.content.now c.args.id c.args.self.now = record { told = h.told; agrees = a } in
+      let seen = c.in_ok-check_rest.ensures in
+      let q = c.in_ok-count.ensures in
+      held_end_runs _ _ _ c.check_rest.new.self _ c.args.into.now.items _ a (seen.ok r) seen.window q.inside (test_eq _ _ (sym c.holds_rest.ensures ∙ c.if-holds_rest.true)) q.bytes q.window
+  );
+  refused = first_of (search rules, grind (arith, common_steps));
+  foreseen = first_of (search rules, grind (arith, common_steps));
+  settles = first_of (search rules, grind (arith, common_steps));
+}
 
-pub returns-in_err-count-clause-refused : goal.returns-in_err-count-clause-refused
-returns-in_err-count-clause-refused g c = λ (h : IsOpen g.C.ReadContents c.args.content.now c.args.id c.args.self.now).
-    let a = h.suits (sym c.is_failed.ensures ∙ c.if-is_failed.false) in
-    let seen = c.in_ok-check_rest.ensures in
-    let q = c.in_err-count.ensures in
-    let why = memory_broke (g.C.Contents.is_full c.args.content.now) (g.C.ReadContents.stored c.args.content.now c.args.id) c.args.self.now c.append_held.new.self c.in_err-count.field-0.0 a q.refused
-    (q.unlent ∙ ap (λ (z : Window). record z { ahead = 0 }) seen.window) in
-    let p = err_from_is_err_and c.from_residual-in_err-count.result c.from_residual-in_err-count.ensures.1 in
-    rw (p.1, p.2) (broke_for _ _ _ _ _ _ _ _ _ (read_broken _ (λ f. true) _ _ _ _ _ _ read_to_end _ refl a.unfailed tt (memory_counts (λ f. true) _ _ q.refused) why) _ _ IsMemory why)
+pub returns-in_err-count-clause-answers : goal.returns-in_err-count-clause-answers
+returns-in_err-count-clause-answers g c = record {
+  runs = first_of (search rules, grind (arith, common_steps));
+  refused = (
+      λ (h : IsOpen g.C.ReadContents c.args.content.now c.args.id c.args.self.now).
+      let a = h.suits (sym c.is_failed.ensures ∙ c.if-is_failed.false) in
+      let seen = c.in_ok-check_rest.ensures in
+      let q = c.in_err-count.ensures in
+      let why = memory_broke (g.C.Contents.is_full c.args.content.now) (g.C.ReadContents.stored c.args.content.now c.args.id) c.args.self.now c.append_held.new.self c.in_err-count.field-0.0 a q.refused
+      (q.unlent ∙ ap (λ (z : Window). record z { ahead = 0 }) seen.window) in
+      let p = err_from_is_err_and c.from_residual-in_err-count.result c.from_residual-in_err-count.ensures.1 in
+      rw (p.1, p.2) (broke_for _ _ _ _ _ _ _ _ _ (read_broken _ (λ f. true) _ _ _ _ _ _ read_to_end _ refl a.unfailed tt (memory_counts (λ f. true) _ _ q.refused) why) _ _ IsMemory why)
+  );
+  foreseen = first_of (search rules, grind (arith, common_steps));
+  settles = first_of (search rules, grind (arith, common_steps));
+}
 
-pub returns-clause-runs : goal.returns-clause-runs
-returns-clause-runs g c = λ (h : IsOpen g.C.ReadContents c.args.content.now c.args.id c.args.self.now).
-    let a = h.suits (sym c.is_failed.ensures ∙ c.if-is_failed.false) in
-    let r : IsReady g.C.ReadContents c.args.content.now c.args.id c.args.self.now = record { told = h.told; agrees = a } in
-    let seen = c.in_ok-check_rest.ensures in
-    let there : IsReady g.C.ReadContents c.args.content.now c.args.id c.check_rest.new.self = record { told = h.told; agrees = agrees_same _ _ _ seen.window a } in
-    let more = more_left c.check_rest.new.self c.args.self.now seen.window (sym c.holds_rest.ensures ∙ c.if-holds_rest.false) c.position-at.ensures.filled c.position-at.ensures.behind in
-    let q = c.in_ok-count-2.ensures in
-    appended_runs _ _ _ _ _ c.args.into.now.items _ a.unfailed (seen.ok r)
-    (appended_from _ _ _ c.check_rest.new.self _ _ _ seen.window (q.ok there (readable_same (g.C.ReadContents.stored c.args.content.now c.args.id) _ _ seen.window (seen.ok r)) more))
+pub returns-clause-answers : goal.returns-clause-answers
+returns-clause-answers g c = record {
+  runs = (
+      λ (h : IsOpen g.C.ReadContents c.args.content.now c.args.id c.args.self.now).
+      let a = h.suits (sym c.is_failed.ensures ∙ c.if-is_failed.false) in
+      let r : IsReady g.C.ReadContents c.args.content.now c.args.id c.args.self.now = record { told = h.told; agrees = a } in
+      let seen = c.in_ok-check_rest.ensures in
+      let there : IsReady g.C.ReadContents c.args.content.now c.args.id c.check_rest.new.self = record { told = h.told; agrees = agrees_same _ _ _ seen.window a } in
+      let more = more_left c.check_rest.new.self c.args.self.now seen.window (sym c.holds_rest.ensures ∙ c.if-holds_rest.false) c.position-at.ensures.filled c.position-at.ensures.behind in
+      let q = c.in_ok-count-2.ensures in
+      appended_runs _ _ _ _ _ c.args.into.now.items _ a.unfailed (seen.ok r)
+      (appended_from _ _ _ c.check_rest.new.self _ _ _ seen.window (q.stored.appended there (readable_same (g.C.ReadContents.stored c.args.content.now c.args.id) _ _ seen.window (seen.ok r)) more))
+  );
+  refused = first_of (search rules, grind (arith, common_steps));
+  foreseen = first_of (search rules, grind (arith, common_steps));
+  settles = first_of (search rules, grind (arith, common_steps));
+}
 
-pub returns-in_err-count-2-clause-refused : goal.returns-in_err-count-2-clause-refused
-returns-in_err-count-2-clause-refused g c = λ (h : IsOpen g.C.ReadContents c.args.content.now c.args.id c.args.self.now).
-    let a = h.suits (sym c.is_failed.ensures ∙ c.if-is_failed.false) in
-    let r : IsReady g.C.ReadContents c.args.content.now c.args.id c.args.self.now = record { told = h.told; agrees = a } in
-    let seen = c.in_ok-check_rest.ensures in
-    let there : IsReady g.C.ReadContents c.args.content.now c.args.id c.check_rest.new.self = record { told = h.told; agrees = agrees_same _ _ _ seen.window a } in
-    let more = more_left c.check_rest.new.self c.args.self.now seen.window (sym c.holds_rest.ensures ∙ c.if-holds_rest.false) c.position-at.ensures.filled c.position-at.ensures.behind in
-    let q = c.in_err-count-2.ensures in
-    let why = broken_from _ _ _ _ c.check_rest.new.self _ _ seen.window (q.refused there (readable_same (g.C.ReadContents.stored c.args.content.now c.args.id) _ _ seen.window (seen.ok r)) more) in
-    let p = err_from_is_err_and c.from_residual-in_err-count-2.result c.from_residual-in_err-count-2.ensures.1 in
-    rw (p.1, p.2) (broke_for _ _ _ _ _ _ _ _ _ (read_broken _ _ _ _ _ _ _ _ read_to_end _ refl a.unfailed tt (q.writes.around h.told).counts why) _ _ IsMemory why)
+pub returns-in_err-count-2-clause-answers : goal.returns-in_err-count-2-clause-answers
+returns-in_err-count-2-clause-answers g c = record {
+  runs = first_of (search rules, grind (arith, common_steps));
+  refused = (
+      λ (h : IsOpen g.C.ReadContents c.args.content.now c.args.id c.args.self.now).
+      let a = h.suits (sym c.is_failed.ensures ∙ c.if-is_failed.false) in
+      let r : IsReady g.C.ReadContents c.args.content.now c.args.id c.args.self.now = record { told = h.told; agrees = a } in
+      let seen = c.in_ok-check_rest.ensures in
+      let there : IsReady g.C.ReadContents c.args.content.now c.args.id c.check_rest.new.self = record { told = h.told; agrees = agrees_same _ _ _ seen.window a } in
+      let more = more_left c.check_rest.new.self c.args.self.now seen.window (sym c.holds_rest.ensures ∙ c.if-holds_rest.false) c.position-at.ensures.filled c.position-at.ensures.behind in
+      let q = c.in_err-count-2.ensures in
+      let why = broken_from _ _ _ _ c.check_rest.new.self _ _ seen.window (q.stored.refused there (readable_same (g.C.ReadContents.stored c.args.content.now c.args.id) _ _ seen.window (seen.ok r)) more) in
+      let p = err_from_is_err_and c.from_residual-in_err-count-2.result c.from_residual-in_err-count-2.ensures.1 in
+      rw (p.1, p.2) (broke_for _ _ _ _ _ _ _ _ _ (read_broken _ _ _ _ _ _ _ _ read_to_end _ refl a.unfailed tt (q.writes.around h.told).counts why) _ _ IsMemory why)
+  );
+  foreseen = first_of (search rules, grind (arith, common_steps));
+  settles = first_of (search rules, grind (arith, common_steps));
+}

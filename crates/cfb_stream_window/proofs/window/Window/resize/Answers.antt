@@ -19,7 +19,7 @@ returns-clause-ok g c = λ (h : IsReady g.C.ReadContents c.args.content.now c.ar
     let cut = cut_to s c.args.self.now c.args.len h.agrees sound fits _ c.cut.new.self same c.cut.ensures.kept c.cut.ensures.past c.cut.ensures.calm in
     let r : IsReady g.C.ReadContents c.resize.new.self c.args.id c.cut.new.self = record { told = e.told h.told; agrees = cut.agrees } in
     let q = c.in_ok-settle.ensures in
-    resized_to c.args.len s _ _ c.args.self.now c.cut.new.self _ cut same (q.ok r) q.window
+    resized_to c.args.len s _ _ c.args.self.now c.cut.new.self _ cut same (q.carries.carried r) q.settled.window
 
 pub returns-in_err-settle-clause-refused : goal.returns-in_err-settle-clause-refused
 returns-in_err-settle-clause-refused g c = λ (h : IsReady g.C.ReadContents c.args.content.now c.args.id c.args.self.now) (sound : (g.C.ReadContents.stored c.args.content.now c.args.id).sound ≡ true)
@@ -34,7 +34,7 @@ returns-in_err-settle-clause-refused g c = λ (h : IsReady g.C.ReadContents c.ar
     let inside = ap (λ (z : Stored). z.size) same in
     let p = err_from_is_err_and c.from_residual.result c.from_residual.ensures.1 in
     rw (p.1, p.2) (resized_lost (g.C.Contents.is_full c.settle.new.content) (g.C.Contents.is_too_long c.settle.new.content c.args.id c.args.len) c.args.len s _ _ c.args.self.now c.cut.new.self _ c.in_err-settle.field-0.0 same
-    (q.inside r (omega (arith, inside, cut.agrees.total, cut.new_size))) (q.refused r))
+    (q.settled.inside r (omega (arith, inside, cut.agrees.total, cut.new_size))) (q.refused.refused r))
 
 pub returns-in_err-settle-clause-foreseen : goal.returns-in_err-settle-clause-foreseen
 returns-in_err-settle-clause-foreseen g c = λ (h : IsReady g.C.ReadContents c.args.content.now c.args.id c.args.self.now) (sound : (g.C.ReadContents.stored c.args.content.now c.args.id).sound ≡ true)
@@ -45,7 +45,7 @@ returns-in_err-settle-clause-foreseen g c = λ (h : IsReady g.C.ReadContents c.a
     let cut = cut_to s c.args.self.now c.args.len h.agrees sound fits _ c.cut.new.self (e.ok h.told takes) c.cut.ensures.kept c.cut.ensures.past c.cut.ensures.calm in
     let inside = cut_inside c.args.self.now c.cut.new.self c.args.len c.cut.ensures.kept c.cut.ensures.past c.cut.ensures.calm in
     let p = err_from_is_err_and c.from_residual.result c.from_residual.ensures.1 in
-    rw (p.1, p.2) (never_full _ _ (c.in_err-settle.ensures.inside (record { told = e.told h.told; agrees = cut.agrees }) (omega (arith, inside, e.len))))
+    rw (p.1, p.2) (never_full _ _ (c.in_err-settle.ensures.settled.inside (record { told = e.told h.told; agrees = cut.agrees }) (omega (arith, inside, e.len))))
 
 pub returns-in_err-settle-clause-writes : goal.returns-in_err-settle-clause-writes
 returns-in_err-settle-clause-writes g c = record {
@@ -61,9 +61,9 @@ returns-in_err-settle-clause-writes g c = record {
       rw (p.1, p.2) (record {
         told = out.told;
         others = λ first k. out.others first (e.others told first k);
-        tight = q.within (e.told told) (omega (arith, inside, e.len)) _ (e.tight told);
+        tight = q.no_room.within (e.told told) (omega (arith, inside, e.len)) _ (e.tight told);
         counts = subst (λ (m : ℕ). CountsError (faults_of g.C.ReadContents g.C.Contents) m (g.C.ReadContents.failures c.settle.new.content) c.in_err-settle.field-0.0) (e.counts told) out.counts;
-        stays = λ calm. absurd (let w : true ≡ false = sym q.lost ∙ calm in cc);
+        stays = λ calm. absurd (let w : true ≡ false = sym q.settled.lost ∙ calm in cc);
       })
       );
 }
@@ -72,4 +72,4 @@ pub returns-clause-leaves_room : goal.returns-clause-leaves_room
 returns-clause-leaves_room g c = λ told takes longer more within long.
     let e = c.in_default.ensures in
     let inside = cut_inside c.args.self.now c.cut.new.self c.args.len c.cut.ensures.kept c.cut.ensures.past c.cut.ensures.calm in
-    e.leaves_room told takes longer more within (c.in_ok-settle.ensures.takes_none (e.told told) (omega (arith, inside, e.len)) more long)
+    e.leaves_room told takes longer more within (c.in_ok-settle.ensures.no_room.takes_none (e.told told) (omega (arith, inside, e.len)) more long)

@@ -9,8 +9,8 @@ loop-turn-init g c =
     let k = c.args.self.now in
     let count : c.args.count ≡ c.args.count - 0 = omega arith in
     record {
-      prepared = subst (IsPrepared k) count c.requires.prepared;
-      attached = ([], sym (append-nil c.args.list.now.items), attached-none k.state c.args.last c.requires.sizes.places c.requires.ended c.requires.regular);
+      prepared = subst (IsPrepared k) count c.requires.prepared.prepared;
+      attached = ([], sym (append-nil c.args.list.now.items), attached-none k.state c.args.last c.requires.prepared.sizes.places c.requires.last.ended c.requires.last.regular);
       len = omega arith;
       room = refl;
       none = λ z. (refl, refl);

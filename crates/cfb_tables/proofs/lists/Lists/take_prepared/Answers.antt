@@ -29,11 +29,11 @@ invariant_of-self-3 g c =
     let s = c.self.inside in
     let t = tables_of s.version s.max_sectors s.fat.items s.fat_sectors.items s.difat_sectors.items in
     let m : c.numbers_needed-numbers.result ≡ numbers_needed s.version (sizes_of t) = c.numbers_needed-numbers.ensures ∙ ap (numbers_needed s.version) c.sizes.ensures.sizes in
-    let fat : c.grow.new.fat.items ≡ s.fat.items ++ grown (numbers_needed s.version (sizes_of t)) = c.grow.ensures.fat ∙ ap (λ k. s.fat.items ++ grown k) m in
+    let fat : c.grow.new.fat.items ≡ s.fat.items ++ grown (numbers_needed s.version (sizes_of t)) = c.grow.ensures.grown.numbers_in ∙ ap (λ k. s.fat.items ++ grown k) m in
     let fats : c.grow.new.fat_sectors.items ≡ s.fat_sectors.items ++ grown_fats (numbers_needed s.version (sizes_of t)) (length s.fat.items) =
-    c.grow.ensures.fat_sectors ∙ (λ i. s.fat_sectors.items ++ grown_fats (m i) (s.fat.ok.0 i)) in
+    c.grow.ensures.grown.fats_in ∙ (λ i. s.fat_sectors.items ++ grown_fats (m i) (s.fat.ok.0 i)) in
     let difats : c.grow.new.difat_sectors.items ≡ s.difat_sectors.items ++ grown_difats (numbers_needed s.version (sizes_of t)) (length s.fat.items) =
-    c.grow.ensures.difat_sectors ∙ (λ i. s.difat_sectors.items ++ grown_difats (m i) (s.fat.ok.0 i)) in
+    c.grow.ensures.grown.difats_in ∙ (λ i. s.difat_sectors.items ++ grown_difats (m i) (s.fat.ok.0 i)) in
     let rest : s.free.items ≡ c.pop.new.self.items = ap (λ (x : SpareNumbers). x.items) (sym c.in_default.ensures.unchanged) in
     let none : s.free.items ≡ [] = c.in_default.ensures.none in
     let short = rw (← c.self.view_is) at c.requires.short in

@@ -12,4 +12,4 @@ returns-clause-ok g c =
     let row = c.last_row-first.ensures in
     let early : length v ≡ c.len-early.result = omega (arith, c.len-early.ensures, c.in_ok-listed.listed.ok.0) in
     subst (λ n. ListsFree (length table) (spare-items n first (length table) v) table) early
-    (lists-spare first (length table) v table row.within c.in_ok-listed.ensures.ok (λ i from lt. value-at table i lt ∙ row.free i from lt))
+    (lists-spare first (length table) v table row.within c.in_ok-listed.ensures.lists.listed (λ i from lt. value-at table i lt ∙ row.free i from lt))

@@ -1,4 +1,10 @@
+use Rattle.std.proofs.lemmas.Grind.{common_steps}
+use Rattle.std.proofs.Common.{rules, arith}
 use Rattle.cfb_tables.proofs.tables.Tables.take.Goals as goal
 
-pub returns-clause-err : goal.returns-clause-err
-returns-clause-err g c = rw (← c.self.view_is) c.take.ensures.err
+pub returns-clause-error : goal.returns-clause-error
+returns-clause-error g c = record {
+  enough = first_of (search rules, grind (arith, common_steps));
+  unchanged = first_of (search rules, grind (arith, common_steps));
+  err = rw (← c.self.view_is) c.take.ensures.error.err;
+}

@@ -22,11 +22,11 @@ use Rattle.cfb_volume.proofs.Refusals.{append-break, why-full}
 use Rattle.cfb_volume.proofs.volume.Volume.append.Goals as goal
 use Rattle.cfb_volume.proofs.InsertedObjects.{ended}
 
-pub append_all-requires-clause-stream : goal.append_all-requires-clause-stream
-append_all-requires-clause-stream g c = subst (λ (f : FileState). IsStreamOf f.base c.args.entry) (sym c.self.view_is) c.requires.can_append.stream
-
-pub append_all-requires-clause-limit : goal.append_all-requires-clause-limit
-append_all-requires-clause-limit g c = subst (λ (f : FileState). len_of f.base c.args.entry + length c.args.bytes.now ≤ max_stream_len (version_of f.base)) (sym c.self.view_is) c.requires.can_append.fits
+pub append_all-requires : goal.append_all-requires
+append_all-requires g c = record { size_fits = record {
+  stream = subst (λ (f : FileState). IsStreamOf f.base c.args.entry) (sym c.self.view_is) c.requires.can_append.stream;
+  limit = subst (λ (f : FileState). len_of f.base c.args.entry + length c.args.bytes.now ≤ max_stream_len (version_of f.base)) (sym c.self.view_is) c.requires.can_append.fits;
+} }
 
 -- ---- it was refused
 
@@ -34,7 +34,7 @@ refused : (g : _) (c : goal.After-from_residual g) → IsTrue g.F.ReadMedium.tel
 refused g c told =
     let e = c.append_all.ensures in
     subst (λ (f : FileState). WasRefused f.base c.append_all.new.mini c.args.entry) c.self.view_is
-    (record { moves = e.moves; spares = e.spares told; still = c.in_err-append_all.ensures.still })
+    (record { moves = e.changes.moves; spares = e.changes.spares told; still = c.in_err-append_all.ensures.changes.still })
 
 pub returns-in_err-append_all-clause-only : goal.returns-in_err-append_all-clause-only
 returns-in_err-append_all-clause-only g c = record {
@@ -42,10 +42,10 @@ returns-in_err-append_all-clause-only g c = record {
       let mid = c.append_all.new.mini in
       refused-stream c.args.self.now mid c.args.entry c.self.inside.is_sound c.self.inside.buffer_limit
       (ap (λ (f : FileState). f.is_sound) c.self.view_is) (ap (λ (f : FileState). f.buffer_limit) c.self.view_is)
-      (subst (λ (f : FileState). KeepsLimits f.base mid) c.self.view_is c.append_all.ensures.moves.limits)
-      (subst (λ (f : FileState). MovesContent f.base mid c.args.entry) c.self.view_is c.append_all.ensures.moves.entries) c.requires.can_append.stream
+      (subst (λ (f : FileState). KeepsLimits f.base mid) c.self.view_is c.append_all.ensures.changes.moves.limits)
+      (subst (λ (f : FileState). MovesContent f.base mid c.args.entry) c.self.view_is c.append_all.ensures.changes.moves.entries) c.requires.can_append.stream
       );
-  entries = subst (λ (f : FileState). MovesContent f.base c.append_all.new.mini c.args.entry) c.self.view_is c.append_all.ensures.moves.entries;
+  entries = subst (λ (f : FileState). MovesContent f.base c.append_all.new.mini c.args.entry) c.self.view_is c.append_all.ensures.changes.moves.entries;
   changes = λ told held. (
       refused-changes c.args.self.now c.append_all.new.mini c.args.entry c.self.inside.is_sound c.self.inside.buffer_limit
       (ap (λ (f : FileState). f.is_sound) c.self.view_is) (ap (λ (f : FileState). f.buffer_limit) c.self.view_is)
@@ -61,10 +61,10 @@ returns-in_err-append_all-clause-ends g c =
           let mid = c.append_all.new.mini in
           refused-setting c.args.self.now mid c.args.entry c.self.inside.is_sound c.self.inside.buffer_limit
           (ap (λ (f : FileState). f.is_sound) c.self.view_is) (ap (λ (f : FileState). f.buffer_limit) c.self.view_is)
-          (subst (λ (f : FileState). KeepsLimits f.base mid) c.self.view_is c.append_all.ensures.moves.limits)
+          (subst (λ (f : FileState). KeepsLimits f.base mid) c.self.view_is c.append_all.ensures.changes.moves.limits)
           );
       ended = first_of (search rules, grind (arith, common_steps));
-      in_memory = rw p.1 (still-in-memory c.self.inside.mini c.append_all.new.mini c.self.inside.is_sound c.self.inside.buffer_limit c.args.self.now c.self.view_is c.in_err-append_all.ensures.still);
+      in_memory = rw p.1 (still-in-memory c.self.inside.mini c.append_all.new.mini c.self.inside.is_sound c.self.inside.buffer_limit c.args.self.now c.self.view_is c.in_err-append_all.ensures.changes.still);
       agrees = λ told held. (
           refused-agrees c.args.self.now c.append_all.new.mini c.args.entry c.self.inside.is_sound c.self.inside.buffer_limit
           (ap (λ (f : FileState). f.is_sound) c.self.view_is) (ap (λ (f : FileState). f.buffer_limit) c.self.view_is)
@@ -88,13 +88,13 @@ returns-in_err-append_all-clause-error g c =
           let mid = c.append_all.new.mini in
           let sound : IsChangeable Permissive s = subst (λ (f : FileState). IsChangeable Permissive f.base) (sym c.self.view_is) (held.sound c.requires.can_change.sound) in
           rw (p.1, p.2) (append-break s mid (IsTrue g.F.ReadMedium.tells → IsNotChangeable s) ((validation : Validation) → HoldsMini validation s → IsTooLongFor s i (len_of s i + length c.args.bytes.now)) (Unit {0}) (λ none. none told Permissive sound)
-          c.in_err-append_all.field-0.0 (c.in_err-append_all.ensures.refused told Permissive sound.held) c.in_err-append_all.ensures.err)
+          c.in_err-append_all.field-0.0 (c.in_err-append_all.ensures.refused.refused told Permissive sound.held) c.in_err-append_all.ensures.refused.err)
           );
       full_only = λ told held. (
           let sound : IsChangeable Permissive s = subst (λ (f : FileState). IsChangeable Permissive f.base) (sym c.self.view_is) (held.sound c.requires.can_change.sound) in
           rw (p.1, p.2) (λ is. subst (λ (f : FileState). IsTooLongFor f.base i (len_of f.base i + length c.args.bytes.now)) c.self.view_is
           (why-full (IsTrue g.F.ReadMedium.tells → IsNotChangeable s) ((validation : Validation) → HoldsMini validation s → IsTooLongFor s i (len_of s i + length c.args.bytes.now))
-          c.in_err-append_all.field-0.0 c.in_err-append_all.ensures.err is Permissive sound.held))
+          c.in_err-append_all.field-0.0 c.in_err-append_all.ensures.refused.err is Permissive sound.held))
           );
     }
 
@@ -113,10 +113,10 @@ changed g c told =
     let ok = c.in_ok-append_all.ensures in
     let s = c.self.inside.mini in
     let i = c.args.entry in
-    let longer : 0 < length c.args.bytes.now → 0 < len_of c.append_all.new.mini i = λ more. let len = ok.len in omega (arith, len, more) in
+    let longer : 0 < length c.args.bytes.now → 0 < len_of c.append_all.new.mini i = λ more. let len = ok.appends.len in omega (arith, len, more) in
     let at-end = λ (was : StartsAtEndIfEmpty s i). put-in-at-end s c.append_all.new.mini i (length c.args.bytes.now) longer (λ none. ap entries_of (ok.none none).1) was in
     subst (λ (f : FileState). IsStreamOf f.base c.args.entry → WentWell f.base c.append_all.new.mini c.args.entry) c.self.view_is
-    (λ at. record { stream = at; moves = e.moves; spares = e.spares told; changed = ok.changed told; tight = ok.tight; at_end = at-end }) c.requires.can_append.stream
+    (λ at. record { stream = at; moves = e.changes.moves; spares = e.changes.spares told; changed = ok.changes.changed told; tight = ok.changes.tight; at_end = at-end }) c.requires.can_append.stream
 
 pub returns-clause-only : goal.returns-clause-only
 returns-clause-only g c =
@@ -126,14 +126,14 @@ returns-clause-only g c =
           subst (λ (s : MiniState). IsStreamOf s c.args.entry) (sym c.end_change.ensures)
           (ended-stream c.args.self.now mid c.args.entry c.self.inside.is_sound c.self.inside.buffer_limit
           (ap (λ (f : FileState). f.is_sound) c.self.view_is) (ap (λ (f : FileState). f.buffer_limit) c.self.view_is)
-          (subst (λ (f : FileState). KeepsLimits f.base mid) c.self.view_is c.append_all.ensures.moves.limits)
-          (subst (λ (f : FileState). MovesContent f.base mid c.args.entry) c.self.view_is c.append_all.ensures.moves.entries) c.requires.can_append.stream)
+          (subst (λ (f : FileState). KeepsLimits f.base mid) c.self.view_is c.append_all.ensures.changes.moves.limits)
+          (subst (λ (f : FileState). MovesContent f.base mid c.args.entry) c.self.view_is c.append_all.ensures.changes.moves.entries) c.requires.can_append.stream)
           );
       entries = (
           subst (λ (s : MiniState). MovesContent c.args.self.now.base s c.args.entry) (sym c.end_change.ensures)
           (ended-entries c.args.self.now mid c.args.entry c.self.inside.is_sound c.self.inside.buffer_limit
           (ap (λ (f : FileState). f.is_sound) c.self.view_is) (ap (λ (f : FileState). f.buffer_limit) c.self.view_is)
-          (subst (λ (f : FileState). MovesContent f.base mid c.args.entry) c.self.view_is c.append_all.ensures.moves.entries))
+          (subst (λ (f : FileState). MovesContent f.base mid c.args.entry) c.self.view_is c.append_all.ensures.changes.moves.entries))
           );
       changes = λ told held. (
           subst (λ (s : MiniState). ChangesOneContent c.args.entry c.args.self.now (file_on c.self.inside.is_sound c.self.inside.buffer_limit s)) (sym c.end_change.ensures)
@@ -150,7 +150,7 @@ returns-clause-ends g c = record {
       subst (λ (s : MiniState). SameSetting c.args.self.now (file_on c.self.inside.is_sound c.self.inside.buffer_limit s)) (sym c.end_change.ensures)
       (ended-setting c.args.self.now mid c.args.entry c.self.inside.is_sound c.self.inside.buffer_limit
       (ap (λ (f : FileState). f.is_sound) c.self.view_is) (ap (λ (f : FileState). f.buffer_limit) c.self.view_is)
-      (subst (λ (f : FileState). KeepsLimits f.base mid) c.self.view_is c.append_all.ensures.moves.limits))
+      (subst (λ (f : FileState). KeepsLimits f.base mid) c.self.view_is c.append_all.ensures.changes.moves.limits))
       );
   ended = ap (λ (s : MiniState). (table_of s).file.begun) c.end_change.ensures;
   in_memory = first_of (search rules, grind (arith, common_steps));
@@ -167,7 +167,7 @@ returns-clause-ends g c = record {
 pub returns-clause-appended : goal.returns-clause-appended
 returns-clause-appended g c = record {
   len = (
-      ap (λ (s : MiniState). len_of s c.args.entry) c.end_change.ensures ∙ c.in_ok-append_all.ensures.len
+      ap (λ (s : MiniState). len_of s c.args.entry) c.end_change.ensures ∙ c.in_ok-append_all.ensures.appends.len
       ∙ ap (λ (f : FileState). len_of f.base c.args.entry + length c.args.bytes.now) c.self.view_is
       );
   none = λ none. (
@@ -186,7 +186,7 @@ returns-clause-appended g c = record {
       subst (λ (s : MiniState). content_of s (entry_at (entries_of s) i)
       ≡ written (content_of c.args.self.now.base (entry_at (entries_of c.args.self.now.base) i)) (len_of c.args.self.now.base i) from) (sym c.end_change.ensures)
       (subst (λ (f : FileState). content_of mid (entry_at (entries_of mid) i) ≡ written (content_of f.base (entry_at (entries_of f.base) i)) (len_of f.base i) from) c.self.view_is
-      (c.in_ok-append_all.ensures.content told Permissive sound))
+      (c.in_ok-append_all.ensures.appends.content told Permissive sound))
       );
 }
 
@@ -194,12 +194,12 @@ pub returns-clause-takes : goal.returns-clause-takes
 returns-clause-takes g c = record {
   no_shorter = (
       subst (λ (s : MiniState). length (tables_in c.args.self.now.base).fat ≤ length (tables_in s).fat) (sym c.end_change.ensures)
-      (subst (λ (f : FileState). length (tables_in f.base).fat ≤ length (tables_in c.append_all.new.mini).fat) c.self.view_is c.in_ok-append_all.ensures.tight.no_shorter)
+      (subst (λ (f : FileState). length (tables_in f.base).fat ≤ length (tables_in c.append_all.new.mini).fat) c.self.view_is c.in_ok-append_all.ensures.changes.tight.no_shorter)
       );
   stays_full = λ told held leaves none. (
       let sound = subst (λ (f : FileState). IsChangeable Permissive f.base) (sym c.self.view_is) (held.sound c.requires.can_change.sound) in
       subst (λ (s : MiniState). NoneFree (tables_in s).fat) (sym c.end_change.ensures)
-      (c.in_ok-append_all.ensures.stays_full told Permissive sound
+      (c.in_ok-append_all.ensures.appends.stays_full told Permissive sound
       (subst (λ (f : FileState). LeavesNoMinis f.base c.args.entry (len_of f.base c.args.entry + length c.args.bytes.now)) (sym c.self.view_is) leaves)
       (subst (λ (f : FileState). NoneFree (tables_in f.base).fat) (sym c.self.view_is) none))
       );
@@ -209,6 +209,6 @@ pub returns-clause-minis_full : goal.returns-clause-minis_full
 returns-clause-minis_full g c told held leaves none =
     let sound = subst (λ (f : FileState). IsChangeable Permissive f.base) (sym c.self.view_is) (held.sound c.requires.can_change.sound) in
     subst (λ (s : MiniState). free_count s.minifat ≡ 0) (sym c.end_change.ensures)
-    (c.in_ok-append_all.ensures.minis_full told Permissive sound
+    (c.in_ok-append_all.ensures.appends.minis_full told Permissive sound
     (subst (λ (f : FileState). LeavesNoMinis f.base c.args.entry (len_of f.base c.args.entry + length c.args.bytes.now)) (sym c.self.view_is) leaves)
     (subst (λ (f : FileState). free_count f.base.minifat ≡ 0) (sym c.self.view_is) none))

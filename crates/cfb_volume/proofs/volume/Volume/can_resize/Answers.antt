@@ -8,11 +8,11 @@ use Rattle.cfb_agreement.specs.Files.{FileState}
 use Rattle.cfb_volume.proofs.Refusals.{refused-for-memory}
 use Rattle.cfb_volume.proofs.volume.Volume.can_resize.Goals as goal
 
-pub can_resize-requires-clause-stream : goal.can_resize-requires-clause-stream
-can_resize-requires-clause-stream g c = subst (λ (f : FileState). IsStreamOf f.base c.args.entry) (sym c.self.view_is) c.requires.can_resize.stream
-
-pub can_resize-requires-clause-limit : goal.can_resize-requires-clause-limit
-can_resize-requires-clause-limit g c = subst (λ (f : FileState). c.args.len ≤ max_stream_len (version_of f.base)) (sym c.self.view_is) c.requires.can_resize.limit
+pub can_resize-requires : goal.can_resize-requires
+can_resize-requires g c = record { size_fits = record {
+  stream = subst (λ (f : FileState). IsStreamOf f.base c.args.entry) (sym c.self.view_is) c.requires.can_resize.stream;
+  limit = subst (λ (f : FileState). c.args.len ≤ max_stream_len (version_of f.base)) (sym c.self.view_is) c.requires.can_resize.limit;
+} }
 
 pub returns-clause-same : goal.returns-clause-same
 returns-clause-same g c same =

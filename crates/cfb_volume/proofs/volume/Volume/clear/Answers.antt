@@ -38,16 +38,16 @@ returns-in_err-clear-clause-keeps g c =
           let was = c.clear.ensures in
           let e = ap (λ (f : FileState). f.base) c.self.view_is in
           insert-keeps-streams c.args.self.now mid c.requires.can_change.sound holds
-          (subst (λ (s : MiniState). Spares s.directory.sectors (table_of s) (table_of mid)) e (was.spares told)) (subst (λ (s : MiniState). KeepsMini s mid) e was.mini)
+          (subst (λ (s : MiniState). Spares s.directory.sectors (table_of s) (table_of mid)) e (was.changes.spares told)) (subst (λ (s : MiniState). KeepsMini s mid) e was.changes.mini)
           );
-      header = λ told. subst (λ (f : FileState). KeepsFixedHeader f.base mid) c.self.view_is (spared-keeps-header _ c.self.inside.mini mid (c.clear.ensures.spares told));
+      header = λ told. subst (λ (f : FileState). KeepsFixedHeader f.base mid) c.self.view_is (spared-keeps-header _ c.self.inside.mini mid (c.clear.ensures.changes.spares told));
       parts = first_of (search rules, grind (arith, common_steps));
     }
 
 pub returns-in_err-clear-clause-ends : goal.returns-in_err-clear-clause-ends
 returns-in_err-clear-clause-ends g c =
     let mid = c.clear.new.self in
-    let stops = subst (λ (f : FileState). StopsShort f.base mid c.in_err-clear.field-0.0) c.self.view_is c.in_err-clear.ensures.refused in
+    let stops = subst (λ (f : FileState). StopsShort f.base mid c.in_err-clear.field-0.0) c.self.view_is c.in_err-clear.ensures.changes.refused in
     let old = c.args.self.now in
     let p = err_from_is_err_and c.from_residual.result c.from_residual.ensures.1 in
     record {
@@ -65,7 +65,7 @@ returns-in_err-clear-clause-ends g c =
           );
       err = λ holds. (
           rw (p.1, p.2) (clear-break old c.requires.can_change.sound holds c.in_err-clear.field-0.0
-          (subst (λ (f : FileState). ChangeRefused (IsDirectoryNotHeld f.base.directory) (Unit {0}) ⊥ (Unit {0}) c.in_err-clear.field-0.0) c.self.view_is c.in_err-clear.ensures.err))
+          (subst (λ (f : FileState). ChangeRefused (IsDirectoryNotHeld f.base.directory) (Unit {0}) ⊥ (Unit {0}) c.in_err-clear.field-0.0) c.self.view_is c.in_err-clear.ensures.holds.err))
           );
       counts = first_of (search rules, grind (arith, common_steps));
     }
@@ -83,7 +83,7 @@ clears g c =
     (clears-storage s mid c.args.top c.args.inside.now (subst (λ (x : MiniState). IsReachedStorage (cases_of x) (entries_of x) c.args.top) back c.requires.can_clear.storage)
     (subst (λ (x : MiniState). (o : Outline) → HasInside (cases_of x) (entries_of x) c.args.top o → c.args.inside.now ≡ numbers o) back c.requires.can_clear.all)
     (subst (λ (x : MiniState). (o : Outline) → HasInside (cases_of x) (entries_of x) c.args.top o → (k : ℕ) → Contains (stream_numbers o) k → len_of x k ≡ 0) back c.requires.can_clear.empty)
-    w.cleared w.kept w.mini w.limits)
+    w.cleared w.changes.kept w.changes.mini w.holds.limits)
 
 pub returns-clause-cleared : goal.returns-clause-cleared
 returns-clause-cleared g c =
@@ -98,8 +98,8 @@ returns-clause-tree g c told holds =
     subst (λ (s : MiniState). (names : List (List ℕ)) (o : Outline) → IsOutline (cases_of old.base) (entries_of old.base) o
     → number_from (cases_of old.base) (entries_of old.base) 0 o names ≡ Some c.args.top
     → BecomesTree (cases_of old.base) (bytes_of old.base) (bytes_of s) (emptied_at old names)) (sym c.end_change.ensures)
-    (clear-tree old mid c.args.top (clears g c) (subst (λ (s : MiniState). Spares s.directory.sectors (table_of s) (table_of mid)) e (w.spares told)) c.requires.can_change.sound holds
-    (w.holds told Permissive (subst (λ (s : MiniState). HoldsMini Permissive s) (sym e) (holds.sound c.requires.can_change.sound).held)))
+    (clear-tree old mid c.args.top (clears g c) (subst (λ (s : MiniState). Spares s.directory.sectors (table_of s) (table_of mid)) e (w.changes.spares told)) c.requires.can_change.sound holds
+    (w.holds.holds told Permissive (subst (λ (s : MiniState). HoldsMini Permissive s) (sym e) (holds.sound c.requires.can_change.sound).held)))
 
 pub returns-clause-keeps : goal.returns-clause-keeps
 returns-clause-keeps g c =
@@ -110,19 +110,19 @@ returns-clause-keeps g c =
           let was = c.clear.ensures in
           subst (λ (s : MiniState). KeepsStreams c.args.self.now.base s) (sym c.end_change.ensures) (streams-ended c.args.self.now.base mid
           (insert-keeps-streams c.args.self.now mid c.requires.can_change.sound holds
-          (subst (λ (s : MiniState). Spares s.directory.sectors (table_of s) (table_of mid)) e (was.spares told)) (subst (λ (s : MiniState). KeepsMini s mid) e was.mini)))
+          (subst (λ (s : MiniState). Spares s.directory.sectors (table_of s) (table_of mid)) e (was.changes.spares told)) (subst (λ (s : MiniState). KeepsMini s mid) e was.changes.mini)))
           );
       header = λ told. (
           subst (λ (s : MiniState). KeepsFixedHeader c.args.self.now.base s) (sym c.end_change.ensures) (header-ended c.args.self.now.base mid
-          (subst (λ (f : FileState). KeepsFixedHeader f.base mid) c.self.view_is (spared-keeps-header _ c.self.inside.mini mid (c.clear.ensures.spares told))))
+          (subst (λ (f : FileState). KeepsFixedHeader f.base mid) c.self.view_is (spared-keeps-header _ c.self.inside.mini mid (c.clear.ensures.changes.spares told))))
           );
       parts = λ told holds. (
           let w = c.in_ok-clear.ensures in
           let old = c.args.self.now in
           subst (λ (s : MiniState). KeepsParts old.base s) (sym c.end_change.ensures)
-          (clear-parts old mid c.args.top (clears g c) (subst (λ (s : MiniState). Spares s.directory.sectors (table_of s) (table_of mid)) e (w.spares told))
-          c.requires.can_change.sound holds (λ v change. w.holds told v (subst (λ (s : MiniState). HoldsMini v s) (sym e) change.held))
-          (subst (λ (s : MiniState). KeepsWholeHeader s.directory mid.directory) e (w.header told)))
+          (clear-parts old mid c.args.top (clears g c) (subst (λ (s : MiniState). Spares s.directory.sectors (table_of s) (table_of mid)) e (w.changes.spares told))
+          c.requires.can_change.sound holds (λ v change. w.holds.holds told v (subst (λ (s : MiniState). HoldsMini v s) (sym e) change.held))
+          (subst (λ (s : MiniState). KeepsWholeHeader s.directory mid.directory) e (w.changes.header told)))
           );
     }
 
@@ -137,8 +137,8 @@ returns-clause-ends g c = record {
       let e = ap (λ (f : FileState). f.base) c.self.view_is in
       subst (λ (f : FileState). Holds f)
       (same-file c.self.inside.mini (ended mid) c.end_change.new.self c.self.inside.is_sound c.self.inside.buffer_limit c.args.self.now c.self.view_is c.end_change.ensures)
-      (clear-holds old mid c.args.top (clears g c) (subst (λ (s : MiniState). Spares s.directory.sectors (table_of s) (table_of mid)) e (w.spares told)) c.requires.can_change.sound holds
-      (w.holds told Permissive (subst (λ (s : MiniState). HoldsMini Permissive s) (sym e) (holds.sound c.requires.can_change.sound).held)))
+      (clear-holds old mid c.args.top (clears g c) (subst (λ (s : MiniState). Spares s.directory.sectors (table_of s) (table_of mid)) e (w.changes.spares told)) c.requires.can_change.sound holds
+      (w.holds.holds told Permissive (subst (λ (s : MiniState). HoldsMini Permissive s) (sym e) (holds.sound c.requires.can_change.sound).held)))
       );
   refused = first_of (search rules, grind (arith, common_steps));
   stops = first_of (search rules, grind (arith, common_steps));

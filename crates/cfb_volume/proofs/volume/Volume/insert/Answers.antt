@@ -47,9 +47,9 @@ returns-in_err-number-clause-keeps g c =
           let was = c.insert_dir_entry.ensures in
           let e = ap (λ (f : FileState). f.base) c.self.view_is in
           insert-keeps-streams c.args.self.now mid c.requires.can_change.sound holds
-          (subst (λ (s : MiniState). Spares s.directory.sectors (table_of s) (table_of mid)) e (was.spared told).spares) (subst (λ (s : MiniState). KeepsMini s mid) e was.mini)
+          (subst (λ (s : MiniState). Spares s.directory.sectors (table_of s) (table_of mid)) e (was.inserts.spared told).spares) (subst (λ (s : MiniState). KeepsMini s mid) e was.mini)
           );
-      header = λ told. subst (λ (f : FileState). KeepsFixedHeader f.base mid) c.self.view_is (spared-keeps-header _ c.self.inside.mini mid (c.insert_dir_entry.ensures.spared told).spares);
+      header = λ told. subst (λ (f : FileState). KeepsFixedHeader f.base mid) c.self.view_is (spared-keeps-header _ c.self.inside.mini mid (c.insert_dir_entry.ensures.inserts.spared told).spares);
       parts = first_of (search rules, grind (arith, common_steps));
     }
 
@@ -87,13 +87,13 @@ returns-in_err-number-clause-error g c =
           (same-file c.self.inside.mini mid mid c.self.inside.is_sound c.self.inside.buffer_limit c.args.self.now c.self.view_is refl)
           (refused-full old mid c.requires.can_change.sound holds (IsFullForEntry old.base.directory → ⊥) c.in_err-number.field-0.0
           (subst (λ (f : FileState). ChangeRefused (IsDirectoryNotHeld f.base.directory) (IsFullForEntry f.base.directory → ⊥) (IsFullForEntry f.base.directory) (Unit {0}) c.in_err-number.field-0.0) c.self.view_is
-          c.in_err-number.ensures.err)
+          c.in_err-number.ensures.inserts.err)
           (subst (λ (f : FileState). StopsShort f.base mid c.in_err-number.field-0.0) c.self.view_is c.in_err-number.ensures.refused)))
           );
       reason = λ holds. (
           rw (p.1, p.2) (refused-reason old c.insert_dir_entry.new.self c.requires.can_change.sound holds (IsFullForEntry old.base.directory → ⊥) c.in_err-number.field-0.0
           (subst (λ (f : FileState). ChangeRefused (IsDirectoryNotHeld f.base.directory) (IsFullForEntry f.base.directory → ⊥) (IsFullForEntry f.base.directory) (Unit {0}) c.in_err-number.field-0.0) c.self.view_is
-          c.in_err-number.ensures.err))
+          c.in_err-number.ensures.inserts.err))
           );
     }
 
@@ -105,7 +105,7 @@ returns-clause-object g c =
     let mid = c.insert_dir_entry.new.self in
     let e = ap (λ (f : FileState). f.base) c.self.view_is in
     let put = puts-object c.self.inside.mini c.args.self.now.base mid c.args.parent c.in_ok-number.number (chars c.args.name.now) c.args.kind c.args.moment
-    e c.requires.can_insert.storage c.requires.can_insert.kinds w.inserted w.kept w.mini w.limits in
+    e c.requires.can_insert.storage c.requires.can_insert.kinds w.inserts.inserted w.inserts.kept w.mini w.limits in
     let old = c.args.self.now in
     record {
       named = (
@@ -136,7 +136,7 @@ returns-clause-object g c =
           → number_from (cases_of old.base) (entries_of old.base) 0 o (parent_names names) ≡ Some c.args.parent → last_name names ≡ chars c.args.name.now
           → BecomesTree (cases_of old.base) (bytes_of old.base) (bytes_of s) (object_added_at (cases_of old.base) c.args.kind c.args.moment names)) (sym c.end_change.ensures)
           (insert-tree old mid c.args.parent c.in_ok-number.number (chars c.args.name.now) c.args.kind c.args.moment put
-          (subst (λ (s : MiniState). Spares s.directory.sectors (table_of s) (table_of mid)) e (w.spared told).spares) c.requires.can_change.sound holds
+          (subst (λ (s : MiniState). Spares s.directory.sectors (table_of s) (table_of mid)) e (w.inserts.spared told).spares) c.requires.can_change.sound holds
           (w.holds told Permissive (subst (λ (s : MiniState). HoldsMini Permissive s) (sym e) (holds.sound c.requires.can_change.sound).held)))
           );
     }
@@ -150,22 +150,22 @@ returns-clause-keeps g c =
           let was = c.insert_dir_entry.ensures in
           subst (λ (s : MiniState). KeepsStreams c.args.self.now.base s) (sym c.end_change.ensures) (streams-ended c.args.self.now.base mid
           (insert-keeps-streams c.args.self.now mid c.requires.can_change.sound holds
-          (subst (λ (s : MiniState). Spares s.directory.sectors (table_of s) (table_of mid)) e (was.spared told).spares) (subst (λ (s : MiniState). KeepsMini s mid) e was.mini)))
+          (subst (λ (s : MiniState). Spares s.directory.sectors (table_of s) (table_of mid)) e (was.inserts.spared told).spares) (subst (λ (s : MiniState). KeepsMini s mid) e was.mini)))
           );
       header = λ told. (
           subst (λ (s : MiniState). KeepsFixedHeader c.args.self.now.base s) (sym c.end_change.ensures) (header-ended c.args.self.now.base mid
-          (subst (λ (f : FileState). KeepsFixedHeader f.base mid) c.self.view_is (spared-keeps-header _ c.self.inside.mini mid (c.insert_dir_entry.ensures.spared told).spares)))
+          (subst (λ (f : FileState). KeepsFixedHeader f.base mid) c.self.view_is (spared-keeps-header _ c.self.inside.mini mid (c.insert_dir_entry.ensures.inserts.spared told).spares)))
           );
       parts = λ told holds. (
           let w = c.in_ok-number.ensures in
           let old = c.args.self.now in
           let put = puts-object c.self.inside.mini c.args.self.now.base mid c.args.parent c.in_ok-number.number (chars c.args.name.now) c.args.kind c.args.moment
-          e c.requires.can_insert.storage c.requires.can_insert.kinds w.inserted w.kept w.mini w.limits in
+          e c.requires.can_insert.storage c.requires.can_insert.kinds w.inserts.inserted w.inserts.kept w.mini w.limits in
           let before = subst (λ (s : MiniState). HoldsMini Permissive s) (sym e) (holds.sound c.requires.can_change.sound).held in
-          let counted = put-counted Permissive c.self.inside.mini mid c.args.parent before w.limits w.kept (w.written told) (w.spared told) in
+          let counted = put-counted Permissive c.self.inside.mini mid c.args.parent before w.limits w.inserts.kept (w.inserts.written told) (w.inserts.spared told) in
           subst (λ (s : MiniState). KeepsParts old.base s) (sym c.end_change.ensures)
           (insert-parts old mid c.args.parent c.in_ok-number.number (chars c.args.name.now) c.args.kind c.args.moment put
-          (subst (λ (s : MiniState). Spares s.directory.sectors (table_of s) (table_of mid)) e (w.spared told).spares) c.requires.can_change.sound holds
+          (subst (λ (s : MiniState). Spares s.directory.sectors (table_of s) (table_of mid)) e (w.inserts.spared told).spares) c.requires.can_change.sound holds
           (λ v change. w.holds told v (subst (λ (s : MiniState). HoldsMini v s) (sym e) change.held))
           (subst (λ (s : MiniState). IsCounted s → IsCounted mid) e counted))
           );
@@ -177,7 +177,7 @@ returns-clause-takes g c =
     let mid = c.insert_dir_entry.new.self in
     let e = ap (λ (f : FileState). f.base) c.self.view_is in
     let put = puts-object c.self.inside.mini c.args.self.now.base mid c.args.parent c.in_ok-number.number (chars c.args.name.now) c.args.kind c.args.moment
-    e c.requires.can_insert.storage c.requires.can_insert.kinds w.inserted w.kept w.mini w.limits in
+    e c.requires.can_insert.storage c.requires.can_insert.kinds w.inserts.inserted w.inserts.kept w.mini w.limits in
     record {
       grows = (
           subst (λ (s : MiniState). GrowsTightly c.args.self.now.base s) (sym c.end_change.ensures)
@@ -208,7 +208,7 @@ returns-clause-around g c =
     let mid = c.insert_dir_entry.new.self in
     let e = ap (λ (f : FileState). f.base) c.self.view_is in
     let put = puts-object c.self.inside.mini c.args.self.now.base mid c.args.parent c.in_ok-number.number (chars c.args.name.now) c.args.kind c.args.moment
-    e c.requires.can_insert.storage c.requires.can_insert.kinds w.inserted w.kept w.mini w.limits in
+    e c.requires.can_insert.storage c.requires.can_insert.kinds w.inserts.inserted w.inserts.kept w.mini w.limits in
     record {
       stays = (
           subst (λ (s : MiniState). KeepsFound c.args.self.now.base s) (sym c.end_change.ensures)
@@ -235,11 +235,11 @@ returns-clause-ends g c = record {
       let old = c.args.self.now in
       let e = ap (λ (f : FileState). f.base) c.self.view_is in
       let put = puts-object c.self.inside.mini c.args.self.now.base mid c.args.parent c.in_ok-number.number (chars c.args.name.now) c.args.kind c.args.moment
-      e c.requires.can_insert.storage c.requires.can_insert.kinds w.inserted w.kept w.mini w.limits in
+      e c.requires.can_insert.storage c.requires.can_insert.kinds w.inserts.inserted w.inserts.kept w.mini w.limits in
       subst (λ (f : FileState). Holds f)
       (same-file c.self.inside.mini (ended mid) c.end_change.new.self c.self.inside.is_sound c.self.inside.buffer_limit c.args.self.now c.self.view_is c.end_change.ensures)
       (insert-holds old mid c.args.parent c.in_ok-number.number (chars c.args.name.now) c.args.kind c.args.moment put
-      (subst (λ (s : MiniState). Spares s.directory.sectors (table_of s) (table_of mid)) e (w.spared told).spares) c.requires.can_change.sound holds
+      (subst (λ (s : MiniState). Spares s.directory.sectors (table_of s) (table_of mid)) e (w.inserts.spared told).spares) c.requires.can_change.sound holds
       (w.holds told Permissive (subst (λ (s : MiniState). HoldsMini Permissive s) (sym e) (holds.sound c.requires.can_change.sound).held)))
       );
   refused = first_of (search rules, grind (arith, common_steps));
@@ -249,7 +249,7 @@ returns-clause-ends g c = record {
 pub returns-clause-error : goal.returns-clause-error
 returns-clause-error g c = record {
   stops = first_of (search rules, grind (arith, common_steps));
-  enough = subst (λ (f : FileState). IsFullForEntry f.base.directory → ⊥) c.self.view_is c.in_ok-number.ensures.inserted.enough;
+  enough = subst (λ (f : FileState). IsFullForEntry f.base.directory → ⊥) c.self.view_is c.in_ok-number.ensures.inserts.inserted.enough;
   err = first_of (search rules, grind (arith, common_steps));
   reason = first_of (search rules, grind (arith, common_steps));
 }

@@ -12,29 +12,29 @@ use Rattle.cfb_volume.proofs.volume.Volume.raw_fat.Goals as goal
 
 pub returns-clause-same : goal.returns-clause-same
 returns-clause-same g c told =
-    let still : IsStill c.args.self.now.base c.words_unless.new.mini = subst (λ (f : FileState). IsStill f.base c.words_unless.new.mini) c.self.view_is c.words_unless.ensures.kept in
+    let still : IsStill c.args.self.now.base c.words_unless.new.mini = subst (λ (f : FileState). IsStill f.base c.words_unless.new.mini) c.self.view_is c.words_unless.ensures.reads.still in
     record {
       base = still;
-      bytes = subst (λ (f : FileState). bytes_of c.words_unless.new.mini ≡ bytes_of f.base) c.self.view_is (c.words_unless.ensures.bytes told);
+      bytes = subst (λ (f : FileState). bytes_of c.words_unless.new.mini ≡ bytes_of f.base) c.self.view_is (c.words_unless.ensures.reads.bytes told);
       is_sound = ap (λ (f : FileState). f.is_sound) c.self.view_is;
       buffer_limit = ap (λ (f : FileState). f.buffer_limit) c.self.view_is;
     }
 
 pub returns-clause-in_memory : goal.returns-clause-in_memory
 returns-clause-in_memory g c = record {
-  base = subst (λ (f : FileState). IsStill f.base c.words_unless.new.mini) c.self.view_is c.words_unless.ensures.kept;
+  base = subst (λ (f : FileState). IsStill f.base c.words_unless.new.mini) c.self.view_is c.words_unless.ensures.reads.still;
   is_sound = ap (λ (f : FileState). f.is_sound) c.self.view_is;
   buffer_limit = ap (λ (f : FileState). f.buffer_limit) c.self.view_is;
 }
 
 pub returns-clause-flag : goal.returns-clause-flag
 returns-clause-flag g c =
-    let still : IsStill c.args.self.now.base c.words_unless.new.mini = subst (λ (f : FileState). IsStill f.base c.words_unless.new.mini) c.self.view_is c.words_unless.ensures.kept in
+    let still : IsStill c.args.self.now.base c.words_unless.new.mini = subst (λ (f : FileState). IsStill f.base c.words_unless.new.mini) c.self.view_is c.words_unless.ensures.reads.still in
     ap (λ (s : MiniState). (table_of s).file.begun) still
 
 pub returns-clause-stays : goal.returns-clause-stays
 returns-clause-stays g c told =
-    on_ok_weaker c.words_unless.result (λ is. ap (file_on c.self.inside.is_sound c.self.inside.buffer_limit) is ∙ c.self.view_is) (c.words_unless.ensures.same told)
+    on_ok_weaker c.words_unless.result (λ is. ap (file_on c.self.inside.is_sound c.self.inside.buffer_limit) is ∙ c.self.view_is) (c.words_unless.ensures.reads.same told)
 
 pub returns-clause-ok : goal.returns-clause-ok
 returns-clause-ok g c told unsound =
@@ -49,4 +49,4 @@ returns-clause-err g c =
 pub returns-clause-counts : goal.returns-clause-counts
 returns-clause-counts g c told =
     subst (λ (f : FileState). CountsFailure g.F.ReadMedium.read_faults c.words_unless.result (failures_of f) (table_of c.words_unless.new.mini).file.failures) c.self.view_is
-    (c.words_unless.ensures.counts told)
+    (c.words_unless.ensures.reads.counts told)

@@ -18,19 +18,19 @@ read_content-requires g c = record {
 
 pub returns-clause-stays : goal.returns-clause-stays
 returns-clause-stays g c =
-    let still : IsStill c.args.self.now.base c.read_content.new.mini = subst (λ (f : FileState). IsStill f.base c.read_content.new.mini) c.self.view_is c.read_content.ensures.kept in
+    let still : IsStill c.args.self.now.base c.read_content.new.mini = subst (λ (f : FileState). IsStill f.base c.read_content.new.mini) c.self.view_is c.read_content.ensures.reads.still in
     record {
       same = λ told. (
           record {
             base = still;
-            bytes = subst (λ (f : FileState). bytes_of c.read_content.new.mini ≡ bytes_of f.base) c.self.view_is (c.read_content.ensures.bytes told);
+            bytes = subst (λ (f : FileState). bytes_of c.read_content.new.mini ≡ bytes_of f.base) c.self.view_is (c.read_content.ensures.reads.bytes told);
             is_sound = ap (λ (f : FileState). f.is_sound) c.self.view_is;
             buffer_limit = ap (λ (f : FileState). f.buffer_limit) c.self.view_is;
           }
           );
       in_memory = (
           record {
-            base = subst (λ (f : FileState). IsStill f.base c.read_content.new.mini) c.self.view_is c.read_content.ensures.kept;
+            base = subst (λ (f : FileState). IsStill f.base c.read_content.new.mini) c.self.view_is c.read_content.ensures.reads.still;
             is_sound = ap (λ (f : FileState). f.is_sound) c.self.view_is;
             buffer_limit = ap (λ (f : FileState). f.buffer_limit) c.self.view_is;
           }
@@ -53,13 +53,13 @@ returns-clause-stays g c =
 
 pub returns-clause-read : goal.returns-clause-read
 returns-clause-read g c = record {
-  count = subst (λ (f : FileState). IfOk c.read_content.result (λ n. n ≤ min (length c.args.into.now) (len_of f.base c.args.entry - c.args.at))) c.self.view_is c.read_content.ensures.count;
-  some = subst (λ (f : FileState). IfOk c.read_content.result (λ n. 0 < min (length c.args.into.now) (len_of f.base c.args.entry - c.args.at) → 0 < n)) c.self.view_is c.read_content.ensures.some;
+  count = subst (λ (f : FileState). IfOk c.read_content.result (λ n. n ≤ min (length c.args.into.now) (len_of f.base c.args.entry - c.args.at))) c.self.view_is c.read_content.ensures.part.most;
+  some = subst (λ (f : FileState). IfOk c.read_content.result (λ n. 0 < min (length c.args.into.now) (len_of f.base c.args.entry - c.args.at) → 0 < n)) c.self.view_is c.read_content.ensures.part.some;
   ok = λ told held. (
       subst (λ (f : FileState). IfOk c.read_content.result (λ n. take n c.read_content.new.into ≡ part (content_at f c.args.entry) c.args.at n)) c.self.view_is
-      (c.read_content.ensures.ok told (subst (λ (f : FileState). TellsPlaces f.base) (sym c.self.view_is) held.places))
+      (c.read_content.ensures.content.read told (subst (λ (f : FileState). TellsPlaces f.base) (sym c.self.view_is) held.places))
       );
-  within = λ told held. subst (λ (f : FileState). IfOk c.read_content.result (λ n. 0 < n → c.args.at + n ≤ length (content_at f c.args.entry))) c.self.view_is (c.read_content.ensures.within told (subst (λ (f : FileState). TellsPlaces f.base) (sym c.self.view_is) held.places));
+  within = λ told held. subst (λ (f : FileState). IfOk c.read_content.result (λ n. 0 < n → c.args.at + n ≤ length (content_at f c.args.entry))) c.self.view_is (c.read_content.ensures.content.within told (subst (λ (f : FileState). TellsPlaces f.base) (sym c.self.view_is) held.places));
   rest = first_of (search rules, grind (arith, common_steps));
 }
 
@@ -68,15 +68,15 @@ returns-clause-error g c = record {
   err = λ told held. (
       subst (λ (f : FileState). IfErr c.read_content.result (ChangeRefused
       ((length (content_at f c.args.entry) ≤ c.args.at) × (0 < min (length c.args.into.now) (len_of f.base c.args.entry - c.args.at))) (Unit {0}) ⊥ (Unit {0}))) c.self.view_is
-      (c.read_content.ensures.err told (subst (λ (f : FileState). TellsPlaces f.base) (sym c.self.view_is) held.places))
+      (c.read_content.ensures.content.err told (subst (λ (f : FileState). TellsPlaces f.base) (sym c.self.view_is) held.places))
       );
   past = λ told held. (
       subst (λ (f : FileState). length (content_at f c.args.entry) ≤ c.args.at → 0 < min (length c.args.into.now) (len_of f.base c.args.entry - c.args.at)
       → IsErrAnd c.read_content.result (λ e. IsInvalidData e ⊎ IsMemory e)) c.self.view_is
-      (c.read_content.ensures.past told (subst (λ (f : FileState). TellsPlaces f.base) (sym c.self.view_is) held.places))
+      (c.read_content.ensures.content.past told (subst (λ (f : FileState). TellsPlaces f.base) (sym c.self.view_is) held.places))
       );
   counts = λ told. (
       subst (λ (f : FileState). CountsFailure g.F.ReadMedium.read_faults c.read_content.result (failures_of f) (table_of c.read_content.new.mini).file.failures) c.self.view_is
-      (c.read_content.ensures.counts told)
+      (c.read_content.ensures.reads.counts told)
       );
 }

@@ -118,15 +118,15 @@ returns-in_err-remove_dir_entry-clause-ends g c =
       ended = first_of (search rules, grind (arith, common_steps));
       in_memory = (
           rw p.1 (in-memory old _ (subst (λ (f : FileState). StaysOrFails old f) (same-file s new new c.self.inside.is_sound c.self.inside.buffer_limit old c.self.view_is refl)
-          (stays-then old mid new c.in_err-remove_dir_entry.field-0.0 quiet c.in_err-remove_dir_entry.ensures.refused)))
+          (stays-then old mid new c.in_err-remove_dir_entry.field-0.0 quiet c.in_err-remove_dir_entry.ensures.changes.refused)))
           );
       agrees = λ told holds. (
           subst (λ (f : FileState). Agrees f) (same-file s new new c.self.inside.is_sound c.self.inside.buffer_limit old c.self.view_is refl)
-          (stays-agrees old _ (stays-then old mid new c.in_err-remove_dir_entry.field-0.0 quiet c.in_err-remove_dir_entry.ensures.refused) holds)
+          (stays-agrees old _ (stays-then old mid new c.in_err-remove_dir_entry.field-0.0 quiet c.in_err-remove_dir_entry.ensures.changes.refused) holds)
           );
       refused = λ told holds. (
           rw p.1 (subst (λ (f : FileState). StaysOrFails old f) (same-file s new new c.self.inside.is_sound c.self.inside.buffer_limit old c.self.view_is refl)
-          (stays-then old mid new c.in_err-remove_dir_entry.field-0.0 quiet c.in_err-remove_dir_entry.ensures.refused))
+          (stays-then old mid new c.in_err-remove_dir_entry.field-0.0 quiet c.in_err-remove_dir_entry.ensures.changes.refused))
           );
       counts = first_of (search rules, grind (arith, common_steps));
     }
@@ -143,18 +143,18 @@ returns-in_err-remove_dir_entry-clause-error g c =
       first = λ kind. (
           let same = c.empty_object.ensures.gives.none (not-stream s old c.self.inside.is_sound c.self.inside.buffer_limit c.args.child c.self.view_is kind) in
           rw (p.1, p.2) (file-after s new old c.self.inside.is_sound c.self.inside.buffer_limit c.self.view_is c.in_err-remove_dir_entry.field-0.0
-          (after-none s mid new same c.in_err-remove_dir_entry.field-0.0 c.in_err-remove_dir_entry.ensures.refused))
+          (after-none s mid new same c.in_err-remove_dir_entry.field-0.0 c.in_err-remove_dir_entry.ensures.changes.refused))
           );
       gave_back = λ told. (
           let child = c.args.child in
           let gave = subst (λ (m : MiniState). StaysOrGaveBack child m mid) e c.in_ok-empty_object.ensures.gives.gave_back in
           rw (p.1, p.2) (after-less (new ≡ mid) (StaysOrGaveBack child old.base new) (λ same. subst (λ (m : MiniState). StaysOrGaveBack child old.base m) (sym same) gave)
-          c.in_err-remove_dir_entry.field-0.0 (after-none mid mid new refl c.in_err-remove_dir_entry.field-0.0 c.in_err-remove_dir_entry.ensures.refused))
+          c.in_err-remove_dir_entry.field-0.0 (after-none mid mid new refl c.in_err-remove_dir_entry.field-0.0 c.in_err-remove_dir_entry.ensures.changes.refused))
           );
       err = λ told holds. (
           let emptied = subst (λ (m : MiniState). WasEmptied m mid c.args.child) e (c.in_ok-empty_object.ensures.gives.emptied told) in
           rw (p.1, p.2) (empty-break (IsDirectoryNotHeld mid.directory) ⊥ (λ none. none Permissive (emptied.holds Permissive (holds.sound c.requires.can_change.sound)).held.directory) (λ z. z)
-          c.in_err-remove_dir_entry.field-0.0 c.in_err-remove_dir_entry.ensures.err)
+          c.in_err-remove_dir_entry.field-0.0 c.in_err-remove_dir_entry.ensures.holds.err)
           );
     }
 
@@ -165,7 +165,7 @@ header-kept g c told =
     let mid = c.empty_object.new.mini in
     let new = c.remove_dir_entry.new.self in
     subst (λ (f : FileState). KeepsFixedHeader f.base new) c.self.view_is
-    (header-then s mid new c.empty_object.ensures.changes.moves.limits.version (c.empty_object.ensures.changes.spares told).header (spared-keeps-header _ mid new (c.remove_dir_entry.ensures.spares told)))
+    (header-then s mid new c.empty_object.ensures.changes.moves.limits.version (c.empty_object.ensures.changes.spares told).header (spared-keeps-header _ mid new (c.remove_dir_entry.ensures.changes.spares told)))
 
 pub returns-in_err-remove_dir_entry-clause-keeps : goal.returns-in_err-remove_dir_entry-clause-keeps
 returns-in_err-remove_dir_entry-clause-keeps g c = record {
@@ -175,7 +175,7 @@ returns-in_err-remove_dir_entry-clause-keeps g c = record {
       let e = ap (λ (f : FileState). f.base) c.self.view_is in
       let emptied = subst (λ (m : MiniState). WasEmptied m mid c.args.child) e (c.in_ok-empty_object.ensures.gives.emptied told) in
       others-then old.base mid c.remove_dir_entry.new.self c.args.child Permissive emptied (holds.sound c.requires.can_change.sound)
-      (c.remove_dir_entry.ensures.spares told) c.remove_dir_entry.ensures.mini
+      (c.remove_dir_entry.ensures.changes.spares told) c.remove_dir_entry.ensures.changes.mini
       );
   header = λ told. header-kept g (goal.at.returns-in_err-remove_dir_entry-clause-keeps g c).After-remove_dir_entry told;
   parts = first_of (search rules, grind (arith, common_steps));
@@ -205,7 +205,7 @@ removed g c told =
     was-removed c.args.self.now mid c.remove_dir_entry.new.self c.args.parent c.args.child (chars c.args.name.now)
     (subst (λ (m : MiniState). WasEmptied m mid c.args.child) e (c.in_ok-empty_object.ensures.gives.emptied told))
     (subst (λ (m : MiniState). (entry_at (entries_of m) c.args.child).obj_type ≢ Stream → mid ≡ m) e c.empty_object.ensures.gives.none)
-    c.requires.child.storage c.requires.child.named w.removed w.balanced w.kept w.mini w.limits (w.spares told) (w.header told) (λ v held. w.holds told v held)
+    c.requires.child.storage c.requires.child.named w.removes.removed w.removes.balanced w.changes.kept w.changes.mini w.holds.limits (w.changes.spares told) (w.changes.header told) (λ v held. w.holds.holds told v held)
 
 pub returns-clause-object : goal.returns-clause-object
 returns-clause-object g c =
@@ -232,7 +232,7 @@ returns-clause-object g c =
           let moves = subst (λ (m : MiniState). MovesAlone m mid child) e c.empty_object.ensures.changes.moves in
           let change = holds.sound c.requires.can_change.sound in
           subst (λ (m : MiniState). LeavesZeros old.base m child) (sym c.end_change.ensures)
-          (λ m own. slots-leave-zeros Permissive old.base mid new child m change.held moves.limits.version moves.directory (c.in_ok-remove_dir_entry.ensures.others told) own
+          (λ m own. slots-leave-zeros Permissive old.base mid new child m change.held moves.limits.version moves.directory (c.in_ok-remove_dir_entry.ensures.changes.others told) own
           (emptied.erased Permissive change kind m own))
           );
     }
@@ -267,8 +267,8 @@ returns-clause-takes g c = record {
       let e = ap (λ (f : FileState). f.base) c.self.view_is in
       let moves = subst (λ (m : MiniState). MovesAlone m c.empty_object.new.mini c.args.child) e c.empty_object.ensures.changes.moves in
       subst (λ (m : MiniState). TakesNoSlot old.base m) (sym c.end_change.ensures) (record {
-        slots = w.removed.removed.longer ∙ moves.entries.same_length;
-        fat = ap (λ (t : TableState). length t.fat) w.kept.1 ∙ c.empty_object.ensures.changes.takes_none ∙ ap (λ (m : MiniState). length (tables_in m).fat) e;
+        slots = w.removes.removed.removed.longer ∙ moves.entries.same_length;
+        fat = ap (λ (t : TableState). length t.fat) w.changes.kept.1 ∙ c.empty_object.ensures.changes.takes_none ∙ ap (λ (m : MiniState). length (tables_in m).fat) e;
       })
       );
   root_len = λ told kind. (

@@ -46,9 +46,9 @@ returns-in_err-with_dir_entry_mut-clause-keeps g c =
           let was = c.with_dir_entry_mut.ensures in
           let e = ap (λ (f : FileState). f.base) c.self.view_is in
           insert-keeps-streams c.args.self.now mid c.requires.can_change.sound holds
-          (subst (λ (s : MiniState). Spares s.directory.sectors (table_of s) (table_of mid)) e (was.spares told)) (subst (λ (s : MiniState). KeepsMini s mid) e was.mini)
+          (subst (λ (s : MiniState). Spares s.directory.sectors (table_of s) (table_of mid)) e (was.changes.spares told)) (subst (λ (s : MiniState). KeepsMini s mid) e was.changes.mini)
           );
-      header = λ told. subst (λ (f : FileState). KeepsFixedHeader f.base mid) c.self.view_is (spared-keeps-header _ c.self.inside.mini mid (c.with_dir_entry_mut.ensures.spares told));
+      header = λ told. subst (λ (f : FileState). KeepsFixedHeader f.base mid) c.self.view_is (spared-keeps-header _ c.self.inside.mini mid (c.with_dir_entry_mut.ensures.changes.spares told));
       parts = λ told holds. rw p.1 tt;
     }
 
@@ -56,7 +56,7 @@ pub returns-in_err-with_dir_entry_mut-clause-ends : goal.returns-in_err-with_dir
 returns-in_err-with_dir_entry_mut-clause-ends g c =
     let mid = c.with_dir_entry_mut.new.self in
     let p = err_from_is_err_and c.from_residual.result c.from_residual.ensures.1 in
-    let stops = subst (λ (f : FileState). StopsShort f.base mid c.in_err-with_dir_entry_mut.field-0.0) c.self.view_is c.in_err-with_dir_entry_mut.ensures.refused in
+    let stops = subst (λ (f : FileState). StopsShort f.base mid c.in_err-with_dir_entry_mut.field-0.0) c.self.view_is c.in_err-with_dir_entry_mut.ensures.changes.refused in
     record {
       setting = first_of (search rules, grind (arith, common_steps));
       ended = first_of (search rules, grind (arith, common_steps));
@@ -84,8 +84,8 @@ returns-in_err-with_dir_entry_mut-clause-err g c told holds =
     let p = err_from_is_err_and c.from_residual.result c.from_residual.ensures.1 in
     let back = sym (ap (λ (f : FileState). f.base) c.self.view_is) in
     let held = subst (λ (m : MiniState). HoldsMini Permissive m) back (holds.sound c.requires.can_change.sound).held in
-    rw (p.1, p.2) (mark-refused s mid (IsDirectoryNotHeld s.directory) (λ none. none Permissive held.directory) c.in_err-with_dir_entry_mut.field-0.0 c.in_err-with_dir_entry_mut.ensures.err
-    c.in_err-with_dir_entry_mut.ensures.refused)
+    rw (p.1, p.2) (mark-refused s mid (IsDirectoryNotHeld s.directory) (λ none. none Permissive held.directory) c.in_err-with_dir_entry_mut.field-0.0 c.in_err-with_dir_entry_mut.ensures.error.err
+    c.in_err-with_dir_entry_mut.ensures.changes.refused)
 
 -- ---- other fields
 
@@ -101,8 +101,8 @@ marked g c =
     let e = ap (λ (f : FileState). f.base) c.self.view_is in
     let order : AreInOrder (cases_of s) (entries_of s) = c.entries-entries.ensures.in_order in
     let reached = subst (λ (m : MiniState). (o : Outline) → IsOutline (cases_of m) (entries_of m) o → IsReached o n) (sym e) c.requires.can_set.reached in
-    let changed = subst (λ (m : MiniState). (f : Fields) × g.W.FnOnce.post c.args.change (fields_in (entry_at (entries_of m) n), tt) f × (entries_of mid ≡ entries_with_fields (entries_of m) n f)) e w.changed in
-    let kept = subst (λ (m : MiniState). (mid.directory.sectors ≡ m.directory.sectors) × (tables_in mid ≡ tables_in m)) e w.kept in
+    let changed = subst (λ (m : MiniState). (f : Fields) × g.W.FnOnce.post c.args.change (fields_in (entry_at (entries_of m) n), tt) f × (entries_of mid ≡ entries_with_fields (entries_of m) n f)) e w.sets.changed in
+    let kept = subst (λ (m : MiniState). (mid.directory.sectors ≡ m.directory.sectors) × (tables_in mid ≡ tables_in m)) e w.changes.kept in
     let is = subst (λ (m : MiniState). IsOutline (cases_of m) (entries_of m) order.outline) e order.is in
     let starts = subst (λ (m : MiniState). (f : Fields) → g.W.FnOnce.post c.args.change (fields_in (entry_at (entries_of m) n), tt) f → f.start_sector ≡ (entry_at (entries_of m) n).start_sector)
     (sym e) c.requires.can_set.start in
@@ -120,14 +120,14 @@ marked g c =
         kept = record {
           sectors = kept.0;
           tables = kept.1;
-          mini = subst (λ (m : MiniState). KeepsMini m mid) e w.mini;
+          mini = subst (λ (m : MiniState). KeepsMini m mid) e w.changes.mini;
           limits = subst (λ (m : MiniState). KeepsLimits m mid) e w.limits;
         };
       };
       outline = order.outline;
       is = is;
-      spares = λ told. subst (λ (m : MiniState). Spares m.directory.sectors (table_of m) (table_of mid)) e (w.spares told);
-      header = λ told. subst (λ (m : MiniState). KeepsWholeHeader m.directory mid.directory) e (w.header told);
+      spares = λ told. subst (λ (m : MiniState). Spares m.directory.sectors (table_of m) (table_of mid)) e (w.changes.spares told);
+      header = λ told. subst (λ (m : MiniState). KeepsWholeHeader m.directory mid.directory) e (w.changes.header told);
       held = λ told v h.
           let here = subst (λ (m : MiniState). HoldsMini v m) (sym e) h in
           w.holds told v here (λ f p. valid f p (reached-valid v s order.outline n here.directory order.is (reached order.outline order.is)))
@@ -145,11 +145,11 @@ returns-clause-keeps g c =
           let e = ap (λ (f : FileState). f.base) c.self.view_is in
           subst (λ (s : MiniState). KeepsStreams c.args.self.now.base s) (sym c.end_change.ensures) (streams-ended c.args.self.now.base mid
           (insert-keeps-streams c.args.self.now mid c.requires.can_change.sound holds
-          (subst (λ (s : MiniState). Spares s.directory.sectors (table_of s) (table_of mid)) e (was.spares told)) (subst (λ (s : MiniState). KeepsMini s mid) e was.mini)))
+          (subst (λ (s : MiniState). Spares s.directory.sectors (table_of s) (table_of mid)) e (was.changes.spares told)) (subst (λ (s : MiniState). KeepsMini s mid) e was.changes.mini)))
           );
       header = λ told. (
           subst (λ (s : MiniState). KeepsFixedHeader c.args.self.now.base s) (sym c.end_change.ensures) (header-ended c.args.self.now.base mid
-          (subst (λ (f : FileState). KeepsFixedHeader f.base mid) c.self.view_is (spared-keeps-header _ c.self.inside.mini mid (c.with_dir_entry_mut.ensures.spares told))))
+          (subst (λ (f : FileState). KeepsFixedHeader f.base mid) c.self.view_is (spared-keeps-header _ c.self.inside.mini mid (c.with_dir_entry_mut.ensures.changes.spares told))))
           );
       parts = λ told holds. (
           subst (λ (s : MiniState). KeepsParts c.args.self.now.base s) (sym c.end_change.ensures)
@@ -171,7 +171,7 @@ returns-clause-fields g c = record {
 pub returns-clause-around : goal.returns-clause-around
 returns-clause-around g c = record {
   tables = first_of (search rules, grind (arith, common_steps));
-  minifat = ap (λ (s : MiniState). s.minifat) c.end_change.ensures ∙ c.with_dir_entry_mut.ensures.mini.minifat ∙ ap (λ (f : FileState). f.base.minifat) c.self.view_is;
+  minifat = ap (λ (s : MiniState). s.minifat) c.end_change.ensures ∙ c.with_dir_entry_mut.ensures.changes.mini.minifat ∙ ap (λ (f : FileState). f.base.minifat) c.self.view_is;
   finds = (
       subst (λ (s : MiniState). FindsTheSame c.args.self.now.base s) (sym c.end_change.ensures)
       (mark-finds (marked g (goal.at.returns-clause-around g c).In_ok-with_dir_entry_mut))
@@ -197,13 +197,13 @@ returns-clause-ends g c = record {
       (mark-holds (marked g (goal.at.returns-clause-ends g c).In_ok-with_dir_entry_mut) told c.requires.can_change.sound holds)
       );
   refused = first_of (search rules, grind (arith, common_steps));
-  counts = λ told. ap (λ (m : MiniState). (table_of m).file.failures) c.end_change.ensures ∙ c.in_ok-with_dir_entry_mut.ensures.counts told ∙ ap (λ (f : FileState). (table_of f.base).file.failures) c.self.view_is;
+  counts = λ told. ap (λ (m : MiniState). (table_of m).file.failures) c.end_change.ensures ∙ c.in_ok-with_dir_entry_mut.ensures.changes.counts told ∙ ap (λ (f : FileState). (table_of f.base).file.failures) c.self.view_is;
 }
 
 pub returns-in_err-with_dir_entry_mut-clause-around : goal.returns-in_err-with_dir_entry_mut-clause-around
 returns-in_err-with_dir_entry_mut-clause-around g c = record {
   tables = first_of (search rules, grind (arith, common_steps));
-  minifat = c.with_dir_entry_mut.ensures.mini.minifat ∙ ap (λ (f : FileState). f.base.minifat) c.self.view_is;
+  minifat = c.with_dir_entry_mut.ensures.changes.mini.minifat ∙ ap (λ (f : FileState). f.base.minifat) c.self.view_is;
   finds = first_of (search rules, grind (arith, common_steps));
   balanced = first_of (search rules, grind (arith, common_steps));
   root_len = first_of (search rules, grind (arith, common_steps));
