@@ -331,3 +331,12 @@ returns-clause-takes g c = record {
       subst (λ n. CountsFailure g.F.Medium.write_faults c.write_taken.result n c.write_taken.new.sectors.failures) same (c.write_taken.ensures.writes.counts told)
   );
 }
+
+pub returns-clause-extends : goal.returns-clause-extends
+returns-clause-extends g c = record {
+  chain = first_of (search rules, grind (arith, common_steps));
+  behind = first_of (search rules, grind (arith, common_steps));
+  ends = first_of (search rules, grind (arith, common_steps));
+  lengthened = first_of (search rules, grind (arith, common_steps));
+  none = first_of (search rules, grind (arith, common_steps));
+}
