@@ -2,6 +2,7 @@ use Rattle.std.proofs.lemmas.Grind.{common_steps}
 use Rattle.std.proofs.Common.{◌≡◌, ◌≤◌, ◌<◌, ◌+◌, ◌-◌, ◌/◌, inr, ℕ, refl, sym, ◌∙◌, ap, subst, arith, inl, length, replicate, rules}
 use Rattle.std.specs.Prelude.{IsTrue, slice_index}
 use Rattle.std.proofs.lemmas.Bool.{cases_lt}
+use Rattle.std.proofs.lemmas.Result.{err_from_is_err_and}
 use Rattle.std.proofs.lemmas.List.{get_or-replicate, length-replicate}
 use Rattle.cfb_format.specs.declared.version.Version.{Version}
 use Rattle.cfb_format.specs.Bytes.{sector_len}
@@ -112,7 +113,7 @@ returns-in_err-count-clause-writes g c = record {
       let ids = c.args.ids.now in
       spares-then ids ids c.args.allocator.now c.loop-at.allocator c.zero_run.new.allocator (λ i m. inr m) (c.loop-at.invariant.spares told) (c.zero_run.ensures.writes.spares told)
   );
-  holds = first_of (search rules, grind (arith, common_steps));
+  holds = λ told validation h free. (let p = err_from_is_err_and c.from_residual.result c.from_residual.ensures.1 in rw p.1 tt);
   err = first_of (search rules, grind (arith, common_steps));
 }
 

@@ -3,6 +3,8 @@ use Rattle.std.proofs.Common.{◌≡◌, ◌+◌, ◌++◌, inr, ℕ, List, ◌�
 use Rattle.std.proofs.Math.Seq.{drop-cons}
 use Rattle.std.proofs.lemmas.List.{drop_all}
 use Rattle.std.proofs.lemmas.List.Elements.{Contains-get_or}
+use Rattle.std.proofs.lemmas.Result.{err_from_is_err_and}
+use Rattle.cfb_format.specs.Refused.{CountsError}
 use Rattle.cfb_format.specs.declared.version.Version.{Version}
 use Rattle.cfb_format.specs.DirectoryEntry.{IsValidEntry}
 use Rattle.cfb_format.specs.Siblings.{entry_at}
@@ -79,12 +81,15 @@ pub returns-in_err-write_entry-clause-among : goal.returns-in_err-write_entry-cl
 returns-in_err-write_entry-clause-among g c = record {
   tables = first_of (search rules, grind (arith, common_steps));
   kept = first_of (search rules, grind (arith, common_steps));
-  holds = first_of (search rules, grind (arith, common_steps));
+  holds = λ told validation h other. (let p = err_from_is_err_and c.from_residual.result c.from_residual.ensures.1 in rw p.1 tt);
   spares = λ told. (
       let s = c.args.sectors.now in
       spares-then s s c.args.allocator.now c.loop-number.allocator c.write_entry.new.allocator (λ j m. inr m) (c.loop-number.invariant.spares told) (c.write_entry.ensures.among.spares told)
   );
-  counts = first_of (search rules, grind (arith, common_steps));
+  counts = λ told. (
+      let p = err_from_is_err_and c.from_residual.result c.from_residual.ensures.1 in
+      rw (p.1, p.2) (subst (λ (n : ℕ). CountsError g.F.Medium.write_faults n c.write_entry.new.allocator.file.failures c.in_err-write_entry.field-0.0) (c.loop-number.invariant.counts told) (c.in_err-write_entry.ensures.among.counts told))
+  );
 }
 
 pub returns-in_err-write_entry-clause-others : goal.returns-in_err-write_entry-clause-others

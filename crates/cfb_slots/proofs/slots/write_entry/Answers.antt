@@ -88,7 +88,21 @@ returns-clause-slots g c told validation late h valid whole once =
 
 pub returns-clause-puts : goal.returns-clause-puts
 returns-clause-puts g c = record {
-  done = first_of (search rules, grind (arith, common_steps));
+  done = λ told. (
+      let a = c.args.allocator.now in
+      let v = a.tables.version in
+      let k = c.args.number in
+      let sectors = c.args.sectors.now in
+      let es = entries_of c.args.entries.now in
+      let slot = c.write_to.new.into in
+      let per = c.dir_entries_per_sector-per.ensures ∙ ap entries_per_sector c.version.ensures in
+      let kept = kept_entry c.args.entries.now k c.index-entries-number.result c.requires.inside c.index-entries-number.is in
+      let put : slot ≡ entry_bytes (entry_at es k) = c.write_to.ensures ∙ ap entry_bytes (sym kept) in
+      let there : written a.file.bytes (sector_start v (slice_index sectors (k / c.dir_entries_per_sector-per.result)) + k % c.dir_entries_per_sector-per.result * 128) slot
+      ≡ written a.file.bytes (slot_place v sectors k) slot =
+      ap (λ n. written a.file.bytes (sector_start v (slice_index sectors (k / n)) + k % n * 128) slot) per in
+      on_ok _ _ c.write_slot.result (λ is. is ∙ there ∙ ap (λ (s : List ℕ). written a.file.bytes (slot_place v sectors k) s) put) (c.write_slot.ensures.writes.done told)
+  );
   begun = first_of (search rules, grind (arith, common_steps));
   err = first_of (search rules, grind (arith, common_steps));
   others = λ told. (

@@ -1,3 +1,5 @@
+use Rattle.cfb_format.specs.Refused.{CountsError}
+use Rattle.cfb_alloc.specs.cfb_sectors.Sectors.{SectorFile}
 use Rattle.std.proofs.lemmas.Grind.{common_steps}
 use Rattle.std.proofs.Common.{◌≡◌, ◌<◌, ◌∷◌, ◌∙◌, [], ap, arith, length, sym, subst, ℕ, List, rules}
 use Rattle.std.specs.Prelude.{Contains}
@@ -144,14 +146,18 @@ invariant_of-self-in_err-write_taken g c = (
 
 pub returns-in_err-write_taken-clause-takes : goal.returns-in_err-write_taken-clause-takes
 returns-in_err-write_taken-clause-takes g c = record {
-  holds = first_of (search rules, search (rules, refused_changed), grind (arith, common_steps));
+  holds = λ told validation h. (let p = err_from_is_err_and c.from_residual-in_err-write_taken.result c.from_residual-in_err-write_taken.ensures.1 in rw p.1 tt);
   others = λ told. (
       others_written c.deref.result.now c.deref.ensures.value c.self.view_is (taken_reserved c.reserve.ensures.unchanged c.in_ok-list.ensures.list.taken)
       c.reserve_sectors.new.self c.write_taken.new.sectors c.len.result c.reserve_sectors.ensures (c.write_taken.ensures.writes.changes told)
   );
   begun = first_of (search rules, search (rules, refused_changed), grind (arith, common_steps));
   enough = first_of (search rules, search (rules, refused_changed), grind (arith, common_steps));
-  counts = first_of (search rules, search (rules, refused_changed), grind (arith, common_steps));
+  counts = λ told. (
+      let p = err_from_is_err_and c.from_residual-in_err-write_taken.result c.from_residual-in_err-write_taken.ensures.1 in
+      let same = ap (λ (f : SectorFile). f.failures) c.reserve_sectors.ensures ∙ ap (λ (a : AllocatorState). a.file.failures) c.self.view_is in
+      rw (p.1, p.2) (subst (λ (n : ℕ). CountsError g.F.Medium.write_faults n c.write_taken.new.sectors.failures c.in_err-write_taken.field-0.0) same (c.in_err-write_taken.ensures.writes.counts told))
+  );
 }
 
 pub invariant_of-self-2 : goal.invariant_of-self-2
@@ -270,7 +276,7 @@ returns-in_err-list-clause-begins g c = record {
 pub returns-in_err-write_taken-clause-begins : goal.returns-in_err-write_taken-clause-begins
 returns-in_err-write_taken-clause-begins g c = record {
   none = first_of (search rules, search (rules, refused_changed), grind (arith, common_steps));
-  filled = first_of (search rules, search (rules, refused_changed), grind (arith, common_steps));
+  filled = λ told validation h. (let p = err_from_is_err_and c.from_residual-in_err-write_taken.result c.from_residual-in_err-write_taken.ensures.1 in rw p.1 tt);
   spares = λ told. (
       taken_written c.deref.result.now c.deref.ensures.value c.self.view_is (taken_reserved c.reserve.ensures.unchanged c.in_ok-list.ensures.list.taken)
       c.reserve_sectors.new.self c.write_taken.new.sectors c.len.result c.reserve_sectors.ensures (c.write_taken.ensures.writes.changes told)

@@ -1,5 +1,7 @@
+use Rattle.cfb_format.specs.Refused.{CountsError}
+use Rattle.cfb_alloc.specs.cfb_sectors.Sectors.{SectorFile}
 use Rattle.std.proofs.lemmas.Grind.{common_steps}
-use Rattle.std.proofs.Common.{arith, sym, subst, refl, [], ◌∷◌, rules}
+use Rattle.std.proofs.Common.{arith, sym, subst, refl, [], ◌∷◌, rules, ap, ◌∙◌, ℕ}
 use Rattle.std.proofs.lemmas.Result.{err_from_is_err_and}
 use Rattle.cfb_format.specs.Chain.{IsChain}
 use Rattle.cfb_alloc.specs.Alloc.{AllocatorState}
@@ -81,20 +83,24 @@ invariant_of-self-in_err-write_taken g c = (
 
 pub returns-in_err-write_taken-clause-takes : goal.returns-in_err-write_taken-clause-takes
 returns-in_err-write_taken-clause-takes g c = record {
-  holds = first_of (search rules, search (rules, refused_changed), grind (arith, common_steps));
+  holds = λ told validation h. (let p = err_from_is_err_and c.from_residual-in_err-write_taken.result c.from_residual-in_err-write_taken.ensures.1 in rw p.1 tt);
   others = λ told. (
       others_written (c.in_ok-sector.sector ∷ []) refl c.self.view_is c.in_ok-sector.ensures.number.taken
       c.reserve_sectors.new.self c.write_taken.new.sectors c.len.result c.reserve_sectors.ensures (c.write_taken.ensures.writes.changes told)
   );
   begun = first_of (search rules, search (rules, refused_changed), grind (arith, common_steps));
   enough = first_of (search rules, search (rules, refused_changed), grind (arith, common_steps));
-  counts = first_of (search rules, search (rules, refused_changed), grind (arith, common_steps));
+  counts = λ told. (
+      let p = err_from_is_err_and c.from_residual-in_err-write_taken.result c.from_residual-in_err-write_taken.ensures.1 in
+      let same = ap (λ (f : SectorFile). f.failures) c.reserve_sectors.ensures ∙ ap (λ (a : AllocatorState). a.file.failures) c.self.view_is in
+      rw (p.1, p.2) (subst (λ (n : ℕ). CountsError g.F.Medium.write_faults n c.write_taken.new.sectors.failures c.in_err-write_taken.field-0.0) same (c.in_err-write_taken.ensures.writes.counts told))
+  );
 }
 
 pub returns-in_err-write_taken-clause-extends : goal.returns-in_err-write_taken-clause-extends
 returns-in_err-write_taken-clause-extends g c = record {
   extended = first_of (search rules, search (rules, refused_changed), grind (arith, common_steps));
-  filled = first_of (search rules, search (rules, refused_changed), grind (arith, common_steps));
+  filled = λ told validation h. (let p = err_from_is_err_and c.from_residual-in_err-write_taken.result c.from_residual-in_err-write_taken.ensures.1 in rw p.1 tt);
   spares = λ told list chain. (
       let k = c.in_ok-last.ensures.ok in
       taken_for_chain (c.in_ok-sector.sector ∷ []) refl c.self.view_is c.in_ok-sector.ensures.number.taken

@@ -10,7 +10,7 @@ use Rattle.cfb_alloc.proofs.cfb_sectors.SectorLemmas.{SectorStays_refl}
 use Rattle.cfb_table_words.specs.Along.{AreFilledFrom}
 use Rattle.cfb_alloc.specs.Alloc.{AllocatorState}
 use Rattle.cfb_tables.specs.Tables.{HasTaken, first_or_end}
-use Rattle.cfb_table_words.proofs.Answering.{all_err, if_err, on_ok}
+use Rattle.cfb_table_words.proofs.Answering.{all_ok, all_err, if_err, on_ok}
 use Rattle.cfb_tables.specs.Listed.{EndsChain, ends_of, gained}
 use Rattle.cfb_alloc.specs.ListedChain.{Lengthens}
 use Rattle.cfb_table_words.proofs.FrameLemmas.{changes_refl}
@@ -330,4 +330,22 @@ returns-clause-takes g c = record {
       let same = ap (λ (f : SectorFile). f.failures) c.reserve_sectors.ensures ∙ ap (λ (a : AllocatorState). a.file.failures) c.self.view_is in
       subst (λ n. CountsFailure g.F.Medium.write_faults c.write_taken.result n c.write_taken.new.sectors.failures) same (c.write_taken.ensures.writes.counts told)
   );
+}
+
+pub returns-clause-extends : goal.returns-clause-extends
+returns-clause-extends g c = record {
+  chain = λ was. (
+      let ids = c.args.ids.now.items in
+      c.extend_listed.ensures.extends.chain (subst (λ (a : AllocatorState). IsChain a.tables.fat (first_or_end ids) ids) (sym c.self.view_is) was)
+  );
+  behind = all_ok c.write_taken.result c.in_ok-extend_listed.ensures.extends.behind;
+  ends = all_ok c.write_taken.result (subst (EndsChain c.args.self.now.tables.fat) c.deref.ensures.value c.in_ok-check_end.ensures.ends);
+  lengthened = (
+      let ids = c.args.ids.now.items in
+      let ids' = c.extend_listed.new.list.items in
+      let e = c.in_ok-extend_listed.ensures.extends in
+      all_ok c.write_taken.result (subst (λ (a : AllocatorState). Lengthens c.args.count ids ids' a.tables c.extend_listed.new.self) c.self.view_is
+      (record { listed = e.listed; count = e.counted; taken = e.taken }))
+  );
+  none = λ none. absurd (c.if-count-eq0.false none);
 }

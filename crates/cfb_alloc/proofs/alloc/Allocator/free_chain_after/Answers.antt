@@ -18,6 +18,11 @@ use Rattle.cfb_alloc.proofs.FreeingLemmas.{nothing_said, placed_changed, changes
 use Rattle.cfb_alloc.proofs.Spared.{spares_refl, spares_unchanged, freed_written}
 use Rattle.cfb_alloc.proofs.alloc.Allocator.free_chain_after.Goals as goal
 
+-- the chain is cut in memory
+cuts : (x : ℕ) (a : AllocatorState) (file : SectorFile) (t0 t : TableState) (list : List ℕ) → record { file = file; tables = t0 } ≡ a → IsChain t0.fat (value t0.fat x) list
+    → GivesBack (x ∷ []) list t0.fat t.fat → t ≡ record t0 { fat = t.fat } → GivesBackChain (x ∷ []) (value a.tables.fat x) a.tables t
+cuts x a file t0 t list is was cut rest = subst (λ (b : AllocatorState). GivesBackChain (x ∷ []) (value b.tables.fat x) b.tables t) is (list, was, record { given = cut; rest = rest })
+
 pub returns-in_err-usable_sizes : goal.returns-in_err-usable_sizes
 returns-in_err-usable_sizes g c = record { frees = record {
   cut = first_of (search rules, grind (arith, common_steps));
@@ -95,11 +100,15 @@ invariant_of-self-in_err-write_values g c =
       tt,
     )
 
-pub write_values-requires-2-clause-placed : goal.write_values-requires-2-clause-placed
-write_values-requires-2-clause-placed g c =
-    let kept = c.write_values.ensures.writes.kept in
-    placed_changed c.self.inside.tables c.free_after.new.self c.free_after.ensures.frees.rest c.in_ok-freed.ensures.frees.cut.same_length c.self.inside.sectors c.write_values.new.sectors
-    (ap (λ (f : SectorFile). f.version) kept) (ap (λ (f : SectorFile). f.num_sectors) kept) c.self.invariant.0
+pub write_values-requires-2-clause-tables : goal.write_values-requires-2-clause-tables
+write_values-requires-2-clause-tables g c = record {
+  placed = (
+      let kept = c.write_values.ensures.writes.kept in
+      placed_changed c.self.inside.tables c.free_after.new.self c.free_after.ensures.frees.rest c.in_ok-freed.ensures.frees.cut.same_length c.self.inside.sectors c.write_values.new.sectors
+      (ap (λ (f : SectorFile). f.version) kept) (ap (λ (f : SectorFile). f.num_sectors) kept) c.self.invariant.0
+  );
+  covered = first_of (search rules, grind (arith, common_steps));
+}
 
 pub invariant_of-self-2 : goal.invariant_of-self-2
 invariant_of-self-2 g c =
@@ -168,11 +177,6 @@ returns g c = record { frees = record {
   err = first_of (search rules, grind (arith, common_steps));
   counts = first_of (search rules, grind (arith, common_steps));
 } }
-
--- the chain is cut in memory
-cuts : (x : ℕ) (a : AllocatorState) (file : SectorFile) (t0 t : TableState) (list : List ℕ) → record { file = file; tables = t0 } ≡ a → IsChain t0.fat (value t0.fat x) list
-    → GivesBack (x ∷ []) list t0.fat t.fat → t ≡ record t0 { fat = t.fat } → GivesBackChain (x ∷ []) (value a.tables.fat x) a.tables t
-cuts x a file t0 t list is was cut rest = subst (λ (b : AllocatorState). GivesBackChain (x ∷ []) (value b.tables.fat x) b.tables t) is (list, was, record { given = cut; rest = rest })
 
 pub returns-in_err-write_values : goal.returns-in_err-write_values
 returns-in_err-write_values g c = record { frees = record {

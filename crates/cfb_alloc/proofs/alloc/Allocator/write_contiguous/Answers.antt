@@ -14,7 +14,7 @@ returns-clause-there g c = record {
   sectors = first_of (search rules, grind (arith, common_steps));
   spares = λ told own lie. (
       stretch_spares c.write_contiguous.new.self c.args.sector c.args.offset (length c.args.from.now) c.self.view_is c.self.invariant.0 own lie
-      (c.write_contiguous.ensures.put.others told)
+      (c.write_contiguous.ensures.there.others told)
   );
   holds = λ told validation h outside. (
       let s0 = c.self.inside.sectors in
@@ -30,6 +30,6 @@ returns-clause-there g c = record {
       c.requires.some inside (stretch_past s2 c.args.sector c.args.offset (length from) c.self.view_is c.self.invariant.0)
       (subst (λ (a : AllocatorState). LieOutside (table_sectors a.tables) a.tables.version (place_in_sector a.file c.args.sector c.args.offset) (length from)) back outside)
       (subst (λ (a : AllocatorState). HoldsTables validation a) back h))
-      (e.put.done told) (wrote_inside c.write_contiguous.result _ _ (sectors_end s0) (at + length from) e.past)
+      (e.ok told) (wrote_inside c.write_contiguous.result _ _ (sectors_end s0) (at + length from) e.error.past)
   );
 }

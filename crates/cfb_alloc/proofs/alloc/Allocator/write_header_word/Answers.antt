@@ -23,9 +23,9 @@ returns g c = record { writes = record {
       (ap (λ (f : SectorFile). f.len) is)
       (ap (λ (f : SectorFile). f.bytes) is ∙ ap (λ p. with_word s0.bytes p c.args.value) c.place.ensures)
       c.num_sectors-fact.ensures.header
-      (subst (λ p. ChangesOnlyBytes p 4 s0.bytes s1.bytes) c.place.ensures (c.write_header_word.ensures.writes.others told))
+      (subst (λ p. ChangesOnlyBytes p 4 s0.bytes s1.bytes) c.place.ensures (c.write_header_word.ensures.others told))
       (subst (HoldsTables validation) (sym c.self.view_is) h))
-      (c.write_header_word.ensures.writes.done told)
+      (c.write_header_word.ensures.ok told)
   );
   others = first_of (search rules, grind (arith, common_steps));
   spares = λ told. (
@@ -34,7 +34,7 @@ returns g c = record { writes = record {
       let t = c.self.inside.tables in
       subst (λ (a : AllocatorState). Spares [] a (record { file = s1; tables = t })) c.self.view_is
       (field_spares c.args.word (record { file = s0; tables = t }) (record { file = s1; tables = t }) refl
-      (subst (λ p. ChangesOnlyBytes p 4 s0.bytes s1.bytes) c.place.ensures (c.write_header_word.ensures.writes.others told)))
+      (subst (λ p. ChangesOnlyBytes p 4 s0.bytes s1.bytes) c.place.ensures (c.write_header_word.ensures.others told)))
   );
   err = first_of (search rules, grind (arith, common_steps));
   counts = first_of (search rules, grind (arith, common_steps));
