@@ -64,3 +64,11 @@ returns-clause-answers g c = record {
   foreseen = first_of (search rules, grind (arith, common_steps));
   settles = first_of (search rules, grind (arith, common_steps));
 }
+
+pub returns-in_err-have_rest-clause-open : goal.returns-in_err-have_rest-clause-open
+returns-in_err-have_rest-clause-open g c = record {
+  there = first_of (search rules, grind (arith, common_steps));
+  flags = first_of (search rules, grind (arith, common_steps));
+  goes_on = first_of (search rules, grind (arith, common_steps));
+  bound = first_of (search rules, grind (arith, common_steps));
+}
