@@ -190,6 +190,19 @@ impl Disk for Sim {
             .map_err(|_| MediumFault::Memory)
     }
 
+    fn read_journal_at(&mut self, at: u64, into: &mut [u8]) -> Result<(), MediumFault> {
+        if !self.step() {
+            return Err(MediumFault::Read);
+        }
+        let len = self.journal.bytes.len();
+        if at > len as u64 || into.len() > len - at as usize {
+            return Err(MediumFault::Read);
+        }
+        let at = at as usize;
+        into.copy_from_slice(&self.journal.bytes[at..at + into.len()]);
+        Ok(())
+    }
+
     fn write_journal(&mut self, at: u64, from: &[u8]) -> Result<(), MediumFault> {
         if !self.step() {
             return Err(MediumFault::Write);
