@@ -5,6 +5,7 @@ use Rattle.std.proofs.Props.{props}
 use Rattle.cfb_format.specs.declared.medium.MediumFault.{MediumFault}
 use Rattle.cfb_format.specs.declared.medium.MediumFault.TheVariants.{Memory as OutOfMemory}
 use Rattle.cfb_journal.specs.declared.medium.Phase.{Phase}
+use Rattle.cfb_journal.specs.declared.overlay.Table.{Table}
 use Rattle.cfb_journal.specs.declared.medium.Phase.TheVariants.{Quiet, Changing, Broken}
 use Rattle.cfb_journal.specs.Disk.{Image, View}
 use Rattle.cfb_journal.specs.Journal.{applied, recovered, Restores, RestoresEither}
@@ -37,8 +38,8 @@ AreBlocks-prop base at [] = hlevel props
 AreBlocks-prop base at (b ∷ rest) = hlevel (props, AreBlocks-prop base (at + 4096) rest)
 
 -- the bytes that were written, in the file or not
-abbrev pub logical : List (Vec ℕ Global) → List ℕ → List ℕ
-logical blocks file = applied (frames_from 0 (contents blocks)) file
+abbrev pub logical : Table → Image → List ℕ
+logical table seen = applied (frames_from 0 (contents table seen.journal)) seen.file
 
 -- why a call failed: the disk failed meanwhile, or memory was refused
 abbrev pub HasCause : MediumFault → ℕ → View → Type 0

@@ -12,7 +12,7 @@ ghost use Rattle.cfb_journal.specs.declared.medium.Phase.TheVariants.{Quiet, Cha
 ghost use Rattle.cfb_journal.specs.declared.recovery.RecoveryError.TheVariants.{Damaged, Foreign};
 
 use crate::disk::Disk;
-use crate::overlay::{overlay, serve};
+use crate::overlay::{Table, let_go, overlay, serve};
 use crate::recovery::{NotOpened, RecoveryError, recover};
 use crate::stages::{append, begin, commit};
 use crate::stamps::stamp_with;
@@ -40,7 +40,7 @@ enum Phase {
 pub struct JournaledMedium<D: Disk> {
     disk: D,
     alloc: Global,
-    blocks: Vec<Vec<u8>>,
+    table: Table,
     /// The length at the last flush.
     base: u64,
     len: u64,
@@ -50,8 +50,8 @@ pub struct JournaledMedium<D: Disk> {
     failures: u64,
     ghost ordered: { base ≤ len },
     ghost small: { len ≤ 2 ^ 62 },
-    ghost few: { 4096 * length blocks.items ≤ base + 4096 },
-    ghost fits: { AreBlocks base 0 (contents blocks.items) } by { AreBlocks-prop base 0 (contents blocks.items) },
+    ghost few: { 4096 * length table.blocks.items ≤ base + 4096 },
+    ghost fits: { AreBlocks base 0 (contents table (D.Disk.view disk).seen.journal) } by { AreBlocks-prop base 0 (contents table (D.Disk.view disk).seen.journal) },
     ghost sound: { IsTrue D.Disk.tells → IsSound phase base len (D.Disk.view disk) } by { Prim.hlevel (props, IsSound-prop) },
     ghost since: { IsTrue D.Disk.tells → is_first ≡ true → IsSince D.Disk.opened base (D.Disk.view disk) } by { Prim.hlevel (props, IsSince-prop) },
     ghost caused: { IsTrue D.Disk.tells → is_first ≡ true → phase ≡ Broken → D.Disk.opened.faults < (D.Disk.view disk).faults },
@@ -66,7 +66,7 @@ impl<D: Disk> JournaledMedium<D> {
     /// the disk.
     pub fn open(alloc: Global, disk: D) -> Result<JournaledMedium<D>, RecoveryError>
         ensures found { IsTrue D.tells → IfOk result (λ m. recovered (D.view disk).seen
-            ≡ Some (logical m.blocks.items (D.view m.disk).seen.file)) }
+            ≡ Some (logical m.table (D.view m.disk).seen)) }
         ensures damaged { IsTrue D.tells → IsErrOf result Damaged → recovered (D.view disk).seen ≡ None }
         ensures foreign { IsTrue D.tells → IsErrOf result Foreign → IsForeign (D.view disk).seen }
     {
@@ -84,7 +84,7 @@ impl<D: Disk> JournaledMedium<D> {
     pub(crate) fn open_first(alloc: Global, disk: D) -> Result<JournaledMedium<D>, NotOpened<D>>
         requires opened { IsTrue D.tells → IsOpened D.opened (D.view disk) }
         ensures found { IsTrue D.tells → IfOk result (λ m. recovered (D.view disk).seen
-            ≡ Some (logical m.blocks.items (D.view m.disk).seen.file)) }
+            ≡ Some (logical m.table (D.view m.disk).seen)) }
         ensures first { IfOk result (λ m. m.is_first ≡ true) }
         ensures not_opened { IsTrue D.tells → IfErr result (λ r. IsNotOpened r.error (D.view disk) (D.view r.disk)) }
     {
@@ -96,7 +96,7 @@ impl<D: Disk> JournaledMedium<D> {
         ensures now { IsTrue D.tells → IsTrue result → (c : Image) → (D.view self.now.disk).may_leave c
             → Restores (take self.now.base (D.view self.now.disk).seen.file) c }
         ensures logical { IsTrue D.tells → IsTrue result → self.now.len
-            ≡ length (logical self.now.blocks.items (D.view self.now.disk).seen.file) }
+            ≡ length (logical self.now.table (D.view self.now.disk).seen) }
     {
         self.phase != Phase::Broken
     }
@@ -104,7 +104,7 @@ impl<D: Disk> JournaledMedium<D> {
     /// Whether a flush could still be made; a medium that is broken counts one failure more.
     pub(crate) fn check(&mut self) -> Result<(), MediumFault>
         ensures same { self.new.disk ≡ self.old.disk }
-        ensures blocks { self.new.blocks ≡ self.old.blocks }
+        ensures table { self.new.table ≡ self.old.table }
         ensures base { self.new.base ≡ self.old.base }
         ensures first { self.new.is_first ≡ self.old.is_first }
         ensures honest { MatchResult result (λ _. self.new.failures ≡ self.old.failures)
@@ -123,7 +123,7 @@ impl<D: Disk> JournaledMedium<D> {
         let JournaledMedium {
             disk,
             alloc: _,
-            blocks: _,
+            table: _,
             base: _,
             len: _,
             phase: _,
@@ -142,7 +142,7 @@ fn recovered_medium<D: Disk>(
 ) -> Result<JournaledMedium<D>, NotOpened<D>>
     requires opened { IsTrue D.tells → is_first ≡ true → IsOpened D.opened (D.view disk) }
     ensures found { IsTrue D.tells → IfOk result (λ m. recovered (D.view disk).seen
-        ≡ Some (logical m.blocks.items (D.view m.disk).seen.file)) }
+        ≡ Some (logical m.table (D.view m.disk).seen)) }
     ensures first { IfOk result (λ m. m.is_first ≡ is_first) }
     ensures not_opened { IsTrue D.tells → IfErr result (λ r. IsNotOpened r.error (D.view disk) (D.view r.disk)) }
 {
@@ -158,7 +158,7 @@ fn recovered_medium<D: Disk>(
     Ok(JournaledMedium {
         disk,
         alloc,
-        blocks: Vec::new(alloc),
+        table: Table::new(alloc),
         base: length,
         len: length,
         phase: Phase::Quiet,
@@ -204,16 +204,16 @@ fn ready<D: Disk>(disk: &mut D, phase: &mut Phase, base: u64) -> Result<(), Medi
 impl<D: Disk> ReadMedium for JournaledMedium<D> {
     ghost tells = { D.tells };
 
-    ghost bytes = { λ m. logical m.blocks.items (D.view m.disk).seen.file };
+    ghost bytes = { λ m. logical m.table (D.view m.disk).seen };
 
     ghost failures = { λ m. m.failures };
 
     ghost read_faults = { λ _. true };
 
     fn length(&mut self) -> Result<u64, MediumFault>
-        ensures same { IsTrue D.tells → (logical self.new.blocks.items (D.view self.new.disk).seen.file) ≡ (logical self.old.blocks.items (D.view self.old.disk).seen.file) }
+        ensures same { IsTrue D.tells → (logical self.new.table (D.view self.new.disk).seen) ≡ (logical self.old.table (D.view self.old.disk).seen) }
         ensures honest { IsTrue D.tells → MatchResult result
-            (λ n. (n ≡ length (logical self.old.blocks.items (D.view self.old.disk).seen.file)) × (self.new.failures ≡ self.old.failures))
+            (λ n. (n ≡ length (logical self.old.table (D.view self.old.disk).seen)) × (self.new.failures ≡ self.old.failures))
             (FailsBy (λ _. true) self.old.failures self.new.failures) }
         ensures first { self.new.is_first ≡ self.old.is_first }
     {
@@ -225,9 +225,9 @@ impl<D: Disk> ReadMedium for JournaledMedium<D> {
 
     fn read_at(&mut self, at: u64, into: &mut [u8]) -> Result<usize, MediumFault>
         ensures bound { IfOk result (λ n. n ≤ length into.new) }
-        ensures same { IsTrue D.tells → (logical self.new.blocks.items (D.view self.new.disk).seen.file) ≡ (logical self.old.blocks.items (D.view self.old.disk).seen.file) }
+        ensures same { IsTrue D.tells → (logical self.new.table (D.view self.new.disk).seen) ≡ (logical self.old.table (D.view self.old.disk).seen) }
         ensures honest { IsTrue D.tells → MatchResult result (ReadsAt (λ _. true)
-            (logical self.old.blocks.items (D.view self.old.disk).seen.file) self.old.failures self.new.failures at into.new)
+            (logical self.old.table (D.view self.old.disk).seen) self.old.failures self.new.failures at into.new)
             (FailsBy (λ _. true) self.old.failures self.new.failures) }
         ensures any_moment { IsTrue D.tells → self.old.phase ≢ Broken → Meanwhile (D.view self.old.disk) (D.view self.new.disk)
             (Restores (take self.old.base (D.view self.old.disk).seen.file)) }
@@ -245,7 +245,7 @@ impl<D: Disk> ReadMedium for JournaledMedium<D> {
         if at >= self.len {
             return Ok(0);
         }
-        match serve(&mut self.disk, &self.blocks, self.base, self.len, at, into) {
+        match serve(&mut self.disk, &self.table, self.base, self.len, at, into) {
             Ok(count) => Ok(count),
             Err(fault) => Err(fail(&mut self.failures, fault)),
         }
@@ -258,8 +258,8 @@ impl<D: Disk> Medium for JournaledMedium<D> {
     fn write_at(&mut self, at: u64, from: &[u8]) -> Result<usize, MediumFault>
         ensures bound { IfOk result (λ n. n ≤ length from.now) }
         ensures honest { IsTrue D.tells → MatchResult result (WritesAt (λ _. true)
-            (logical self.old.blocks.items (D.view self.old.disk).seen.file) (logical self.new.blocks.items (D.view self.new.disk).seen.file) self.old.failures self.new.failures at from.now)
-            (FailsToWriteAt (λ _. true) (logical self.old.blocks.items (D.view self.old.disk).seen.file) (logical self.new.blocks.items (D.view self.new.disk).seen.file) self.old.failures self.new.failures at from.now) }
+            (logical self.old.table (D.view self.old.disk).seen) (logical self.new.table (D.view self.new.disk).seen) self.old.failures self.new.failures at from.now)
+            (FailsToWriteAt (λ _. true) (logical self.old.table (D.view self.old.disk).seen) (logical self.new.table (D.view self.new.disk).seen) self.old.failures self.new.failures at from.now) }
         ensures any_moment { IsTrue D.tells → self.old.phase ≢ Broken → Meanwhile (D.view self.old.disk) (D.view self.new.disk)
             (Restores (take self.old.base (D.view self.old.disk).seen.file)) }
         ensures kept { IsTrue D.tells → self.old.phase ≢ Broken
@@ -280,10 +280,19 @@ impl<D: Disk> Medium for JournaledMedium<D> {
             return Err(fail(&mut self.failures, MediumFault::Write));
         }
         if at < self.base {
+            if self.table.is_full() {
+                if let Err(fault) = ready(&mut self.disk, &mut self.phase, self.base) {
+                    return Err(fail(&mut self.failures, fault));
+                }
+                if let Err(fault) = let_go(self.alloc, &mut self.disk, &mut self.table) {
+                    self.phase = Phase::Broken;
+                    return Err(fail(&mut self.failures, fault));
+                }
+            }
             return match overlay(
                 self.alloc,
                 &mut self.disk,
-                &mut self.blocks,
+                &mut self.table,
                 self.base,
                 at,
                 from,
@@ -304,28 +313,28 @@ impl<D: Disk> Medium for JournaledMedium<D> {
     }
 
     fn flush(&mut self) -> Result<(), MediumFault>
-        ensures same { IsTrue D.tells → (logical self.new.blocks.items (D.view self.new.disk).seen.file) ≡ (logical self.old.blocks.items (D.view self.old.disk).seen.file) }
+        ensures same { IsTrue D.tells → (logical self.new.table (D.view self.new.disk).seen) ≡ (logical self.old.table (D.view self.old.disk).seen) }
         ensures honest { IsTrue D.tells → MatchResult result
             (λ _. self.new.failures ≡ self.old.failures)
             (FailsBy (λ _. true) self.old.failures self.new.failures) }
         ensures any_moment { IsTrue D.tells → self.old.phase ≢ Broken → Meanwhile (D.view self.old.disk) (D.view self.new.disk)
             (RestoresEither (take self.old.base (D.view self.old.disk).seen.file)
-            (logical self.old.blocks.items (D.view self.old.disk).seen.file)) }
+            (logical self.old.table (D.view self.old.disk).seen)) }
         ensures all_or_nothing { IsTrue D.tells → self.old.is_first ≡ true → (c : Image)
             → (D.view self.new.disk).left_since D.opened.moment c → (D.opened.may_leave c → ⊥)
             → RestoresEither (take self.old.base (D.view self.old.disk).seen.file)
-            (logical self.old.blocks.items (D.view self.old.disk).seen.file) c }
-        ensures committed { IsTrue D.tells → OnOk result ((D.view self.new.disk).seen.file ≡ (logical self.old.blocks.items (D.view self.old.disk).seen.file)) }
+            (logical self.old.table (D.view self.old.disk).seen) c }
+        ensures committed { IsTrue D.tells → OnOk result ((D.view self.new.disk).seen.file ≡ (logical self.old.table (D.view self.old.disk).seen)) }
         ensures durable { IsTrue D.tells → OnOk result (IsQuiet (D.view self.new.disk)) }
         ensures cause { IsTrue D.tells → self.old.is_first ≡ true → IfErr result (λ fault. IsNotCommitted D.opened fault (D.view self.new.disk)) }
     {
         if self.phase == Phase::Broken {
             return Err(fail(&mut self.failures, MediumFault::Flush));
         }
-        if self.phase == Phase::Quiet && self.blocks.is_empty() {
+        if self.phase == Phase::Quiet && self.table.is_empty() {
             return Ok(());
         }
-        let stamp = match stamp_with(&mut self.disk, self.base, self.len, &self.blocks) {
+        let stamp = match stamp_with(&mut self.disk, self.base, self.len, &self.table) {
             Ok(stamp) => stamp,
             Err(fault) => return Err(fail(&mut self.failures, fault)),
         };
@@ -333,11 +342,11 @@ impl<D: Disk> Medium for JournaledMedium<D> {
             return Err(fail(&mut self.failures, fault));
         }
         self.is_first = false;
-        if let Err(fault) = commit(&mut self.disk, self.base, self.len, stamp, &self.blocks) {
+        if let Err(fault) = commit(&mut self.disk, self.base, self.len, stamp, &mut self.table) {
             self.phase = Phase::Broken;
             return Err(fail(&mut self.failures, fault));
         }
-        self.blocks.clear();
+        self.table.clear();
         self.base = self.len;
         self.phase = Phase::Quiet;
         Ok(())

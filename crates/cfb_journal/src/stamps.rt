@@ -9,7 +9,7 @@ ghost use Rattle.cfb_journal.specs.States.{Looks};
 
 use crate::disk::Disk;
 use crate::laying::lay_frames;
-use crate::overlay::read_with;
+use crate::overlay::{Table, read_with};
 use cfb_format::medium::{MediumFault, ReadMedium};
 use cfb_format::transfer::read_exact_at;
 
@@ -103,13 +103,13 @@ pub(crate) fn stamp_with<D: Disk>(
     disk: &mut D,
     base: u64,
     len: u64,
-    blocks: &[Vec<u8>],
+    table: &Table,
 ) -> Result<u64, MediumFault>
     requires ordered { base ≤ len }
-    requires fits { AreBlocks base 0 (contents blocks.now) }
+    requires fits { AreBlocks base 0 (contents table.now (D.view disk.old).seen.journal) }
     requires sized { IsTrue D.tells → len ≡ length (D.view disk.old).seen.file }
     ensures stamp { IsTrue D.tells → IfOk result (λ n. n
-        ≡ stamp_of (applied (frames_from 0 (contents blocks.now)) (D.view disk.old).seen.file)) }
+        ≡ stamp_of (applied (frames_from 0 (contents table.now (D.view disk.old).seen.journal)) (D.view disk.old).seen.file)) }
     ensures looks { IsTrue D.tells → Looks (D.view disk.old) (D.view disk.new) }
     ensures cause { IsTrue D.tells → CountsFault result (D.view disk.old).faults (D.view disk.new).faults }
 {
@@ -121,7 +121,7 @@ pub(crate) fn stamp_with<D: Disk>(
     while left > 0 && at < len {
         let size = (len - at).min(BLOCK) as usize;
         let piece = &mut bytes[..size];
-        read_with(disk, base, blocks, at, piece)?;
+        read_with(disk, base, table, at, piece)?;
         sum = summed(sum, piece);
         at += step.min(len - at);
         left -= 1;

@@ -545,3 +545,31 @@ fn a_journal_of_another_file_is_refused(rt: HostRuntime) -> Result<(), Fail> {
     assert!(rt; refused > 0);
     Ok(())
 }
+
+#[test]
+fn many_blocks_are_read_as_they_were_written(rt: HostRuntime) -> Result<(), Fail> {
+    let alloc = rt.alloc();
+    let mut model = numbered(alloc, 30_001, 3)?;
+    let disk = new_disk(alloc, &model, u64::MAX)?;
+    let mut medium = JournaledMedium::open(alloc, disk).ok().ok_or("not opened")?;
+    let mut seed = 5_u64;
+    for turn in 0..60_u64 {
+        let at = next(&mut seed) % 31_000;
+        let len = (next(&mut seed) % 5_000) as usize + 1;
+        if at > model.len() as u64 {
+            continue;
+        }
+        let bytes = numbered(alloc, len, seed)?;
+        assert!(rt; write_all(&mut medium, at, &bytes), "turn {turn}");
+        put_at(&mut model, at as usize, &bytes)?;
+        assert!(rt; is_read(alloc, &mut medium, &model)?, "turn {turn}");
+        if turn % 16 == 15 {
+            assert!(rt; medium.flush().is_ok(), "turn {turn}");
+        }
+    }
+    assert!(rt; medium.flush().is_ok());
+    let disk = medium.into_disk();
+    assert_eq!(rt; disk.file.bytes.as_slice(), model.as_slice());
+    assert!(rt; disk.journal.bytes.is_empty());
+    Ok(())
+}
