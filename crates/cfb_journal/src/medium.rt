@@ -4,18 +4,20 @@ ghost use Rattle.std.proofs.Props.{props};
 ghost use Rattle.cfb_format.specs.Medium.{Rises, ReadsAt, WritesAt, FailsToWriteAt, FailsBy};
 ghost use Rattle.cfb_journal.specs.Disk.{CountsFault, Image, IsOpened};
 ghost use Rattle.cfb_journal.specs.Journal.{IsForeign, Restores, RestoresEither, recovered};
-ghost use Rattle.cfb_journal.specs.Overlay.{contents, AreBlocks};
+ghost use Rattle.cfb_journal.specs.Overlay.{contents, framed_bytes, left_frames, AreBlocks, AreLeft};
 ghost use Rattle.cfb_journal.specs.Recovery.{IsNotOpened};
-ghost use Rattle.cfb_journal.specs.Sound.{AreBlocks-prop, HasCause, IsSince, IsSince-prop, IsSound, IsSound-prop, IsNotCommitted, logical};
+ghost use Rattle.cfb_journal.specs.Sound.{AreBlocks-prop, AreLeft-prop, HasCause, IsSince, IsSince-prop, IsSound, IsSound-prop, IsNotCommitted, logical};
 ghost use Rattle.cfb_journal.specs.States.{IsChanging, IsQuiet, Looks, Meanwhile};
 ghost use Rattle.cfb_journal.specs.declared.medium.Phase.TheVariants.{Quiet, Changing, Broken};
 ghost use Rattle.cfb_journal.specs.declared.recovery.RecoveryError.TheVariants.{Damaged, Foreign};
 
 use crate::disk::Disk;
-use crate::overlay::{Table, let_go, overlay, serve};
+use crate::leaving::let_go;
+use crate::overlay::{overlay, serve};
 use crate::recovery::{NotOpened, RecoveryError, recover};
 use crate::stages::{append, begin, commit};
 use crate::stamps::stamp_with;
+use crate::table::{MOST, Table};
 use cfb_format::medium::{Medium, MediumFault, ReadMedium};
 use std::alloc::Global;
 
@@ -51,7 +53,8 @@ pub struct JournaledMedium<D: Disk> {
     ghost ordered: { base ≤ len },
     ghost small: { len ≤ 2 ^ 62 },
     ghost few: { 4096 * length table.blocks.items ≤ base + 4096 },
-    ghost fits: { AreBlocks base 0 (contents table (D.Disk.view disk).seen.journal) } by { AreBlocks-prop base 0 (contents table (D.Disk.view disk).seen.journal) },
+    ghost fits: { AreBlocks base 0 (contents table.blocks.items) } by { AreBlocks-prop base 0 (contents table.blocks.items) },
+    ghost left: { IsTrue D.Disk.tells → phase ≢ Broken → AreLeft base table.taken table.slots.items (D.Disk.view disk).seen.journal } by { Prim.hlevel (props, AreLeft-prop) },
     ghost sound: { IsTrue D.Disk.tells → IsSound phase base len (D.Disk.view disk) } by { Prim.hlevel (props, IsSound-prop) },
     ghost since: { IsTrue D.Disk.tells → is_first ≡ true → IsSince D.Disk.opened base (D.Disk.view disk) } by { Prim.hlevel (props, IsSince-prop) },
     ghost caused: { IsTrue D.Disk.tells → is_first ≡ true → phase ≡ Broken → D.Disk.opened.faults < (D.Disk.view disk).faults },
@@ -116,6 +119,31 @@ impl<D: Disk> JournaledMedium<D> {
         Ok(())
     }
 
+    /// Lets a block leave into the journal, and begins a change for that if none is on the way.
+    fn spill(&mut self) -> Result<(), MediumFault>
+        requires usable { self.old.phase ≢ Broken }
+        requires few { self.old.table.taken < 2 ^ 50 }
+        ensures usable { OnOk result (self.new.phase ≢ Broken) }
+        ensures base { self.new.base ≡ self.old.base }
+        ensures first { self.new.is_first ≡ self.old.is_first }
+        ensures same { IsTrue D.tells → logical self.new.table (D.view self.new.disk).seen ≡ logical self.old.table (D.view self.old.disk).seen }
+        ensures honest { MatchResult result (λ _. self.new.failures ≡ self.old.failures)
+            (FailsBy (λ _. true) self.old.failures self.new.failures) }
+        ensures any_moment { IsTrue D.tells → Meanwhile (D.view self.old.disk) (D.view self.new.disk)
+            (Restores (take self.old.base (D.view self.old.disk).seen.file)) }
+        ensures file { IsTrue D.tells → (D.view self.new.disk).seen.file ≡ (D.view self.old.disk).seen.file }
+        ensures cause { IsTrue D.tells → CountsFault result (D.view self.old.disk).faults (D.view self.new.disk).faults }
+    {
+        if let Err(fault) = ready(&mut self.disk, &mut self.phase, self.base) {
+            return Err(fail(&mut self.failures, fault));
+        }
+        if let Err(fault) = let_go(self.alloc, &mut self.disk, self.base, &mut self.table) {
+            self.phase = Phase::Broken;
+            return Err(fail(&mut self.failures, fault));
+        }
+        Ok(())
+    }
+
     /// The disk, as it stands.
     pub fn into_disk(self) -> D
         ensures { result ≡ self.disk }
@@ -158,7 +186,7 @@ fn recovered_medium<D: Disk>(
     Ok(JournaledMedium {
         disk,
         alloc,
-        table: Table::new(alloc),
+        table: Table::new(alloc, MOST),
         base: length,
         len: length,
         phase: Phase::Quiet,
@@ -185,6 +213,9 @@ fn ready<D: Disk>(disk: &mut D, phase: &mut Phase, base: u64) -> Result<(), Medi
     ensures broken { OnErr result (phase.new ≡ Broken) }
     ensures changing { IsTrue D.tells → OnOk result (IsChanging base (D.view disk.new)) }
     ensures file { IsTrue D.tells → (D.view disk.new).seen.file ≡ (D.view disk.old).seen.file }
+    ensures framed { IsTrue D.tells → OnOk result (framed_bytes (D.view disk.new).seen.journal ≡ framed_bytes (D.view disk.old).seen.journal) }
+    ensures left { IsTrue D.tells → (taken : ℕ) → (phase.old ≡ Quiet → taken ≡ 0)
+        → left_frames taken (D.view disk.new).seen.journal ≡ left_frames taken (D.view disk.old).seen.journal }
     ensures any_moment { IsTrue D.tells → Meanwhile (D.view disk.old) (D.view disk.new)
         (Restores (take base (D.view disk.old).seen.file)) }
     ensures cause { IsTrue D.tells → phase.old ≢ Broken → CountsFault result (D.view disk.old).faults (D.view disk.new).faults }
@@ -281,13 +312,7 @@ impl<D: Disk> Medium for JournaledMedium<D> {
         }
         if at < self.base {
             if self.table.is_full() {
-                if let Err(fault) = ready(&mut self.disk, &mut self.phase, self.base) {
-                    return Err(fail(&mut self.failures, fault));
-                }
-                if let Err(fault) = let_go(self.alloc, &mut self.disk, &mut self.table) {
-                    self.phase = Phase::Broken;
-                    return Err(fail(&mut self.failures, fault));
-                }
+                self.spill()?;
             }
             return match overlay(
                 self.alloc,
@@ -331,7 +356,7 @@ impl<D: Disk> Medium for JournaledMedium<D> {
         if self.phase == Phase::Broken {
             return Err(fail(&mut self.failures, MediumFault::Flush));
         }
-        if self.phase == Phase::Quiet && self.table.is_empty() {
+        if self.phase == Phase::Quiet && self.table.blocks.is_empty() {
             return Ok(());
         }
         let stamp = match stamp_with(&mut self.disk, self.base, self.len, &self.table) {
@@ -346,7 +371,6 @@ impl<D: Disk> Medium for JournaledMedium<D> {
             self.phase = Phase::Broken;
             return Err(fail(&mut self.failures, fault));
         }
-        self.table.clear();
         self.base = self.len;
         self.phase = Phase::Quiet;
         Ok(())
