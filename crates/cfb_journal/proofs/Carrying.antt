@@ -42,10 +42,7 @@ module _ {T : Type 0} (all left : List Frame) (old now next : View) (so_far : Pr
 -- ---- one frame
 
 module _ (place : ℕ) (block behind : List ℕ) (size : length block ≡ 4096) where
-  bytes : List ℕ
-  bytes = to_le_bytes w64 place ++ (to_le_bytes w64 (length block) ++ (block ++ behind))
-
-  alone : List ℕ
+  abbrev alone : List ℕ
   alone = to_le_bytes w64 place ++ (to_le_bytes w64 (length block) ++ block)
 
   first_bytes : take 4112 (to_le_bytes w64 place ++ (to_le_bytes w64 (length block) ++ (block ++ behind))) ≡ to_le_bytes w64 place ++ (to_le_bytes w64 (length block) ++ block)
@@ -115,9 +112,9 @@ next_of base reach all mem at left old now some carries = next_in carries.frames
           rest = rest;
           behind = carries.behind;
           size = whole.0;
-          low = whole.1.0;
+          low = whole.1;
           stand = stand ∙ ap (λ (x : List ℕ). to_le_bytes w64 frame.0 ++ (to_le_bytes w64 (length frame.1) ++ x)) (append_assoc frame.1 (encoded rest) carries.behind);
-          whole = whole.1.1.1;
+          whole = whole.3;
           count = omega (arith, count);
           progress = progress;
         }
@@ -138,34 +135,39 @@ module _ (base reach : ℕ) (all mem : List Frame) (at left : ℕ) (old now : Vi
     read_is = is ∙ ap (λ (j : List ℕ). part j at 4112) journal_is ∙ ap (take 4112) next.stand ∙ first_bytes next.place next.block (encoded next.rest ++ next.behind) next.size
 
     pub read_place : long_at read 0 ≡ next.place
-    read_place = ap (λ (b : List ℕ). long_at b 0) read_is ∙ place_of next.place next.block next.size (omega (arith, next.low, fits))
+    read_place = ap (λ (b : List ℕ). long_at b 0) read_is ∙ place_of next.place next.block (encoded next.rest ++ next.behind) next.size (omega (arith, next.low, fits))
 
     pub read_block : drop 16 read ≡ next.block
-    read_block = ap (drop 16) read_is ∙ block_of next.place next.block next.size
+    read_block = ap (drop 16) read_is ∙ block_of next.place next.block (encoded next.rest ++ next.behind) next.size
 
-  module _ {T U : Type 0} (looked written_to : View) (long : base ≤ length old.seen.file) (done : T) (look : OnlyLooks (Ok done) now looked) where
+  module _ {T : Type 0} (looked written_to : View) (long : base ≤ length old.seen.file) (done : T) (look : OnlyLooks (Ok done) now looked) where
     so_far : Progress all ((next.place, next.block) ∷ (next.rest ++ mem)) old looked
     so_far = looked_on all ((next.place, next.block) ∷ (next.rest ++ mem)) old now looked next.progress done look
 
     within : next.place + length next.block ≤ length old.seen.file
     within = omega (arith, next.low, next.size, long)
 
-    pub carried : (also : U) → Changes (InFile (Torn next.place (length next.block))) (InFile (IsWritten next.place next.block)) (Ok also) looked written_to → Carries base reach all mem (at + 4112) (left - 1) old written_to
-    carried also call =
-        record {
-          frames = next.rest;
-          behind = next.behind;
-          stand = sym (drop-drop 4112 at old.seen.journal) ∙ ap (drop 4112) next.stand ∙ rest_bytes next.place next.block (encoded next.rest ++ next.behind) next.size;
-          whole = next.whole;
-          count = next.count;
-          progress = step_done all (next.rest ++ mem) next.place next.block also old looked written_to within so_far call;
-        }
+    module _ {U : Type 0} where
+      pub carried : (also : U) → Changes (InFile (Torn next.place (length next.block))) (InFile (IsWritten next.place next.block)) (Ok also) looked written_to → Carries base reach all mem (at + 4112) (left - 1) old written_to
+      carried also call =
+          record {
+            frames = next.rest;
+            behind = next.behind;
+            stand = sym (drop-drop 4112 at old.seen.journal) ∙ ap (drop 4112) next.stand ∙ rest_bytes next.place next.block (encoded next.rest ++ next.behind) next.size;
+            whole = next.whole;
+            count = next.count;
+            progress = step_done all (next.rest ++ mem) next.place next.block also old looked written_to within so_far call;
+          }
 
-    pub carry_failed : (fault : MediumFault) → Changes {T = U} (InFile (Torn next.place (length next.block))) (InFile (IsWritten next.place next.block)) (Err fault) looked written_to → IsApplying all old.seen.file old.seen.journal written_to
-    carry_failed fault call = step_failed all (next.rest ++ mem) next.place next.block fault old looked written_to within so_far call
+      pub carry_failed : (fault : MediumFault) → Changes {T = U} (InFile (Torn next.place (length next.block))) (InFile (IsWritten next.place next.block)) (Err fault) looked written_to → IsApplying all old.seen.file old.seen.journal written_to
+      carry_failed fault call = step_failed all (next.rest ++ mem) next.place next.block fault old looked written_to within so_far call
 
-    pub carry_run : (result : Result U MediumFault) → Changes (InFile (Torn next.place (length next.block))) (InFile (IsWritten next.place next.block)) result looked written_to → Meanwhile old written_to (IsWithin all old.seen.file old.seen.journal)
-    carry_run result call = step_run all (next.rest ++ mem) next.place next.block result old looked written_to within so_far call
+      pub carry_within : (result : Result U MediumFault) → Changes (InFile (Torn next.place (length next.block))) (InFile (IsWritten next.place next.block)) result looked written_to → IsApplying all old.seen.file old.seen.journal written_to
+      carry_within (Ok also) call = let done_so = carried also call in record { seen = done_so.progress.seen; durable = done_so.progress.durable }
+      carry_within (Err fault) call = carry_failed fault call
+
+      pub carry_run : (result : Result U MediumFault) → Changes (InFile (Torn next.place (length next.block))) (InFile (IsWritten next.place next.block)) result looked written_to → Meanwhile old written_to (IsWithin all old.seen.file old.seen.journal)
+      carry_run result call = step_run all (next.rest ++ mem) next.place next.block result old looked written_to within so_far call
 
 -- all of them were written
 pub carried_all : (base reach : ℕ) (all mem : List Frame) (at left : ℕ) (old now : View) → left < 1 → Carries base reach all mem at left old now → Progress all mem old now

@@ -1,5 +1,5 @@
 -- The commit of a table, of which some blocks are in the journal.
-use Rattle.std.proofs.Common.{◌≡◌, inr, ℕ, ◌+◌, ◌*◌, ◌^◌, ◌<◌, ◌≤◌, List, [], ◌∷◌, ◌++◌, length, take, refl, sym, ◌∙◌, ap, subst, arith, append_assoc, length-append, Result, Ok, Err, OnOk}
+use Rattle.std.proofs.Common.{◌≡◌, inr, ℕ, ◌+◌, ◌*◌, ◌^◌, ◌<◌, ◌≤◌, List, [], ◌∷◌, ◌++◌, length, drop, take, refl, sym, ◌∙◌, ap, subst, arith, append_assoc, length-append, Result, Ok, Err, OnOk}
 use Rattle.cfb_format.specs.declared.medium.MediumFault.{MediumFault}
 use Rattle.cfb_journal.specs.Disk.{Image, View, Torn, InJournal}
 use Rattle.cfb_journal.specs.Journal.{Frame, applied, body_bytes, encoded, frames_in, journal_of, Agree, HasStamp, IsBodyOf, LieWithin, RestoresEither, Restores}
@@ -46,8 +46,10 @@ module _ (base len stamp : ℕ) (table : Table) (v0 : View) (fits : base < 2 ^ 6
     gate_failed v2 same torn =
         let behind1 = staged_framed base (stamp_of (take base v0.seen.file)) 0 len stamp table v0.seen.journal v1.seen.journal left on1.seen in
         let behind2 = framed_front 16 1 v1.seen.journal v2.seen.journal (omega arith) torn in
-        let both = behind2 ∙ ap (λ (x : List ℕ). x ++ _) behind1 ∙ append_assoc (framed_bytes v0.seen.journal) (encoded (frames_from 0 (contents table.blocks.items))) _ in
-        logical_moved table v0.seen v2.seen (left_stays base table.taken table.slots.items v0.seen.journal v2.seen.journal _ fits left both) (sym same ∙ same1)
+        let more = drop (length (framed_bytes v1.seen.journal)) (framed_bytes v2.seen.journal) in
+        let both = behind2 ∙ ap (λ (x : List ℕ). x ++ more) behind1 ∙ append_assoc (framed_bytes v0.seen.journal) (encoded (frames_from 0 (contents table.blocks.items))) more in
+        logical_moved table v0.seen v2.seen
+        (left_stays base table.taken table.slots.items v0.seen.journal v2.seen.journal (encoded (frames_from 0 (contents table.blocks.items)) ++ more) fits left both) (sym same ∙ same1)
 
     module _ {T : Type 0} (done : T) (v2 : View) (put : PutsThrough 16 (1 ∷ []) (Ok done) v1 v2) where
       same2 : v2.seen.file ≡ v0.seen.file
@@ -102,7 +104,7 @@ module _ (base len stamp : ℕ) (table : Table) (v0 : View) (fits : base < 2 ^ 6
           (subst (λ (f : List Frame). IsWithin f v2.seen.file v2.seen.journal i) over2 w))) run
 
 -- a write at the gate, as a crash may leave it, and as it is read
-pub gate_torn : (journal : List ℕ) (v1 v2 : View) → {T : Type 0} → (result : Result T MediumFault) → IsOn journal v1 → PutsThrough 16 (1 ∷ []) result v1 v2 → v2.may_leave v2.seen → Torn 16 1 v1.seen.journal v2.seen.journal
+pub gate_torn : {T : Type 0} (journal : List ℕ) (v1 v2 : View) (result : Result T MediumFault) → IsOn journal v1 → PutsThrough 16 (1 ∷ []) result v1 v2 → v2.may_leave v2.seen → Torn 16 1 v1.seen.journal v2.seen.journal
 gate_torn journal v1 v2 result on put stays =
     let from = put.crash v2.seen stays in
     subst (λ (j : List ℕ). Torn 16 1 j v2.seen.journal) (on.journal_is from.0 from.1 ∙ sym on.seen) from.2.journal

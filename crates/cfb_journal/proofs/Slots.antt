@@ -36,24 +36,24 @@ frames-count (suc n) bytes = ap suc (frames-count n _)
 
 pub slots_lie : (base reach : ℕ) (frames : List Frame) → AreWhole base reach frames → LieWithin base frames
 slots_lie base reach [] are = tt
-slots_lie base reach (frame ∷ rest) are = (omega (arith, are.0, are.1.0), slots_lie base reach rest are.1.1.1)
+slots_lie base reach (frame ∷ rest) are = (omega (arith, are.0, are.1), slots_lie base reach rest are.3)
 
 pub slots_reach : (base reach : ℕ) (frames : List Frame) → AreWhole base reach frames → LieWithin (4096 * reach) frames
 slots_reach base reach [] are = tt
-slots_reach base reach (frame ∷ rest) are = (omega (arith, are.0, are.1.1.0), slots_reach base reach rest are.1.1.1)
+slots_reach base reach (frame ∷ rest) are = (omega (arith, are.0, are.2), slots_reach base reach rest are.3)
 
 whole_append : (base reach : ℕ) (first second : List Frame) → AreWhole base reach first → AreWhole base reach second → AreWhole base reach (first ++ second)
 whole_append base reach [] second are more = more
-whole_append base reach (frame ∷ rest) second are more = (are.0, are.1.0, are.1.1.0, whole_append base reach rest second are.1.1.1 more)
+whole_append base reach (frame ∷ rest) second are more = (are.0, are.1, are.2, whole_append base reach rest second are.3 more)
 
 whole_wider : (base reach more : ℕ) (frames : List Frame) → reach ≤ more → AreWhole base reach frames → AreWhole base more frames
 whole_wider base reach more [] le are = tt
-whole_wider base reach more (frame ∷ rest) le are = (are.0, are.1.0, omega (arith, are.1.1.0, le), whole_wider base reach more rest le are.1.1.1)
+whole_wider base reach more (frame ∷ rest) le are = (are.0, are.1, omega (arith, are.2, le), whole_wider base reach more rest le are.3)
 
 pub slots-length : (base reach : ℕ) (frames : List Frame) → AreWhole base reach frames → length (encoded frames) ≡ 4112 * length frames
 slots-length base reach [] are = refl
 slots-length base reach (frame ∷ rest) are =
-    let more = slots-length base reach rest are.1.1.1 in
+    let more = slots-length base reach rest are.3 in
     omega (arith, more, are.0, length-append frame.1 (encoded rest))
 
 -- ---- the slots of a table

@@ -77,7 +77,7 @@ block_gone base ((x ∷ xs) ∷ rest) at (suc i) p b file are long is some here 
 
 module _ (base taken : ℕ) (slots old new : List ℕ) (fits : base < 2 ^ 64) (are : AreLeft base taken slots old) (i : ℕ) (block : List ℕ) (size : length block ≡ 4096) (there : i < length slots) (low : 4096 * i + 4096 ≤ base)
     (is : framed_bytes new ≡ framed_bytes old ++ encoded ((4096 * i, block) ∷ [])) where
-  frames : List Frame
+  abbrev frames : List Frame
   frames = left_frames taken old ++ (4096 * i, block) ∷ []
 
   more : AreSlots base (taken + 1) (set slots i (taken + 1)) (framed_bytes old ++ encoded ((4096 * i, block) ∷ [])) (left_frames taken old ++ (4096 * i, block) ∷ [])
@@ -112,6 +112,10 @@ over_lie base table journal are left =
     lie_append base (left_frames table.taken journal) (frames_from 0 (contents table.blocks.items))
     (lie_base base table.taken table.slots.items (framed_bytes journal) (left_frames table.taken journal) left) (frames_lie base 0 (contents table.blocks.items) are)
 
+pub journal_more : (len stamp : ℕ) (body rest : List ℕ) → journal_of len stamp 0 1 body ++ rest ≡ journal_of len stamp 0 1 (body ++ rest)
+unfolding journal_of
+journal_more len stamp body rest = refl
+
 pub gate_journal : (len stamp : ℕ) (journal : List ℕ) → KeepsGates (journal_of len stamp 0 1 []) journal → journal ≡ journal_of len stamp 0 1 (drop 18 journal)
 gate_journal len stamp journal keeps =
     let size = journal-length len stamp 0 1 [] in
@@ -120,10 +124,6 @@ gate_journal len stamp journal keeps =
     ext_get_or 0 _ _ (omega (arith, length-take 18 journal, size, longer))
     (λ i less. let low : i < 18 = omega (arith, length-take 18 journal) in get_or-take 18 journal i 0 low ∙ keeps.same i low (omega (arith, size, low))) in
     sym (take-append-drop 18 journal) ∙ ap (λ (x : List ℕ). x ++ drop 18 journal) first ∙ journal_more len stamp [] (drop 18 journal)
-
-pub journal_more : (len stamp : ℕ) (body more : List ℕ) → journal_of len stamp 0 1 body ++ more ≡ journal_of len stamp 0 1 (body ++ more)
-unfolding journal_of
-journal_more len stamp body more = refl
 
 -- the front is written, and then what is left
 pub staged_journal : (base stamp_was len stamp : ℕ) (table : Table) (old mid new : List ℕ) → KeepsGates (journal_of base stamp_was 0 1 []) old → KeepsGates old mid → AreLeft base table.taken table.slots.items old
@@ -149,9 +149,9 @@ staged_journal base stamp_was len stamp table old mid new gates keeps left put t
     ∙ ap (λ (x : List ℕ). front ++ x) (sym (encoded-append (left_frames table.taken old) (frames_from 0 (contents table.blocks.items))))
     ∙ front_body len stamp frames)
 
-framed_body : (base stamp_was commit len stamp : ℕ) (frames : List Frame) → framed_bytes (journal_of base stamp_was commit 1 (body_bytes len stamp frames)) ≡ encoded frames
+framed_body : (base stamp_was commit len stamp : ℕ) (all : List Frame) → framed_bytes (journal_of base stamp_was commit 1 (body_bytes len stamp all)) ≡ encoded all
 unfolding journal_of
-framed_body base stamp_was commit len stamp frames = refl
+framed_body base stamp_was commit len stamp all = refl
 
 -- what is behind the gates then
 pub staged_framed : (base stamp_was commit len stamp : ℕ) (table : Table) (old new : List ℕ) → AreLeft base table.taken table.slots.items old
@@ -169,7 +169,7 @@ logical_moved table old new frames file =
 pub logical_none : (table : Table) (seen : Image) → table.blocks.items ≡ [] → table.taken ≡ 0 → logical table seen ≡ seen.file
 logical_none table seen none taken =
     ap (λ n. applied (frames_of n (framed_bytes seen.journal) ++ frames_from 0 (contents table.blocks.items)) seen.file) taken
-    ∙ ap (λ (b : List _). applied (frames_from 0 (contents b)) seen.file) none
+    ∙ ap (λ b. applied (frames_from 0 (contents b)) seen.file) none
 
 -- ---- the file with what left, under the blocks in memory
 

@@ -1,7 +1,7 @@
 //! A compound file of which the changes between two flushes are all or nothing.
 ghost use Rattle.std.specs.Prelude.{◌≡◌, ◌≢◌, ◌⊎◌, ◌+◌, ◌*◌, ◌^◌, ◌<◌, ◌≤◌, min, ℕ, List, length, take, IsTrue, true, false, None, Some, IfOk, IfErr, IsErrOf, OnOk, OnErr, MatchResult};
 ghost use Rattle.std.proofs.Props.{props};
-ghost use Rattle.cfb_format.specs.Medium.{Rises, ReadsAt, WritesAt, FailsToWriteAt, FailsBy};
+ghost use Rattle.cfb_format.specs.Medium.{written, Rises, ReadsAt, WritesAt, FailsToWriteAt, FailsBy};
 ghost use Rattle.cfb_journal.specs.Disk.{CountsFault, Image, IsOpened};
 ghost use Rattle.cfb_journal.specs.Journal.{IsForeign, Restores, RestoresEither, recovered};
 ghost use Rattle.cfb_journal.specs.Overlay.{contents, framed_bytes, left_frames, AreBlocks, AreLeft};
@@ -142,6 +142,38 @@ impl<D: Disk> JournaledMedium<D> {
             return Err(fail(&mut self.failures, fault));
         }
         Ok(())
+    }
+
+    /// Puts a beginning of these bytes into the table.
+    fn put(&mut self, at: u64, from: &[u8]) -> Result<usize, MediumFault>
+        requires usable { self.old.phase ≢ Broken }
+        requires below { at < self.old.base }
+        requires some { 0 < length from.now }
+        ensures bound { IfOk result (λ n. n ≤ length from.now) }
+        ensures some { IfOk result (λ n. 0 < n) }
+        ensures base { self.new.base ≡ self.old.base }
+        ensures first { self.new.is_first ≡ self.old.is_first }
+        ensures looks { IsTrue D.tells → Looks (D.view self.old.disk) (D.view self.new.disk) }
+        ensures wrote { IsTrue D.tells → MatchResult result
+            (λ n. logical self.new.table (D.view self.new.disk).seen ≡ written (logical self.old.table (D.view self.old.disk).seen) at (take n from.now))
+            (λ _. logical self.new.table (D.view self.new.disk).seen ≡ logical self.old.table (D.view self.old.disk).seen) }
+        ensures honest { MatchResult result (λ _. self.new.failures ≡ self.old.failures)
+            (FailsBy (λ _. true) self.old.failures self.new.failures) }
+        ensures any_moment { IsTrue D.tells → Meanwhile (D.view self.old.disk) (D.view self.new.disk)
+            (Restores (take self.old.base (D.view self.old.disk).seen.file)) }
+        ensures cause { IsTrue D.tells → IfErr result (λ fault. HasCause fault (D.view self.old.disk).faults (D.view self.new.disk)) }
+    {
+        match overlay(
+            self.alloc,
+            &mut self.disk,
+            &mut self.table,
+            self.base,
+            at,
+            from,
+        ) {
+            Ok(count) => Ok(count),
+            Err(fault) => Err(fail(&mut self.failures, fault)),
+        }
     }
 
     /// The disk, as it stands.
@@ -311,20 +343,11 @@ impl<D: Disk> Medium for JournaledMedium<D> {
             return Err(fail(&mut self.failures, MediumFault::Write));
         }
         if at < self.base {
-            if self.table.is_full() {
-                self.spill()?;
+            if !self.table.is_full() {
+                return self.put(at, from);
             }
-            return match overlay(
-                self.alloc,
-                &mut self.disk,
-                &mut self.table,
-                self.base,
-                at,
-                from,
-            ) {
-                Ok(count) => Ok(count),
-                Err(fault) => Err(fail(&mut self.failures, fault)),
-            };
+            self.spill()?;
+            return self.put(at, from);
         }
         if let Err(fault) = ready(&mut self.disk, &mut self.phase, self.base) {
             return Err(fail(&mut self.failures, fault));

@@ -1,9 +1,10 @@
 use Rattle.std.proofs.Common.{◌≡◌, ◌∙◌, ◌-◌, ◌+◌, ◌≤◌, ap, sym, subst, length, take, drop, arith, List, ℕ, ◌∷◌}
+use Rattle.cfb_format.specs.Medium.{part}
 use Rattle.cfb_journal.specs.Disk.{Torn, InFile, IsWritten, Changes}
-use Rattle.cfb_journal.specs.Overlay.{contents, frames_from, frames_over}
+use Rattle.cfb_journal.specs.Overlay.{contents, frames_from, frames_over, AreBlocks}
 use Rattle.cfb_journal.proofs.Applying.{Progress}
 use Rattle.cfb_journal.proofs.Blockwise.{rest_fits, block_done, block_passed}
-use Rattle.cfb_journal.proofs.Carrying.{carries_all, carried, carried_all, next_inside, next_of, read_block, read_place}
+use Rattle.cfb_journal.proofs.Carrying.{carries_all, carried, carried_all, carry_run, carry_within, next_inside, next_of, read_block, read_place}
 use Rattle.cfb_journal.proofs.Contents.{contents_split, is_no_block, is_some_block}
 use Rattle.cfb_journal.proofs.pieces.apply_table.Goals as goal
 use Rattle.cfb_journal.proofs.pieces.apply_table.Goals.{then-not-is_empty+in_ok-write_file-2, else-not-is_empty}
@@ -29,7 +30,8 @@ loop-left-preserved g c =
           let reach = length c.args.table.now.slots.items in
           let next = next_of c.args.base reach all mem c.loop-left.at c.loop-left.left old now (omega (arith, c.loop-left-test.true)) (c.loop-left.invariant.honest tells) in
           let inside = next_inside c.args.base reach all mem c.loop-left.at c.loop-left.left old now c.ranges.base.fits next in
-          let read = c.in_ok-read_journal_at.ensures.bytes tells (omega (arith, inside)) in
+          let size : length c.loop-left.frame ≡ 4112 = omega arith in
+          let read = c.in_ok-read_journal_at.ensures.bytes tells (omega (arith, inside, size)) ∙ ap (part now.seen.journal c.loop-left.at) size in
           let place = c.u64_at.ensures ∙ read_place c.args.base reach all mem c.loop-left.at c.loop-left.left old now c.ranges.base.fits next _ read in
           let block = read_block c.args.base reach all mem c.loop-left.at c.loop-left.left old now c.ranges.base.fits next _ read in
           carried c.args.base reach all mem c.loop-left.at c.loop-left.left old now c.ranges.base.fits next seen (g.D.Disk.view c.write_file.new.self) (c.requires.within tells) c.in_ok-read_journal_at.field-0 (c.in_ok-read_journal_at.ensures.honest tells)
@@ -42,10 +44,14 @@ pub loop-rest-init : goal.loop-rest-init
 loop-rest-init g c =
     record {
       few = omega (arith, c.requires.few);
-      fits = c.requires.fits;
+      fits = subst (λ b. AreBlocks c.args.base 0 (contents b)) (sym c.as_slice-rest.ensures.value) c.requires.fits;
       honest = λ tells.
-          carried_all c.args.base (length c.args.table.now.slots.items) _ (frames_from 0 (contents c.args.table.now.blocks.items)) c.loop-left.at c.loop-left.left (g.D.Disk.view c.args.disk.now) (g.D.Disk.view c.loop-left.disk)
-          (omega (arith, c.loop-left-test.false)) (c.loop-left.invariant.honest tells);
+          let old = g.D.Disk.view c.args.disk.now in
+          let now = g.D.Disk.view c.loop-left.disk in
+          let all = frames_over c.args.table.now old.seen.journal in
+          subst (λ b. Progress all (frames_from 0 (contents b)) old now) (sym c.as_slice-rest.ensures.value)
+          (carried_all c.args.base (length c.args.table.now.slots.items) all (frames_from 0 (contents c.args.table.now.blocks.items)) c.loop-left.at c.loop-left.left old now
+          (omega (arith, c.loop-left-test.false)) (c.loop-left.invariant.honest tells));
     }
 
 pub loop-rest-preserved : goal.loop-rest-preserved
@@ -63,10 +69,48 @@ loop-rest-preserved g c =
           let old = g.D.Disk.view c.args.disk.now in
           elim c.if-not-is_empty.branch [
             | then-not-is_empty+in_ok-write_file-2 w ↦
-                rw w.disk-is (block_done c.args.base place table b after split c.loop-rest.invariant.fits all old (g.D.Disk.view c.loop-rest.disk) (g.D.Disk.view w.write_file-2.new.self) (c.requires.within tells)
+                rw w.disk-is (block_done c.args.base place table b after split c.loop-rest.invariant.fits all old (g.D.Disk.view c.loop-rest.disk) (g.D.Disk.view w.write_file-then-not-is_empty.new.self) (c.requires.within tells)
                 (is_some_block _ c.is_empty.result w.if-not-is_empty.true c.is_empty.ensures) (c.loop-rest.invariant.honest tells) w.in_ok-write_file-2.field-0 (w.in_ok-write_file-2.ensures.honest tells))
             | else-not-is_empty w ↦
                 rw w.disk-is (block_passed c.args.base place table b after split c.loop-rest.invariant.fits all old (g.D.Disk.view c.loop-rest.disk)
                 (is_no_block _ c.is_empty.result w.if-not-is_empty.false c.is_empty.ensures) (c.loop-rest.invariant.honest tells))
           ];
     }
+
+pub returns-in_err-write_file-clause-any_moment : goal.returns-in_err-write_file-clause-any_moment
+returns-in_err-write_file-clause-any_moment g c tells =
+    let old = g.D.Disk.view c.args.disk.now in
+    let now = g.D.Disk.view c.loop-left.disk in
+    let seen = g.D.Disk.view c.read_journal_at.new.self in
+    let all = frames_over c.args.table.now old.seen.journal in
+    let mem = frames_from 0 (contents c.args.table.now.blocks.items) in
+    let reach = length c.args.table.now.slots.items in
+    let next = next_of c.args.base reach all mem c.loop-left.at c.loop-left.left old now (omega (arith, c.loop-left-test.true)) (c.loop-left.invariant.honest tells) in
+    let inside = next_inside c.args.base reach all mem c.loop-left.at c.loop-left.left old now c.ranges.base.fits next in
+    let size : length c.loop-left.frame ≡ 4112 = omega arith in
+    let read = c.in_ok-read_journal_at.ensures.bytes tells (omega (arith, inside, size)) ∙ ap (part now.seen.journal c.loop-left.at) size in
+    let place = c.u64_at.ensures ∙ read_place c.args.base reach all mem c.loop-left.at c.loop-left.left old now c.ranges.base.fits next _ read in
+    let block = read_block c.args.base reach all mem c.loop-left.at c.loop-left.left old now c.ranges.base.fits next _ read in
+    carry_run c.args.base reach all mem c.loop-left.at c.loop-left.left old now c.ranges.base.fits next seen (g.D.Disk.view c.write_file.new.self) (c.requires.within tells) c.in_ok-read_journal_at.field-0 (c.in_ok-read_journal_at.ensures.honest tells)
+    c.write_file.result
+    (subst (λ (p : ℕ). Changes (InFile (Torn p (length next.block))) (InFile (IsWritten p next.block)) c.write_file.result seen (g.D.Disk.view c.write_file.new.self)) place
+    (subst (λ (b : List ℕ). Changes (InFile (Torn c.u64_at.result (length b))) (InFile (IsWritten c.u64_at.result b)) c.write_file.result seen (g.D.Disk.view c.write_file.new.self)) block (c.write_file.ensures.honest tells)))
+
+pub returns-in_err-write_file-clause-within : goal.returns-in_err-write_file-clause-within
+returns-in_err-write_file-clause-within g c tells =
+    let old = g.D.Disk.view c.args.disk.now in
+    let now = g.D.Disk.view c.loop-left.disk in
+    let seen = g.D.Disk.view c.read_journal_at.new.self in
+    let all = frames_over c.args.table.now old.seen.journal in
+    let mem = frames_from 0 (contents c.args.table.now.blocks.items) in
+    let reach = length c.args.table.now.slots.items in
+    let next = next_of c.args.base reach all mem c.loop-left.at c.loop-left.left old now (omega (arith, c.loop-left-test.true)) (c.loop-left.invariant.honest tells) in
+    let inside = next_inside c.args.base reach all mem c.loop-left.at c.loop-left.left old now c.ranges.base.fits next in
+    let size : length c.loop-left.frame ≡ 4112 = omega arith in
+    let read = c.in_ok-read_journal_at.ensures.bytes tells (omega (arith, inside, size)) ∙ ap (part now.seen.journal c.loop-left.at) size in
+    let place = c.u64_at.ensures ∙ read_place c.args.base reach all mem c.loop-left.at c.loop-left.left old now c.ranges.base.fits next _ read in
+    let block = read_block c.args.base reach all mem c.loop-left.at c.loop-left.left old now c.ranges.base.fits next _ read in
+    carry_within c.args.base reach all mem c.loop-left.at c.loop-left.left old now c.ranges.base.fits next seen (g.D.Disk.view c.write_file.new.self) (c.requires.within tells) c.in_ok-read_journal_at.field-0 (c.in_ok-read_journal_at.ensures.honest tells)
+    c.write_file.result
+    (subst (λ (p : ℕ). Changes (InFile (Torn p (length next.block))) (InFile (IsWritten p next.block)) c.write_file.result seen (g.D.Disk.view c.write_file.new.self)) place
+    (subst (λ (b : List ℕ). Changes (InFile (Torn c.u64_at.result (length b))) (InFile (IsWritten c.u64_at.result b)) c.write_file.result seen (g.D.Disk.view c.write_file.new.self)) block (c.write_file.ensures.honest tells)))

@@ -1,14 +1,10 @@
 use Rattle.std.proofs.Common.{◌≡◌, ◌∙◌, [], ◌∷◌, ap, sym, List, ℕ, length}
 use Rattle.cfb_journal.specs.Journal.{encoded}
 use Rattle.cfb_journal.specs.Overlay.{frames_from}
-use Rattle.cfb_journal.proofs.Behind.{puts_as, puts_end, puts_end_failed}
+use Rattle.cfb_journal.proofs.Behind.{puts_as, puts_end}
 use Rattle.cfb_journal.proofs.Contents.{is_some_block}
 use Rattle.cfb_journal.proofs.Tables.{frames_some}
 use Rattle.cfb_journal.proofs.pieces.put_frame.Goals as goal
-
-pub returns-in_err-write_frame-clause-honest : goal.returns-in_err-write_frame-clause-honest
-returns-in_err-write_frame-clause-honest g c tells =
-    puts_end_failed c.args.at _ _ _ (c.requires.end tells) _ _ _ (c.in_err-write_frame.ensures tells)
 
 pub returns-clause-honest : goal.returns-clause-honest
 returns-clause-honest g c tells =
