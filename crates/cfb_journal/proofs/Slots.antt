@@ -1,5 +1,5 @@
 -- Frames of blocks that left memory, one after the other in the journal.
-use Rattle.std.proofs.Common.{◌≡◌, ◌≢◌, inl, inr, ℕ, zero, suc, ◌+◌, ◌-◌, ◌*◌, ◌^◌, ◌<◌, ◌≤◌, ◌/◌, ◌%◌, List, [], ◌∷◌, ◌++◌, length, take, drop, slice_index, refl, sym, ◌∙◌, ap, subst, arith, append_assoc, append-nil, length-append}
+use Rattle.std.proofs.Common.{◌≡◌, ◌≢◌, inl, inr, ℕ, zero, suc, ◌+◌, ◌-◌, ◌*◌, ◌^◌, ◌<◌, ◌≤◌, ◌/◌, ◌%◌, List, [], ◌∷◌, ◌++◌, length, take, drop, slice_index, refl, sym, ◌∙◌, ap, subst, arith, append_assoc, append-nil, length-append, Result, Ok, Err, OnOk}
 use Rattle.std.proofs.Math.ListN.{set, length-set}
 use Rattle.std.proofs.Math.Seq.{drop-append-add, drop-append_seam}
 use Rattle.std.proofs.lemmas.Bool.{cases_eq}
@@ -194,3 +194,21 @@ module _ (base taken : ℕ) (slots journal file : List ℕ) (are : AreLeft base 
         ∙ are.each (at / 4096) (at % 4096) n file long small (omega (arith, inside, split))
         ∙ ap (λ s. slot_bytes s (4096 * (at / 4096) + at % 4096) (at % 4096) n file (framed_bytes journal)) is
         ∙ ap (take n) (drop-drop (4112 * k + 16 + at % 4096) 42 journal))
+
+  -- where the code reads
+  module _ (slot start : ℕ) (is : slot ≡ slice_index slots (at / 4096)) (some : slot ≢ 0) (start_is : start ≡ 42 + (slot - 1) * 4112 + 16 + at % 4096) where
+    next_is : slice_index slots (at / 4096) ≡ suc (slot - 1)
+    next_is = sym is ∙ (let same : slot ≡ suc (slot - 1) = omega (arith, some) in same)
+
+    same_start : start ≡ 42 + (4112 * (slot - 1) + 16 + at % 4096)
+    same_start = omega (arith, start_is)
+
+    pub read_inside_slot : start + n ≤ length journal
+    read_inside_slot = omega (arith, same_start, read_inside (slot - 1) next_is)
+
+    pub read_in_slot : part journal start n ≡ part (applied (left_frames taken journal) file) at n
+    read_in_slot = ap (λ p. part journal p n) same_start ∙ read_in_journal (slot - 1) next_is
+
+pub on_more : {T E A : Type 0} {x y z : A} (result : Result T E) → OnOk result (x ≡ y) → y ≡ z → OnOk result (x ≡ z)
+on_more (Ok done) is same = is ∙ same
+on_more (Err fault) is same = tt

@@ -1,22 +1,25 @@
 -- A block leaves a table into the journal, and the journal of a table at the commit.
-use Rattle.std.proofs.Common.{◌≡◌, inl, inr, ℕ, zero, suc, ◌+◌, ◌-◌, ◌*◌, ◌^◌, ◌<◌, ◌≤◌, min, List, [], ◌∷◌, ◌++◌, length, take, drop, slice_index, refl, sym, ◌∙◌, ap, subst, arith, append_assoc, length-append, length-take, get_or-take, get_or-drop}
+use Rattle.std.proofs.Common.{◌≡◌, inl, inr, ℕ, zero, suc, ◌+◌, ◌-◌, ◌*◌, ◌^◌, ◌<◌, ◌≤◌, min, List, [], ◌∷◌, ◌++◌, length, take, drop, slice_index, refl, sym, ◌∙◌, ap, subst, arith, append_assoc, length-append, length-take, get_or-take, get_or-drop, Vec, Ok, Err}
 use Rattle.std.proofs.Math.ListN.{set, drop_of_length-le}
 use Rattle.std.proofs.Math.Seq.{drop-append_seam}
 use Rattle.std.proofs.lemmas.List.{ext_get_or, take-append-drop, take_all, length-drop, drop-drop}
+use Rattle.std.specs.declared.alloc.Global.{Global}
 use Rattle.cfb_format.specs.Medium.{part, written}
+use Rattle.cfb_format.specs.declared.medium.MediumFault.{MediumFault}
 use Rattle.cfb_format.proofs.ByteLemmas.{length-written, written_inside, part_written}
-use Rattle.cfb_journal.specs.Disk.{Image, Torn}
+use Rattle.cfb_journal.specs.Disk.{Image, Torn, View}
 use Rattle.cfb_journal.specs.Journal.{Frame, applied, body_bytes, encoded, frames_of, front_of, journal_of, LieWithin}
 use Rattle.cfb_journal.specs.Overlay.{block_at, contents, framed_bytes, frames_from, frames_over, left_frames, AreBlocks, AreLeft, AreSlots}
 use Rattle.cfb_journal.specs.Sound.{logical}
-use Rattle.cfb_journal.specs.States.{Grows, KeepsGates}
+use Rattle.cfb_journal.specs.States.{Grows, KeepsGates, PutsAt}
 use Rattle.cfb_journal.specs.declared.table.Table.{Table}
 use Rattle.cfb_journal.proofs.Codec.{frames_read, front_body, front-length}
+use Rattle.cfb_journal.proofs.Contents.{contents_set}
 use Rattle.cfb_journal.proofs.Behind.{KeepsGates_trans}
 use Rattle.cfb_journal.proofs.Files.{journal-length}
 use Rattle.cfb_journal.proofs.Torn.{Torn-written}
 use Rattle.cfb_journal.proofs.Slots.{applied-append, bytes-length, encoded-append, left_stays, lie_append, lie_base, lie_reach, slots_left}
-use Rattle.cfb_journal.proofs.Tables.{applied-length, frames_lie, lie_wider, part_behind, written_swap}
+use Rattle.cfb_journal.proofs.Tables.{applied-length, block-length, frames_lie, lie_wider, part_behind, written_swap}
 
 -- ---- what stands behind in a journal that grew
 
@@ -199,3 +202,54 @@ under_past base table seen at n left past inside =
 pub over-length : (base len : ℕ) (table : Table) (seen : Image) → AreBlocks base 0 (contents table.blocks.items) → AreLeft base table.taken table.slots.items seen.journal → base ≤ len → len ≡ length seen.file → len ≡ length (logical table seen)
 over-length base len table seen are left ordered is =
     is ∙ sym (applied-length (frames_over table seen.journal) seen.file (lie_wider base (length seen.file) (frames_over table seen.journal) (omega (arith, ordered, is)) (over_lie base table seen.journal are left)))
+
+-- ---- the step as the code makes it
+
+pub gone_contents : (items : List (Vec ℕ Global)) (i : ℕ) (v : Vec ℕ Global) → v.items ≡ [] → contents (set items i v) ≡ set (contents items) i []
+gone_contents items i v none = contents_set items i v ∙ ap (set (contents items) i) none
+
+module _ (base at place : ℕ) (table : Table) (bytes : List ℕ) (old new : View) (fits : base < 2 ^ 64) (are : AreBlocks base 0 (contents table.blocks.items))
+    (left : AreLeft base table.taken table.slots.items old.seen.journal) (i : ℕ) (at_is : at ≡ 42 + table.taken * 4112) (place_is : place ≡ i * 4096)
+    (there : i < length table.slots.items) (size : length (block_at i (contents table.blocks.items)) ≡ 4096) (here : bytes ≡ block_at i (contents table.blocks.items)) where
+  pub leaves_low : 4096 * i + 4096 ≤ base
+  leaves_low = omega (arith, block-length base (contents table.blocks.items) 0 i are (omega (arith, size)), size)
+
+  long_framed : length (framed_bytes old.seen.journal) ≡ 4112 * table.taken
+  long_framed = bytes-length base table.taken table.slots.items (framed_bytes old.seen.journal) (left_frames table.taken old.seen.journal) left
+
+  leaves_framed : {T : Type 0} (done : T) → PutsAt at (encoded ((place, bytes) ∷ [])) (Ok done) old new → framed_bytes new.seen.journal ≡ framed_bytes old.seen.journal ++ encoded ((4096 * i, block_at i (contents table.blocks.items)) ∷ [])
+  leaves_framed done put =
+      let same : place ≡ 4096 * i = omega (arith, place_is) in
+      ap framed_bytes put.seen
+      ∙ framed_written at old.seen.journal (encoded ((place, bytes) ∷ [])) (omega (arith, at_is, long_framed))
+      ∙ ap (λ (x : List ℕ). framed_bytes old.seen.journal ++ encoded ((place, x) ∷ [])) here
+      ∙ ap (λ (q : ℕ). framed_bytes old.seen.journal ++ encoded ((q, block_at i (contents table.blocks.items)) ∷ [])) same
+
+  pub leaves_are : {T : Type 0} (done : T) → PutsAt at (encoded ((place, bytes) ∷ [])) (Ok done) old new → AreLeft base (table.taken + 1) (set table.slots.items i (table.taken + 1)) new.seen.journal
+  leaves_are done put =
+      are_more base table.taken table.slots.items old.seen.journal new.seen.journal fits left i (block_at i (contents table.blocks.items)) size there leaves_low (leaves_framed done put)
+
+  pub leaves_same : {T : Type 0} → base ≤ length old.seen.file → (done : T) → PutsAt at (encoded ((place, bytes) ∷ [])) (Ok done) old new
+      → applied (left_frames (table.taken + 1) new.seen.journal ++ frames_from 0 (set (contents table.blocks.items) i [])) new.seen.file ≡ logical table old.seen
+  leaves_same long done put =
+      ap (applied (left_frames (table.taken + 1) new.seen.journal ++ frames_from 0 (set (contents table.blocks.items) i []))) put.file
+      ∙ applied_more base table.taken table.slots.items old.seen.journal new.seen.journal fits left i (block_at i (contents table.blocks.items)) size there leaves_low (leaves_framed done put)
+      (contents table.blocks.items) old.seen.file are long refl
+
+  pub stays_same : {T : Type 0} (fault : MediumFault) → PutsAt {T = T} at (encoded ((place, bytes) ∷ [])) (Err fault) old new → logical table new.seen ≡ logical table old.seen
+  stays_same fault put =
+      logical_moved table old.seen new.seen
+      (left_stays base table.taken table.slots.items old.seen.journal new.seen.journal (drop (length (framed_bytes old.seen.journal)) (framed_bytes new.seen.journal)) fits left
+      (framed_torn at (length (encoded ((place, bytes) ∷ []))) old.seen.journal new.seen.journal (omega (arith, at_is, long_framed)) put.torn)) put.file
+
+-- ---- a change is begun
+
+pub left_zero : (taken : ℕ) (old new : List ℕ) → taken ≡ 0 → left_frames taken new ≡ left_frames taken old
+left_zero taken old new none = ap (λ n. left_frames n new) none ∙ sym (ap (λ n. left_frames n old) none)
+
+framed_short : (len stamp : ℕ) → framed_bytes (journal_of len stamp 0 1 []) ≡ []
+unfolding journal_of
+framed_short len stamp = refl
+
+pub framed_begun : (len stamp : ℕ) (old new : List ℕ) → old ≡ [] → new ≡ journal_of len stamp 0 1 [] → framed_bytes new ≡ framed_bytes old
+framed_begun len stamp old new empty is = ap framed_bytes is ∙ framed_short len stamp ∙ ap framed_bytes (sym empty)

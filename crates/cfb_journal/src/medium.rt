@@ -104,6 +104,17 @@ impl<D: Disk> JournaledMedium<D> {
         self.phase != Phase::Broken
     }
 
+    /// Sets how many blocks of 4096 bytes stay in memory, of those that were written below the old end (2048, unless this
+    /// says otherwise). Past that each one that leaves is put into the journal.
+    pub fn keep_in_memory(&mut self, blocks: usize)
+        ensures same { IsTrue D.tells → logical self.new.table (D.view self.new.disk).seen ≡ logical self.old.table (D.view self.old.disk).seen }
+        ensures disk { self.new.disk ≡ self.old.disk }
+        ensures base { self.new.base ≡ self.old.base }
+        ensures first { self.new.is_first ≡ self.old.is_first }
+    {
+        self.table.most = blocks;
+    }
+
     /// Whether a flush could still be made; a medium that is broken counts one failure more.
     pub(crate) fn check(&mut self) -> Result<(), MediumFault>
         ensures same { self.new.disk ≡ self.old.disk }
@@ -172,7 +183,7 @@ impl<D: Disk> JournaledMedium<D> {
             from,
         ) {
             Ok(count) => Ok(count),
-            Err(fault) => Err(fail(&mut self.failures, fault)),
+            Err(refused) => Err(fail(&mut self.failures, refused)),
         }
     }
 
