@@ -32,6 +32,12 @@ pub frames-count : (n : ℕ) (bytes : List ℕ) → length (frames_of n bytes) �
 frames-count zero bytes = refl
 frames-count (suc n) bytes = ap suc (frames-count n _)
 
+pub push_zero : (xs : List ℕ) (i : ℕ) → slice_index (xs ++ 0 ∷ []) i ≡ slice_index xs i
+push_zero [] zero = refl
+push_zero [] (suc i) = refl
+push_zero (x ∷ xs) zero = refl
+push_zero (x ∷ xs) (suc i) = push_zero xs i
+
 -- ---- frames of whole blocks
 
 pub slots_lie : (base reach : ℕ) (frames : List Frame) → AreWhole base reach frames → LieWithin base frames
