@@ -1,4 +1,5 @@
 use Rattle.std.proofs.Common.{◌≡◌, ◌∙◌, ◌-◌, ◌+◌, ◌≤◌, ap, sym, subst, length, take, drop, arith, List, ℕ, ◌∷◌}
+use Rattle.std.proofs.lemmas.List.{length-replicate}
 use Rattle.cfb_format.specs.Medium.{part}
 use Rattle.cfb_journal.specs.Disk.{Torn, InFile, IsWritten, Changes}
 use Rattle.cfb_journal.specs.Overlay.{contents, frames_from, frames_over, AreBlocks}
@@ -13,6 +14,7 @@ pub loop-left-init : goal.loop-left-init
 loop-left-init g c =
     record {
       few = omega (arith, c.args.table.now.few);
+      whole = omega (arith, length-replicate {A = ℕ} 4112 0);
       honest = λ tells.
           carries_all c.args.base (length c.args.table.now.slots.items) c.args.table.now.taken (frames_from 0 (contents c.args.table.now.blocks.items)) (g.D.Disk.view c.args.disk.now) (c.requires.on tells) (c.requires.left tells);
     }
@@ -21,6 +23,7 @@ pub loop-left-preserved : goal.loop-left-preserved
 loop-left-preserved g c =
     record {
       few = omega (arith, c.loop-left.invariant.few, c.loop-left-test.true);
+      whole = omega (arith, c.read_journal_at.auto.into, c.loop-left.invariant.whole);
       honest = λ tells.
           let old = g.D.Disk.view c.args.disk.now in
           let now = g.D.Disk.view c.loop-left.disk in
@@ -30,7 +33,7 @@ loop-left-preserved g c =
           let reach = length c.args.table.now.slots.items in
           let next = next_of c.args.base reach all mem c.loop-left.at c.loop-left.left old now (omega (arith, c.loop-left-test.true)) (c.loop-left.invariant.honest tells) in
           let inside = next_inside c.args.base reach all mem c.loop-left.at c.loop-left.left old now c.ranges.base.fits next in
-          let size : length c.loop-left.frame ≡ 4112 = omega arith in
+          let size = c.loop-left.invariant.whole in
           let read = c.in_ok-read_journal_at.ensures.bytes tells (omega (arith, inside, size)) ∙ ap (part now.seen.journal c.loop-left.at) size in
           let place = c.u64_at.ensures ∙ read_place c.args.base reach all mem c.loop-left.at c.loop-left.left old now c.ranges.base.fits next _ read in
           let block = read_block c.args.base reach all mem c.loop-left.at c.loop-left.left old now c.ranges.base.fits next _ read in
@@ -87,7 +90,7 @@ returns-in_err-write_file-clause-any_moment g c tells =
     let reach = length c.args.table.now.slots.items in
     let next = next_of c.args.base reach all mem c.loop-left.at c.loop-left.left old now (omega (arith, c.loop-left-test.true)) (c.loop-left.invariant.honest tells) in
     let inside = next_inside c.args.base reach all mem c.loop-left.at c.loop-left.left old now c.ranges.base.fits next in
-    let size : length c.loop-left.frame ≡ 4112 = omega arith in
+    let size = c.loop-left.invariant.whole in
     let read = c.in_ok-read_journal_at.ensures.bytes tells (omega (arith, inside, size)) ∙ ap (part now.seen.journal c.loop-left.at) size in
     let place = c.u64_at.ensures ∙ read_place c.args.base reach all mem c.loop-left.at c.loop-left.left old now c.ranges.base.fits next _ read in
     let block = read_block c.args.base reach all mem c.loop-left.at c.loop-left.left old now c.ranges.base.fits next _ read in
@@ -106,7 +109,7 @@ returns-in_err-write_file-clause-within g c tells =
     let reach = length c.args.table.now.slots.items in
     let next = next_of c.args.base reach all mem c.loop-left.at c.loop-left.left old now (omega (arith, c.loop-left-test.true)) (c.loop-left.invariant.honest tells) in
     let inside = next_inside c.args.base reach all mem c.loop-left.at c.loop-left.left old now c.ranges.base.fits next in
-    let size : length c.loop-left.frame ≡ 4112 = omega arith in
+    let size = c.loop-left.invariant.whole in
     let read = c.in_ok-read_journal_at.ensures.bytes tells (omega (arith, inside, size)) ∙ ap (part now.seen.journal c.loop-left.at) size in
     let place = c.u64_at.ensures ∙ read_place c.args.base reach all mem c.loop-left.at c.loop-left.left old now c.ranges.base.fits next _ read in
     let block = read_block c.args.base reach all mem c.loop-left.at c.loop-left.left old now c.ranges.base.fits next _ read in

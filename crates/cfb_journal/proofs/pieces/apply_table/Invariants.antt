@@ -8,6 +8,7 @@ abbrev pub invariant-loop-left : goal.invariant-loop-left
 invariant-loop-left g l =
     record {
       few : l.at + 4112 * l.left ≤ 2 ^ 63;
+      whole : length l.frame ≡ 4112;
       honest : IsTrue g.D.Disk.tells → Carries l.base (length l.table.slots.items) (frames_over l.table (g.D.Disk.view l.fn.disk).seen.journal) (frames_from 0 (contents l.table.blocks.items)) l.at l.left
           (g.D.Disk.view l.fn.disk) (g.D.Disk.view l.disk);
     }
