@@ -215,6 +215,6 @@ module _ (base taken : ℕ) (slots journal file : List ℕ) (are : AreLeft base 
     pub read_in_slot : part journal start n ≡ part (applied (left_frames taken journal) file) at n
     read_in_slot = ap (λ p. part journal p n) same_start ∙ read_in_journal (slot - 1) next_is
 
-pub on_more : {T E A : Type 0} {x y z : A} (result : Result T E) → OnOk result (x ≡ y) → y ≡ z → OnOk result (x ≡ z)
-on_more (Ok done) is same = is ∙ same
-on_more (Err fault) is same = tt
+pub on_more : {T E A : Type 0} (x y z : A) (result : Result T E) → OnOk result (x ≡ y) → y ≡ z → OnOk result (x ≡ z)
+on_more x y z (Ok done) is same = is ∙ same
+on_more x y z (Err fault) is same = tt

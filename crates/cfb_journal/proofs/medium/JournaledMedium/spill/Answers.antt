@@ -60,8 +60,8 @@ invariant_of-self-in-Err-let_go g c =
           omega (arith, was, mid, new);
     }
 
-pub invariant_of-self-2 : goal.invariant_of-self-2
-invariant_of-self-2 g c =
+pub invariant_of-self-in_default-let_go : goal.invariant_of-self-in_default-let_go
+invariant_of-self-in_default-let_go g c =
     let me = c.args.self.now in
     record {
       ordered = me.ordered;

@@ -1,12 +1,14 @@
 use Rattle.std.proofs.Common.{◌≡◌, ◌≢◌, ◌<◌, ◌≤◌, ◌∙◌, ap, length, refl, subst, sym, take, List, ℕ, arith, rules}
-use Rattle.cfb_format.proofs.ByteLemmas.{length-written}
+use Rattle.cfb_format.specs.Medium.{ChangesOnlyBytes}
+use Rattle.cfb_format.proofs.ByteLemmas.{length-written, ChangesOnly_refl}
+use Rattle.cfb_journal.specs.Sound.{logical}
 use Rattle.cfb_journal.proofs.Contents.{is_some_block}
 use Rattle.cfb_journal.specs.declared.medium.Phase.TheVariants.{Broken, Changing}
 use Rattle.cfb_journal.specs.Journal.{Restores}
 use Rattle.cfb_journal.specs.Overlay.{left_frames, AreLeft}
 use Rattle.cfb_journal.specs.States.{Meanwhile}
 use Rattle.cfb_journal.proofs.Clock.{joined}
-use Rattle.cfb_journal.proofs.Mediums.{kept_first, logical_changes, logical_written, ready_frames, ready_left, sound_changing}
+use Rattle.cfb_journal.proofs.Mediums.{kept_first, logical_changes, logical_written, ready_frames, ready_left, ready_logical, sound_changing}
 use Rattle.cfb_journal.proofs.Since.{since_on}
 use Rattle.cfb_journal.proofs.medium.JournaledMediumMedium.write_at.Goals as goal
 
@@ -138,7 +140,13 @@ invariant_of-self-in-Err-append g c =
           omega (arith, was, mid, new);
     }
 
-pub invariant_of-self-in-Err-clause-caused : goal.invariant_of-self-in-Err-clause-caused
-invariant_of-self-in-Err-clause-caused g c tells tracked broken =
-    let usable : c.args.self.now.phase ≢ Broken = search rules in
-    absurd (usable broken)
+pub returns-in-Err-clause-honest : goal.returns-in-Err-clause-honest
+returns-in-Err-clause-honest g c tells =
+    let me = c.args.self.now in
+    let old = g.D.Disk.view me.disk in
+    let usable : me.phase ≢ Broken = search rules in
+    let same = ready_logical me.phase me.base me.len me.table old old (g.D.Disk.view c.ready.new.disk) (me.sound tells) (me.left tells usable) refl (c.ready.ensures.left tells) (c.ready.ensures.file tells) in
+    record {
+      fails = record { can = refl; rises = c.fail-in-Err.ensures.rises };
+      others = subst (λ (b : List ℕ). ChangesOnlyBytes c.args.at (length c.args.from.now) (logical me.table old.seen) b) (sym same) (ChangesOnly_refl c.args.at (length c.args.from.now) (logical me.table old.seen));
+    }
