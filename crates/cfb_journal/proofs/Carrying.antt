@@ -1,7 +1,7 @@
 -- Frames of blocks that left are read from the journal and written into the file, one after the other.
 use Rattle.std.proofs.Common.{◌≡◌, ℕ, zero, suc, ◌+◌, ◌-◌, ◌*◌, ◌^◌, ◌<◌, ◌≤◌, List, [], ◌∷◌, ◌++◌, length, take, drop, refl, sym, ◌∙◌, ap, subst, arith, append_assoc, length-append, Result, Ok, Err}
 use Rattle.std.proofs.Math.Seq.{take-append_seam, drop-append_seam}
-use Rattle.std.proofs.lemmas.List.{drop-drop, length-drop}
+use Rattle.std.proofs.lemmas.List.{drop-drop, length-drop, take_all}
 use Rattle.std.proofs.lemmas.Nat.{from_le_bytes-to_le_bytes_8}
 use Rattle.std.specs.Int.{to_le_bytes, w64}
 use Rattle.cfb_format.specs.Bytes.{long_at}
@@ -139,6 +139,9 @@ module _ (base reach : ℕ) (all mem : List Frame) (at left : ℕ) (old now : Vi
 
     pub read_block : drop 16 read ≡ next.block
     read_block = ap (drop 16) read_is ∙ block_of next.place next.block (encoded next.rest ++ next.behind) next.size
+
+    pub read_framed : take 4096 (drop 16 read) ≡ next.block
+    read_framed = ap (take 4096) read_block ∙ take_all 4096 next.block (omega (arith, next.size))
 
   module _ {T : Type 0} (looked written_to : View) (long : base ≤ length old.seen.file) (done : T) (look : OnlyLooks (Ok done) now looked) where
     so_far : Progress all ((next.place, next.block) ∷ (next.rest ++ mem)) old looked

@@ -5,7 +5,7 @@ use Rattle.cfb_journal.specs.Disk.{Torn, InFile, IsWritten, Changes}
 use Rattle.cfb_journal.specs.Overlay.{contents, frames_from, frames_over, AreBlocks}
 use Rattle.cfb_journal.proofs.Applying.{Progress}
 use Rattle.cfb_journal.proofs.Blockwise.{rest_fits, block_done, block_passed}
-use Rattle.cfb_journal.proofs.Carrying.{carries_all, carried, carried_all, carry_run, carry_within, next_inside, next_of, read_block, read_place}
+use Rattle.cfb_journal.proofs.Carrying.{carries_all, carried, carried_all, carry_run, carry_within, next_inside, next_of, read_framed, read_place}
 use Rattle.cfb_journal.proofs.Contents.{contents_split, is_no_block, is_some_block}
 use Rattle.cfb_journal.proofs.pieces.apply_table.Goals as goal
 use Rattle.cfb_journal.proofs.pieces.apply_table.Goals.{then-not-is_empty+in_ok-write_file-2, else-not-is_empty}
@@ -36,7 +36,7 @@ loop-left-preserved g c =
           let size = c.loop-left.invariant.whole in
           let read = c.in_ok-read_journal_at.ensures.bytes tells (omega (arith, inside, size)) ∙ ap (part now.seen.journal c.loop-left.at) size in
           let place = c.u64_at.ensures ∙ read_place c.args.base reach all mem c.loop-left.at c.loop-left.left old now c.ranges.base.fits next _ read in
-          let block = read_block c.args.base reach all mem c.loop-left.at c.loop-left.left old now c.ranges.base.fits next _ read in
+          let block = read_framed c.args.base reach all mem c.loop-left.at c.loop-left.left old now c.ranges.base.fits next _ read in
           carried c.args.base reach all mem c.loop-left.at c.loop-left.left old now c.ranges.base.fits next seen (g.D.Disk.view c.write_file.new.self) (c.requires.within tells) c.in_ok-read_journal_at.field-0 (c.in_ok-read_journal_at.ensures.honest tells)
           c.in_ok-write_file.field-0
           (subst (λ (p : ℕ). Changes (InFile (Torn p (length next.block))) (InFile (IsWritten p next.block)) c.write_file.result seen (g.D.Disk.view c.write_file.new.self)) place
@@ -93,7 +93,7 @@ returns-in_err-write_file-clause-any_moment g c tells =
     let size = c.loop-left.invariant.whole in
     let read = c.in_ok-read_journal_at.ensures.bytes tells (omega (arith, inside, size)) ∙ ap (part now.seen.journal c.loop-left.at) size in
     let place = c.u64_at.ensures ∙ read_place c.args.base reach all mem c.loop-left.at c.loop-left.left old now c.ranges.base.fits next _ read in
-    let block = read_block c.args.base reach all mem c.loop-left.at c.loop-left.left old now c.ranges.base.fits next _ read in
+    let block = read_framed c.args.base reach all mem c.loop-left.at c.loop-left.left old now c.ranges.base.fits next _ read in
     carry_run c.args.base reach all mem c.loop-left.at c.loop-left.left old now c.ranges.base.fits next seen (g.D.Disk.view c.write_file.new.self) (c.requires.within tells) c.in_ok-read_journal_at.field-0 (c.in_ok-read_journal_at.ensures.honest tells)
     c.write_file.result
     (subst (λ (p : ℕ). Changes (InFile (Torn p (length next.block))) (InFile (IsWritten p next.block)) c.write_file.result seen (g.D.Disk.view c.write_file.new.self)) place
@@ -112,7 +112,7 @@ returns-in_err-write_file-clause-within g c tells =
     let size = c.loop-left.invariant.whole in
     let read = c.in_ok-read_journal_at.ensures.bytes tells (omega (arith, inside, size)) ∙ ap (part now.seen.journal c.loop-left.at) size in
     let place = c.u64_at.ensures ∙ read_place c.args.base reach all mem c.loop-left.at c.loop-left.left old now c.ranges.base.fits next _ read in
-    let block = read_block c.args.base reach all mem c.loop-left.at c.loop-left.left old now c.ranges.base.fits next _ read in
+    let block = read_framed c.args.base reach all mem c.loop-left.at c.loop-left.left old now c.ranges.base.fits next _ read in
     carry_within c.args.base reach all mem c.loop-left.at c.loop-left.left old now c.ranges.base.fits next seen (g.D.Disk.view c.write_file.new.self) (c.requires.within tells) c.in_ok-read_journal_at.field-0 (c.in_ok-read_journal_at.ensures.honest tells)
     c.write_file.result
     (subst (λ (p : ℕ). Changes (InFile (Torn p (length next.block))) (InFile (IsWritten p next.block)) c.write_file.result seen (g.D.Disk.view c.write_file.new.self)) place
