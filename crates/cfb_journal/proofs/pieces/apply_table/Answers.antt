@@ -1,4 +1,4 @@
-use Rattle.std.proofs.Common.{◌≡◌, ◌∙◌, ◌-◌, ◌+◌, ◌≤◌, ap, sym, subst, length, take, drop, arith, List, ℕ, ◌∷◌}
+use Rattle.std.proofs.Common.{◌≡◌, ◌∙◌, ◌-◌, ◌+◌, ◌≤◌, ap, sym, subst, length, take, drop, arith, List, ℕ, ◌∷◌, Ok}
 use Rattle.std.proofs.lemmas.List.{length-replicate}
 use Rattle.cfb_format.specs.Medium.{part}
 use Rattle.cfb_journal.specs.Disk.{Torn, InFile, IsWritten, Changes}
@@ -39,8 +39,8 @@ loop-left-preserved g c =
           let block = read_framed c.args.base reach all mem c.loop-left.at c.loop-left.left old now c.ranges.base.fits next _ read in
           carried c.args.base reach all mem c.loop-left.at c.loop-left.left old now c.ranges.base.fits next seen (g.D.Disk.view c.write_file.new.self) (c.requires.within tells) c.in_ok-read_journal_at.field-0 (c.in_ok-read_journal_at.ensures.honest tells)
           c.in_ok-write_file.field-0
-          (subst (λ (p : ℕ). Changes (InFile (Torn p (length next.block))) (InFile (IsWritten p next.block)) c.write_file.result seen (g.D.Disk.view c.write_file.new.self)) place
-          (subst (λ (b : List ℕ). Changes (InFile (Torn c.u64_at.result (length b))) (InFile (IsWritten c.u64_at.result b)) c.write_file.result seen (g.D.Disk.view c.write_file.new.self)) block (c.in_ok-write_file.ensures.honest tells)));
+          (subst (λ (p : ℕ). Changes (InFile (Torn p (length next.block))) (InFile (IsWritten p next.block)) (Ok c.in_ok-write_file.field-0) seen (g.D.Disk.view c.write_file.new.self)) place
+          (subst (λ (b : List ℕ). Changes (InFile (Torn c.u64_at.result (length b))) (InFile (IsWritten c.u64_at.result b)) (Ok c.in_ok-write_file.field-0) seen (g.D.Disk.view c.write_file.new.self)) block (c.in_ok-write_file.ensures.honest tells)));
     }
 
 pub loop-rest-init : goal.loop-rest-init
