@@ -6,11 +6,11 @@ use Rattle.std.specs.declared.alloc.Global.{Global}
 use Rattle.cfb_format.specs.Medium.{written}
 use Rattle.cfb_format.specs.declared.medium.MediumFault.{MediumFault}
 use Rattle.cfb_format.proofs.ByteLemmas.{written_inside}
-use Rattle.cfb_journal.specs.Disk.{Image, View, Torn, InJournal, IsWritten, SameFile, SameJournal, After, Follows, Changes, Syncs}
+use Rattle.cfb_journal.specs.Disk.{Image, View, Torn, InJournal, IsWritten, SameFile, After, Follows, Changes, Syncs}
 use Rattle.cfb_journal.specs.Journal.{encoded, journal_of, Restores}
 use Rattle.cfb_journal.specs.Overlay.{contents, frames_from}
 use Rattle.cfb_journal.specs.Stamp.{stamp_of}
-use Rattle.cfb_journal.specs.States.{Meanwhile, IsChanging, IsOn, Grows, KeepsFirst, KeepsGates, PutsAt, PutsBehind}
+use Rattle.cfb_journal.specs.States.{Leaves, Meanwhile, IsChanging, IsOn, Grows, KeepsFirst, KeepsGates, PutsAt, PutsBehind}
 use Rattle.cfb_journal.proofs.Clock.{started, weaker, joined, goes_on, once}
 use Rattle.cfb_journal.proofs.Contents.{encoded_none_alone}
 use Rattle.cfb_journal.proofs.Appending.{restores_keeps}
@@ -251,8 +251,8 @@ module _ {U : Type 0} (len : ℕ) (old mid next : View) (changing : IsChanging l
 pub staged : {U V : Type 0} (journal : List ℕ) (also : U) (result : Result V MediumFault) (mid next new : View) → mid.seen.journal ≡ journal → Syncs SameJournal (Ok also) mid next → Syncs SameFile result next new → OnOk result (IsOn journal new)
 staged journal also (Ok last) mid next new is first second =
     record {
-      seen = ap (λ (i : Image). i.journal) second.looks.seen ∙ ap (λ (i : Image). i.journal) first.looks.seen ∙ is;
-      file = λ c now. second.durable c now ∙ ap (λ (i : Image). i.file) (sym second.looks.seen);
-      journal_is = λ c now. first.durable c (second.looks.crash c now) ∙ is;
+      seen = ap (λ (i : Image). i.journal) sync.looks.seen ∙ is;
+      file = λ c now. sync.durable c now ∙ ap (λ (i : Image). i.file) (sym sync.looks.seen);
+      journal_is = λ c now. durable c (sync.looks.crash c now) ∙ is;
     }
 staged journal also (Err e) mid next new is first second = tt

@@ -15,6 +15,7 @@ pub mod Applying
 pub mod FrameLists
 pub mod Beginning
 pub mod Behind
+pub mod AtOnce
 pub mod Blockwise
 pub mod LaidFrames
 pub mod Framed

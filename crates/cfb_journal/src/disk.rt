@@ -10,6 +10,9 @@ use std::alloc::Global;
 /// Where the journal has the gate of the commit, behind the length and the stamp of the compound file.
 pub const COMMIT_GATE: u64 = 16;
 
+/// Where it has the gate of the change, behind that.
+pub const CHANGE_GATE: u64 = 17;
+
 /// Two files, of which one is a compound file and the other its journal. Contracts speak of them
 /// only where the disk tells them. Once a call has failed nothing more may be rested on the files
 /// than what a crash may leave of them.

@@ -1,12 +1,13 @@
 //! A compound file of which the changes between two flushes are all or nothing.
-ghost use Rattle.std.specs.Prelude.{◌≡◌, ◌≢◌, ◌⊎◌, ◌+◌, ◌*◌, ◌^◌, ◌<◌, ◌≤◌, min, ℕ, List, length, take, IsTrue, true, false, None, Some, IfOk, IfErr, IsErrOf, OnOk, OnErr, MatchResult};
+ghost use Rattle.std.specs.Prelude.{◌≡◌, ◌≢◌, ◌⊎◌, ◌+◌, ◌*◌, ◌^◌, ◌<◌, ◌≤◌, min, ℕ, List, [], length, take, IsTrue, true, false, None, Some, IfOk, IfErr, IsErrOf, OnOk, OnErr, MatchResult};
 ghost use Rattle.std.proofs.Props.{props};
 ghost use Rattle.cfb_format.specs.Medium.{written, Rises, ReadsAt, WritesAt, FailsToWriteAt, FailsBy};
 ghost use Rattle.cfb_journal.specs.Disk.{CountsFault, Image, IsOpened};
-ghost use Rattle.cfb_journal.specs.Journal.{IsForeign, Restores, RestoresEither, recovered};
-ghost use Rattle.cfb_journal.specs.Overlay.{contents, framed_bytes, left_frames, AreBlocks, AreLeft};
+ghost use Rattle.cfb_journal.specs.Journal.{HasStamp, IsForeign, Restores, RestoresEither, applied, recovered};
+ghost use Rattle.cfb_journal.specs.Overlay.{contents, framed_bytes, frames_over, left_frames, AreBlocks, AreLeft, IsTable};
 ghost use Rattle.cfb_journal.specs.Recovery.{IsNotOpened};
 ghost use Rattle.cfb_journal.specs.Sound.{AreBlocks-prop, AreLeft-prop, HasCause, IsSince, IsSince-prop, IsSound, IsSound-prop, IsNotCommitted, logical};
+ghost use Rattle.cfb_journal.specs.Stamp.{stamp_of};
 ghost use Rattle.cfb_journal.specs.States.{IsChanging, IsQuiet, Looks, Meanwhile};
 ghost use Rattle.cfb_journal.specs.declared.medium.Phase.TheVariants.{Quiet, Changing, Broken};
 ghost use Rattle.cfb_journal.specs.declared.recovery.RecoveryError.TheVariants.{Damaged, Foreign};
@@ -15,7 +16,7 @@ use crate::disk::Disk;
 use crate::leaving::let_go;
 use crate::overlay::{overlay, serve};
 use crate::recovery::{NotOpened, RecoveryError, recover};
-use crate::stages::{append, begin, commit};
+use crate::stages::{append, begin, commit, commit_appended, commit_at_once};
 use crate::stamps::stamp_with;
 use crate::table::{MOST, Table};
 use cfb_format::medium::{Medium, MediumFault, ReadMedium};
@@ -266,12 +267,77 @@ fn ready<D: Disk>(disk: &mut D, phase: &mut Phase, base: u64) -> Result<(), Medi
     match *phase {
         Phase::Quiet => {
             *phase = Phase::Broken;
-            begin(disk, base, &[1])?;
+            begin(disk, base)?;
             *phase = Phase::Changing;
             Ok(())
         }
         Phase::Changing => Ok(()),
         Phase::Broken => Err(MediumFault::Write),
+    }
+}
+
+/// The stamp that the file has with the blocks of a table. None if there is no block, as then no body is written that
+/// would have it.
+fn stamp_after<D: Disk>(
+    disk: &mut D,
+    base: u64,
+    len: u64,
+    table: &Table,
+) -> Result<Option<u64>, MediumFault>
+    requires ordered { base ≤ len }
+    requires fits { AreBlocks base 0 (contents table.now.blocks.items) }
+    requires left { IsTrue D.tells → AreLeft base table.now.taken table.now.slots.items (D.view disk.old).seen.journal }
+    requires sized { IsTrue D.tells → len ≡ length (D.view disk.old).seen.file }
+    ensures none { IfOk result (λ found. found ≡ None → table.now.blocks.items ≡ []) }
+    ensures stamp { IsTrue D.tells → IfOk result (λ found. (n : ℕ) → found ≡ Some n → n
+        ≡ stamp_of (logical table.now (D.view disk.old).seen)) }
+    ensures looks { IsTrue D.tells → Looks (D.view disk.old) (D.view disk.new) }
+    ensures cause { IsTrue D.tells → CountsFault result (D.view disk.old).faults (D.view disk.new).faults }
+{
+    if table.blocks.is_empty() {
+        return Ok(None);
+    }
+    let stamp = stamp_with(disk, base, len, table)?;
+    Ok(Some(stamp))
+}
+
+/// Commits what was appended and the blocks of a table, whichever there are. `begun` says that the gate of the change
+/// is open, and `stamp` is what the file has with the blocks, if there are some.
+fn commit_all<D: Disk>(
+    disk: &mut D,
+    begun: bool,
+    base: u64,
+    len: u64,
+    stamp: Option<u64>,
+    table: &mut Table,
+) -> Result<(), MediumFault>
+    requires some { stamp ≡ None → (begun ≡ true) × (table.old.blocks.items ≡ []) }
+    requires table { IsTable base len (contents table.old.blocks.items) }
+    requires left { IsTrue D.tells → AreLeft base table.old.taken table.old.slots.items (D.view disk.old).seen.journal }
+    requires quiet { IsTrue D.tells → begun ≡ false → IsQuiet (D.view disk.old) }
+    requires still { IsTrue D.tells → begun ≡ false → base ≡ len }
+    requires changing { IsTrue D.tells → begun ≡ true → IsChanging base (D.view disk.old) }
+    requires told { IsTrue D.tells → (n : ℕ) → stamp ≡ Some n
+        → HasStamp len n (frames_over table.old (D.view disk.old).seen.journal) (D.view disk.old).seen.file }
+    ensures done { IsTrue D.tells → OnOk result ((D.view disk.new).seen.file
+        ≡ applied (frames_over table.old (D.view disk.old).seen.journal) (D.view disk.old).seen.file) }
+    ensures quiet { IsTrue D.tells → OnOk result (IsQuiet (D.view disk.new)) }
+    ensures same { IsTrue D.tells → applied (frames_over table.new (D.view disk.new).seen.journal) (D.view disk.new).seen.file
+        ≡ applied (frames_over table.old (D.view disk.old).seen.journal) (D.view disk.old).seen.file }
+    ensures blocks { OnOk result (table.new.blocks.items ≡ []) }
+    ensures slots { OnOk result (table.new.slots.items ≡ []) }
+    ensures taken { OnOk result (table.new.taken ≡ 0) }
+    ensures few { length table.new.blocks.items ≤ length table.old.blocks.items }
+    ensures fits { AreBlocks base 0 (contents table.new.blocks.items) }
+    ensures any_moment { IsTrue D.tells → Meanwhile (D.view disk.old) (D.view disk.new)
+        (RestoresEither (take base (D.view disk.old).seen.file)
+        (applied (frames_over table.old (D.view disk.old).seen.journal) (D.view disk.old).seen.file)) }
+    ensures cause { IsTrue D.tells → CountsFault result (D.view disk.old).faults (D.view disk.new).faults }
+{
+    match stamp {
+        None => commit_appended(disk, base, table),
+        Some(stamp) if begun => commit(disk, base, len, stamp, table),
+        Some(stamp) => commit_at_once(disk, base, stamp, table),
     }
 }
 
@@ -393,15 +459,20 @@ impl<D: Disk> Medium for JournaledMedium<D> {
         if self.phase == Phase::Quiet && self.table.blocks.is_empty() {
             return Ok(());
         }
-        let stamp = match stamp_with(&mut self.disk, self.base, self.len, &self.table) {
+        let stamp = match stamp_after(&mut self.disk, self.base, self.len, &self.table) {
             Ok(stamp) => stamp,
             Err(fault) => return Err(fail(&mut self.failures, fault)),
         };
-        if let Err(fault) = ready(&mut self.disk, &mut self.phase, self.base) {
-            return Err(fail(&mut self.failures, fault));
-        }
         self.is_first = false;
-        if let Err(fault) = commit(&mut self.disk, self.base, self.len, stamp, &mut self.table) {
+        let begun = self.phase == Phase::Changing;
+        if let Err(fault) = commit_all(
+            &mut self.disk,
+            begun,
+            self.base,
+            self.len,
+            stamp,
+            &mut self.table,
+        ) {
             self.phase = Phase::Broken;
             return Err(fail(&mut self.failures, fault));
         }

@@ -5,7 +5,7 @@ use crate::place::Place;
 use cfb_files::failures::Failures;
 use cfb_files::locking;
 use cfb_format::medium::MediumFault;
-use cfb_journal::disk::{COMMIT_GATE, Disk};
+use cfb_journal::disk::{CHANGE_GATE, COMMIT_GATE, Disk};
 use cfb_journal::recovery::{is_committed, recover};
 use std::alloc::Global;
 use std::fs::{File, OpenOptions};
@@ -20,13 +20,23 @@ pub struct FileDisk {
     file: File,
     /// None beside a device, which keeps nothing.
     journal: Option<File>,
+    /// The journal was made for this and nothing was written to it: there is nothing of it to bring to the disk.
+    is_untouched: bool,
     /// The folder that has both, until the journal's name is on the disk.
     folder: Option<File>,
-    /// The gate of a commit was opened: what goes wrong then is made good, and not taken back.
-    is_committed: bool,
+    change: Change,
     /// Bytes are brought to the disk where that is asked for.
     syncs: bool,
     failures: Failures,
+}
+
+/// How far a change has come that was begun on this disk.
+#[derive(Clone, Copy, PartialEq, Eq)]
+enum Change {
+    None,
+    Begun,
+    /// It counts: what goes wrong now is made good, and not taken back.
+    Committed,
 }
 
 /// How a change ended that was not told as done.
@@ -55,15 +65,16 @@ impl FileDisk {
         let mut disk = FileDisk {
             file,
             journal: None,
+            is_untouched: false,
             folder: None,
-            is_committed: false,
+            change: Change::None,
             syncs: true,
             failures: Failures::new(),
         };
         if disk.file.metadata()?.is_file() {
-            let mut how = OpenOptions::new();
-            how.read(true).write(true).create(true);
-            disk.journal = Some(how.open(rt, place.journal())?);
+            let (journal, is_new) = open_journal(rt, place.journal())?;
+            disk.journal = Some(journal);
+            disk.is_untouched = is_new;
             disk.folder = Some(File::open(rt, place.folder())?);
         }
         Ok(disk)
@@ -93,7 +104,11 @@ impl FileDisk {
 
     /// Ends a change that was committed, or takes it back, after a call that failed.
     pub fn settle(&mut self, alloc: Global) -> Ending {
-        let is_committed = self.is_committed || self.has_committed(alloc);
+        let is_committed = match self.change {
+            Change::None => false,
+            Change::Begun => self.has_committed(alloc),
+            Change::Committed => true,
+        };
         if recover(alloc, self).is_err() {
             return Ending::Open;
         }
@@ -120,12 +135,13 @@ impl FileDisk {
         let Some(journal) = &self.journal else {
             return Err(io::Error::from(ErrorKind::InvalidInput));
         };
+        self.is_untouched = false;
         journal.write_all_at(from, at)?;
-        self.is_committed = self.is_committed || at == COMMIT_GATE && from.first() == Some(&1);
+        self.change = change_after(self.change, at, from);
         Ok(())
     }
 
-    /// The first time the folder too, so that the journal's name is on the disk.
+    /// The first time the folder too, so that the journal's name is on the disk, and that of one before it is not.
     fn bring_journal(&mut self) -> io::Result<()> {
         let Some(journal) = &self.journal else {
             return Ok(());
@@ -133,12 +149,12 @@ impl FileDisk {
         if !self.syncs {
             return Ok(());
         }
-        journal.sync_all()?;
+        if !self.is_untouched {
+            journal.sync_data()?;
+        }
         if let Some(folder) = &self.folder {
-            if journal.metadata()?.len() > 0 {
-                folder.sync_all()?;
-                self.folder = None;
-            }
+            folder.sync_all()?;
+            self.folder = None;
         }
         Ok(())
     }
@@ -162,11 +178,12 @@ impl FileDisk {
         }
     }
 
-    fn emptied_journal(&self) -> io::Result<()> {
-        match &self.journal {
-            Some(journal) => journal.set_len(0),
-            None => Ok(()),
+    fn emptied_journal(&mut self) -> io::Result<()> {
+        if let Some(journal) = &self.journal {
+            journal.set_len(0)?;
         }
+        self.change = Change::None;
+        Ok(())
     }
 
     /// What came of a call, with its error kept.
@@ -178,6 +195,31 @@ impl FileDisk {
                 Err(fault)
             }
         }
+    }
+}
+
+/// The journal at this path, and whether it was made now.
+fn open_journal<R: Files<File = File>>(rt: &R, path: &str) -> io::Result<(File, bool)> {
+    let mut how = OpenOptions::new();
+    how.read(true).write(true).create_new(true);
+    match how.open(rt, path) {
+        Ok(journal) => Ok((journal, true)),
+        Err(error) if error.kind() == ErrorKind::AlreadyExists => {
+            how.create_new(false).create(true);
+            Ok((how.open(rt, path)?, false))
+        }
+        Err(error) => Err(error),
+    }
+}
+
+/// How far a change has come once this was written to the journal: the head begins it, and it counts once the gate of
+/// its commit is open, or that of a change that only appended is shut.
+fn change_after(change: Change, at: u64, from: &[u8]) -> Change {
+    match (change, from.first()) {
+        (_, Some(_)) if at == 0 => Change::Begun,
+        (Change::Begun, Some(1)) if at == COMMIT_GATE => Change::Committed,
+        (Change::Begun, Some(0)) if at == CHANGE_GATE => Change::Committed,
+        _ => change,
     }
 }
 
@@ -238,7 +280,7 @@ impl Disk for FileDisk {
         if !self.syncs {
             return Ok(());
         }
-        let done = match self.file.sync_all() {
+        let done = match self.file.sync_data() {
             // what the system says of a device that keeps nothing
             Err(error) if error.kind() == ErrorKind::InvalidInput => Ok(()),
             done => done,
