@@ -6,11 +6,11 @@ use Rattle.std.specs.declared.alloc.Global.{Global}
 use Rattle.cfb_format.specs.Medium.{written}
 use Rattle.cfb_format.specs.declared.medium.MediumFault.{MediumFault}
 use Rattle.cfb_format.proofs.ByteLemmas.{written_inside}
-use Rattle.cfb_journal.specs.Disk.{Image, View, Torn, InJournal, IsWritten, SameFile, After, Follows, Changes, Syncs}
+use Rattle.cfb_journal.specs.Disk.{Image, View, Torn, InJournal, IsWritten, SameFile, SameJournal, After, Follows, Changes, Syncs}
 use Rattle.cfb_journal.specs.Journal.{encoded, journal_of, Restores}
 use Rattle.cfb_journal.specs.Overlay.{contents, frames_from}
 use Rattle.cfb_journal.specs.Stamp.{stamp_of}
-use Rattle.cfb_journal.specs.States.{Leaves, Meanwhile, IsChanging, IsOn, Grows, KeepsFirst, KeepsGates, PutsAt, PutsBehind}
+use Rattle.cfb_journal.specs.States.{Meanwhile, IsChanging, IsOn, Grows, KeepsFirst, KeepsGates, PutsAt, PutsBehind}
 use Rattle.cfb_journal.proofs.Clock.{started, weaker, joined, goes_on, once}
 use Rattle.cfb_journal.proofs.Contents.{encoded_none_alone}
 use Rattle.cfb_journal.proofs.Appending.{restores_keeps}
@@ -189,6 +189,15 @@ reaches_all all [] place at done old now none so_far = reaches_end all [] at don
 reaches_all all (b ∷ rest) place at done old now none so_far = absurd (omega arith)
 
 -- two pieces
+pub both_put : {T U : Type 0} (first second : List ℕ) (done : T) (result : Result U MediumFault) (old mid new : View) → PutsBehind first (Ok done) old mid → PutsBehind second result mid new → PutsBehind (first ++ second) result old new
+both_put first second done (Ok also) old mid new a b =
+    let so_far = reaches_next (first ++ second) first second (first ++ second) (length old.seen.journal) (length old.seen.journal + length first) done old old mid refl refl (reaches_none (first ++ second) (length old.seen.journal) old refl) a in
+    reaches_end (first ++ second) [] (length old.seen.journal + length first + length second) also old new refl
+    (reaches_next (first ++ second) second [] second (length old.seen.journal + length first) (length old.seen.journal + length first + length second) also old mid new (sym (append-nil second)) refl so_far b)
+both_put first second done (Err fault) old mid new a b =
+    reaches_failed (first ++ second) second (length old.seen.journal + length first) second fault fault old mid new
+    (reaches_next (first ++ second) first second (first ++ second) (length old.seen.journal) (length old.seen.journal + length first) done old old mid refl refl (reaches_none (first ++ second) (length old.seen.journal) old refl) a) b
+
 pub both_run : (old mid new : View) → Meanwhile old mid (After (InJournal KeepsGates) old.may_leave) → Follows (InJournal KeepsGates) old.may_leave mid.may_leave → Meanwhile mid new (After (InJournal KeepsGates) mid.may_leave)
     → Meanwhile old new (After (InJournal KeepsGates) old.may_leave)
 both_run old mid new run crash more =
@@ -251,8 +260,8 @@ module _ {U : Type 0} (len : ℕ) (old mid next : View) (changing : IsChanging l
 pub staged : {U V : Type 0} (journal : List ℕ) (also : U) (result : Result V MediumFault) (mid next new : View) → mid.seen.journal ≡ journal → Syncs SameJournal (Ok also) mid next → Syncs SameFile result next new → OnOk result (IsOn journal new)
 staged journal also (Ok last) mid next new is first second =
     record {
-      seen = ap (λ (i : Image). i.journal) sync.looks.seen ∙ is;
-      file = λ c now. sync.durable c now ∙ ap (λ (i : Image). i.file) (sym sync.looks.seen);
-      journal_is = λ c now. durable c (sync.looks.crash c now) ∙ is;
+      seen = ap (λ (i : Image). i.journal) second.looks.seen ∙ ap (λ (i : Image). i.journal) first.looks.seen ∙ is;
+      file = λ c now. second.durable c now ∙ ap (λ (i : Image). i.file) (sym second.looks.seen);
+      journal_is = λ c now. first.durable c (second.looks.crash c now) ∙ is;
     }
 staged journal also (Err e) mid next new is first second = tt

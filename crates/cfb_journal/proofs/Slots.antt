@@ -154,6 +154,15 @@ none_taken base taken slots journal empty are =
     let none : length (framed_bytes journal) ≡ 0 = ap (λ (j : List ℕ). length (drop 42 j)) empty in
     omega (arith, size, none)
 
+whole_none : (base reach : ℕ) (frames : List Frame) → reach ≡ 0 → AreWhole base reach frames → frames ≡ []
+whole_none base reach [] none are = refl
+whole_none base reach (frame ∷ rest) none are = absurd (omega (arith, are.2, none))
+
+-- where no block is, none has left
+pub reach_taken : (base taken : ℕ) (slots journal : List ℕ) → length slots ≡ 0 → AreLeft base taken slots journal → taken ≡ 0
+reach_taken base taken slots journal none are =
+    sym are.count ∙ ap length (whole_none base (length slots) (left_frames taken journal) none are.whole)
+
 -- a journal with the same frames
 pub left_moved : (base taken : ℕ) (slots old new : List ℕ) → framed_bytes new ≡ framed_bytes old → AreLeft base taken slots old → AreLeft base taken slots new
 left_moved base taken slots old new same are = subst (λ (b : List ℕ). AreSlots base taken slots b (frames_of taken b)) (sym same) are
@@ -176,6 +185,19 @@ module _ (base taken : ℕ) (slots old new more : List ℕ) (fits : base < 2 ^ 6
         stand = is ∙ ap (λ (b : List ℕ). b ++ more) (are.stand ∙ ap encoded (sym left_stays)) ∙ ap (λ (m : List ℕ). encoded (left_frames taken new) ++ m) (sym rest);
         whole = subst (AreWhole base (length slots)) (sym left_stays) are.whole;
       }
+
+-- the same frames, and what stands behind them
+pub frames_moved : (base reach taken : ℕ) (old new : List ℕ) → framed_bytes new ≡ framed_bytes old → HasFrames base reach taken old → HasFrames base reach taken new
+frames_moved base reach taken old new same are =
+    record {
+      stand = subst (λ (b : List ℕ). b ≡ encoded (frames_of taken b) ++ drop (4112 * taken) b) (sym same) are.stand;
+      whole = subst (λ (b : List ℕ). AreWhole base reach (frames_of taken b)) (sym same) are.whole;
+    }
+
+-- no frames
+pub frames_none : (base reach taken : ℕ) (journal : List ℕ) → taken ≡ 0 → HasFrames base reach taken journal
+frames_none base reach taken journal none = subst (λ n. HasFrames base reach n journal) (sym none) (record { stand = refl; whole = tt })
+
 -- ---- reading
 
 module _ (base taken : ℕ) (slots journal file : List ℕ) (are : AreLeft base taken slots journal) (long : base ≤ length file) (at n : ℕ) (small : at % 4096 + n ≤ 4096) (inside : at + n ≤ length file) where

@@ -1,5 +1,5 @@
 -- A block leaves a table into the journal, and the journal of a table at the commit.
-use Rattle.std.proofs.Common.{◌≡◌, inl, inr, ℕ, zero, suc, ◌+◌, ◌-◌, ◌*◌, ◌^◌, ◌<◌, ◌≤◌, min, List, [], ◌∷◌, ◌++◌, length, take, drop, slice_index, refl, sym, ◌∙◌, ap, subst, arith, append_assoc, length-append, length-take, get_or-take, get_or-drop, Vec, Ok, Err}
+use Rattle.std.proofs.Common.{◌≡◌, inl, inr, ℕ, zero, suc, ◌+◌, ◌-◌, ◌*◌, ◌^◌, ◌<◌, ◌≤◌, min, List, [], ◌∷◌, ◌++◌, length, take, drop, slice_index, refl, sym, ◌∙◌, ap, subst, arith, append_assoc, append-nil, length-append, length-take, get_or-take, get_or-drop, Vec, Ok, Err}
 use Rattle.std.proofs.Math.ListN.{set, drop_of_length-le}
 use Rattle.std.proofs.Math.Seq.{drop-append_seam}
 use Rattle.std.proofs.lemmas.List.{ext_get_or, take-append-drop, take_all, length-drop, drop-drop}
@@ -41,6 +41,13 @@ framed_torn at n old new past torn = framed_more old new torn.others.no_shorter 
 -- a write before it
 pub framed_front : (at n : ℕ) (old new : List ℕ) → at + n ≤ 42 → Torn at n old new → framed_bytes new ≡ framed_bytes old ++ drop (length (framed_bytes old)) (framed_bytes new)
 framed_front at n old new before torn = framed_more old new torn.others.no_shorter (λ i less high. torn.others.above i less (omega (arith, before, high)))
+
+-- at the gate
+pub framed_gate : (old new : List ℕ) → 18 ≤ length old → Torn 16 1 old new → framed_bytes new ≡ framed_bytes old
+framed_gate old new long torn =
+    let shorter : length (framed_bytes new) ≤ length (framed_bytes old) = omega (arith, long, torn.no_longer, length-drop 42 new, length-drop 42 old) in
+    framed_front 16 1 old new (omega arith) torn
+    ∙ ap (λ (x : List ℕ). framed_bytes old ++ x) (drop_of_length-le (framed_bytes new) shorter) ∙ append-nil (framed_bytes old)
 
 -- and then more at the end
 pub framed_later : (at n : ℕ) (old mid new : List ℕ) → at + n ≤ 42 → Torn at n old mid → Grows mid new → framed_bytes new ≡ framed_bytes old ++ drop (length (framed_bytes old)) (framed_bytes new)
@@ -155,6 +162,11 @@ staged_journal base stamp_was len stamp table old mid new gates keeps left put t
 framed_body : (base stamp_was commit len stamp : ℕ) (all : List Frame) → framed_bytes (journal_of base stamp_was commit 1 (body_bytes len stamp all)) ≡ encoded all
 unfolding journal_of
 framed_body base stamp_was commit len stamp all = refl
+
+-- whichever gates are open
+pub framed_gates : (base stamp_was commit : ℕ) (body : List ℕ) → framed_bytes (journal_of base stamp_was commit 1 body) ≡ drop 24 body
+unfolding journal_of
+framed_gates base stamp_was commit body = refl
 
 -- what is behind the gates then
 pub staged_framed : (base stamp_was commit len stamp : ℕ) (table : Table) (old new : List ℕ) → AreLeft base table.taken table.slots.items old
