@@ -10,8 +10,8 @@ use Rattle.cfb_journal.proofs.Commits.{logical_empty, on_any}
 use Rattle.cfb_journal.proofs.Spilled.{logical_none}
 use Rattle.cfb_journal.proofs.stages.commit_appended.Goals as goal
 
-pub shut-requires-clause-open : goal.shut-requires-clause-open
-shut-requires-clause-open g c tells =
+pub shut-requires : goal.shut-requires
+shut-requires g c tells =
     appended_open c.args.base c.ranges.base.fits (g.D.Disk.view c.args.disk.now) _ (c.requires.changing tells) c.in_ok-sync_file.field-0 (c.in_ok-sync_file.ensures.honest tells)
 
 pub returns-in_err-sync_file-clause-same : goal.returns-in_err-sync_file-clause-same
