@@ -31,7 +31,7 @@ returns-in_err-put_through-clause-same g c tells =
     let v0 = g.D.Disk.view c.args.disk.now in
     let v1 = g.D.Disk.view c.put_through.new.disk in
     let put = c.put_through.ensures tells in
-    let stays : v1.may_leave v1.seen = g.D.Disk.seen_may_stay c.put_through.new.disk tells in
+    let stays : v1.may_leave v1.seen = g.met.D.Disk.seen_may_stay c.put_through.new.disk tells in
     gate_failed c.args.base c.ranges.base.fits c.args.table.now v0 (c.requires.staged tells) v1 put.file (gate_torn _ v0 v1 c.put_through.result (c.requires.staged tells).is_on put stays)
 
 pub returns-in_err-put_through-clause-any_moment :
