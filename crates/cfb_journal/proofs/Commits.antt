@@ -1,7 +1,7 @@
 -- The commit of a table, of which some blocks are in the journal.
-use Rattle.std.proofs.Common.{◌≡◌, inr, ℕ, ◌+◌, ◌*◌, ◌^◌, ◌<◌, ◌≤◌, List, [], ◌∷◌, ◌++◌, length, drop, take, refl, sym, ◌∙◌, ap, subst, arith, length-append, Result, Ok, Err, OnOk}
+use Rattle.std.proofs.Common.{◌≡◌, inr, ℕ, ◌+◌, ◌^◌, ◌<◌, ◌≤◌, List, [], ◌∷◌, ◌++◌, length, take, refl, sym, ◌∙◌, ap, subst, arith, length-append, Result, Ok, Err, OnOk}
 use Rattle.cfb_format.specs.declared.medium.MediumFault.{MediumFault}
-use Rattle.cfb_journal.specs.Disk.{Image, View, Torn, InJournal}
+use Rattle.cfb_journal.specs.Disk.{Image, View, Torn}
 use Rattle.cfb_journal.specs.Journal.{Frame, applied, body_bytes, encoded, frames_in, frames_of, journal_of, HasStamp, IsBodyOf, LieWithin, RestoresEither}
 use Rattle.cfb_journal.specs.Overlay.{contents, framed_bytes, frames_from, frames_over, left_frames, AreLeft, HasFrames, IsTable}
 use Rattle.cfb_journal.specs.Sound.{logical}

@@ -6,7 +6,7 @@ use Rattle.std.proofs.lemmas.Bool.{cases_eq}
 use Rattle.std.proofs.lemmas.List.{get_or-set_same, get_or-set_other, drop-append-le, take-append-le, drop-drop, length-drop}
 use Rattle.std.specs.Int.{to_le_bytes, w64}
 use Rattle.cfb_format.specs.Medium.{part, written}
-use Rattle.cfb_format.proofs.ByteLemmas.{length-part, part-written_apart}
+use Rattle.cfb_format.proofs.ByteLemmas.{part-written_apart}
 use Rattle.cfb_journal.specs.Journal.{Frame, applied, encoded, frames_of, LieWithin}
 use Rattle.cfb_journal.specs.Overlay.{framed_bytes, left_frames, slot_bytes, AreLeft, AreSlots, AreWhole, HasFrames}
 use Rattle.cfb_journal.proofs.Codec.{frames_read_more}

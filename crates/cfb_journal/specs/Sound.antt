@@ -7,7 +7,7 @@ use Rattle.cfb_journal.specs.declared.medium.Phase.{Phase}
 use Rattle.cfb_journal.specs.declared.medium.Phase.TheVariants.{Quiet, Changing, Broken}
 use Rattle.cfb_journal.specs.Disk.{Image, View}
 use Rattle.cfb_journal.specs.Journal.{Frame, applied, recovered, Restores, RestoresEither}
-use Rattle.cfb_journal.specs.Overlay.{frames_over, AreBlocks, AreLeft, AreSlots, AreWhole}
+use Rattle.cfb_journal.specs.Overlay.{frames_over, AreBlocks, AreLeft, AreWhole}
 use Rattle.cfb_journal.specs.States.{IsQuiet, IsChanging}
 use Rattle.cfb_journal.specs.declared.table.Table.{Table}
 

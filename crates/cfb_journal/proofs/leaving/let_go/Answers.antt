@@ -1,10 +1,9 @@
-use Rattle.std.proofs.Common.{◌≡◌, ◌∙◌, ◌≤◌, ◌+◌, ◌*◌, ◌++◌, [], ap, sym, subst, length, arith, refl}
-use Rattle.std.proofs.Math.ListN.{set}
+use Rattle.std.proofs.Common.{◌∙◌, ◌+◌, ◌*◌, ◌++◌, [], ap, sym, subst, length, arith, refl}
 use Rattle.cfb_journal.specs.Journal.{applied}
-use Rattle.cfb_journal.specs.Overlay.{block_at, contents, frames_from, left_frames, AreBlocks}
+use Rattle.cfb_journal.specs.Overlay.{contents, frames_from, left_frames, AreBlocks}
 use Rattle.cfb_journal.proofs.Behind.{put_changing, stage_run}
 use Rattle.cfb_journal.proofs.Contents.{block_get}
-use Rattle.cfb_journal.proofs.Spilled.{gone_contents, leaves_are, leaves_low, leaves_same, stays_same}
+use Rattle.cfb_journal.proofs.Spilled.{gone_contents, leaves_are, leaves_same, stays_same}
 use Rattle.cfb_journal.proofs.Tables.{block-length, AreBlocks_set}
 use Rattle.cfb_journal.proofs.leaving.let_go.Goals as goal
 

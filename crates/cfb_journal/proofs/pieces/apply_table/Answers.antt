@@ -1,4 +1,4 @@
-use Rattle.std.proofs.Common.{◌≡◌, ◌∙◌, ◌-◌, ◌+◌, ◌≤◌, ap, sym, subst, length, take, drop, arith, List, ℕ, ◌∷◌, Ok}
+use Rattle.std.proofs.Common.{◌∙◌, ◌-◌, ap, sym, subst, length, take, drop, arith, List, ℕ, ◌∷◌, Ok}
 use Rattle.std.proofs.lemmas.List.{length-replicate}
 use Rattle.cfb_format.specs.Medium.{part}
 use Rattle.cfb_journal.specs.Disk.{Torn, InFile, IsWritten, Changes}

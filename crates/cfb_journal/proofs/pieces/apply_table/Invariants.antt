@@ -1,4 +1,4 @@
-use Rattle.std.proofs.Common.{length, ◌+◌, ◌*◌, ◌^◌, ◌≤◌, ◌≡◌, IsTrue, refl}
+use Rattle.std.proofs.Common.{length, ◌+◌, ◌*◌, ◌^◌, ◌≤◌, ◌≡◌, IsTrue}
 use Rattle.cfb_journal.specs.Overlay.{contents, frames_from, frames_over, AreBlocks}
 use Rattle.cfb_journal.proofs.Applying.{Progress}
 use Rattle.cfb_journal.proofs.Carrying.{Carries}

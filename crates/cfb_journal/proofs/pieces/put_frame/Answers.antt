@@ -1,4 +1,4 @@
-use Rattle.std.proofs.Common.{◌≡◌, ◌∙◌, [], ◌∷◌, ap, sym, List, ℕ, length}
+use Rattle.std.proofs.Common.{◌≡◌, [], ◌∷◌, ap, sym}
 use Rattle.cfb_journal.specs.Journal.{encoded}
 use Rattle.cfb_journal.specs.Overlay.{frames_from}
 use Rattle.cfb_journal.proofs.Behind.{puts_as, puts_end}

@@ -1,4 +1,4 @@
-use Rattle.std.proofs.Common.{◌≡◌, ◌≢◌, ◌∙◌, ◌≤◌, ap, length, refl, subst, sym, take, List, ℕ, arith, rules}
+use Rattle.std.proofs.Common.{◌≡◌, ◌∙◌, ap, length, refl, subst, sym, take, arith}
 use Rattle.cfb_journal.specs.declared.medium.Phase.TheVariants.{Broken, Changing}
 use Rattle.cfb_journal.specs.Journal.{Restores}
 use Rattle.cfb_journal.specs.States.{Meanwhile}
