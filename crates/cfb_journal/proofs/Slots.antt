@@ -105,6 +105,7 @@ module _ (base taken : ℕ) (slots bytes : List ℕ) (frames : List Frame) (are 
     front at n inside =
         ap (take n) (drop-append-le at bytes (encoded ((4096 * i, block) ∷ [])) (omega arith))
         ∙ take-append-le n (drop at bytes) (encoded ((4096 * i, block) ∷ [])) (omega (arith, length-drop at bytes))
+
     other_slot : (slot at offset n : ℕ) (file : List ℕ) → slot ≤ taken → offset + n ≤ 4096
         → slot_bytes slot at offset n file bytes ≡ slot_bytes slot at offset n file (bytes ++ encoded ((4096 * i, block) ∷ []))
     other_slot zero at offset n file few small = refl
@@ -216,6 +217,7 @@ module _ (base taken : ℕ) (slots journal file : List ℕ) (are : AreLeft base 
     read_inside =
         let size = bytes-length base taken slots (framed_bytes journal) (left_frames taken journal) are in
         omega (arith, are.bound (at / 4096), is, size, length-drop 42 journal, small)
+
     pub read_in_journal : part journal (42 + (4112 * k + 16 + at % 4096)) n ≡ part (applied (left_frames taken journal) file) at n
     read_in_journal =
         sym (ap (λ p. part (applied (left_frames taken journal) file) p n) (sym split)

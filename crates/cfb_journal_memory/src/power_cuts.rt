@@ -488,7 +488,8 @@ fn crashes_recovered(alloc: Global, len: usize, most: usize) -> Result<Option<u6
                 &ran.disk.journal,
                 &mut seed,
                 variant,
-            )? else {
+            )?
+            else {
                 return Ok(None);
             };
             let old = found.as_slice() == before.as_slice();
