@@ -511,12 +511,18 @@ fn a_crash_at_each_call_is_recovered(rt: HostRuntime) -> Result<(), Fail> {
 }
 
 #[test]
-fn a_crash_while_blocks_are_in_the_journal_is_recovered(rt: HostRuntime) -> Result<(), Fail> {
-    let alloc = rt.alloc();
-    let one = crashes_recovered(alloc, 12_600, 1)?.ok_or("one: not recovered")?;
-    let none = crashes_recovered(alloc, 12_600, 0)?.ok_or("none: not recovered")?;
-    println!(rt; "tried {one} and {none}")?;
-    assert!(rt; one > 0 && none > 0);
+fn a_crash_while_one_block_stays_in_memory_is_recovered(rt: HostRuntime) -> Result<(), Fail> {
+    let tried = crashes_recovered(rt.alloc(), 12_600, 1)?.ok_or("not recovered")?;
+    println!(rt; "tried {tried}")?;
+    assert!(rt; tried > 0);
+    Ok(())
+}
+
+#[test]
+fn a_crash_while_no_block_stays_in_memory_is_recovered(rt: HostRuntime) -> Result<(), Fail> {
+    let tried = crashes_recovered(rt.alloc(), 12_600, 0)?.ok_or("not recovered")?;
+    println!(rt; "tried {tried}")?;
+    assert!(rt; tried > 0);
     Ok(())
 }
 
