@@ -7,8 +7,8 @@ use Rattle.cfb_journal.specs.Journal.{head_of, journal_of, Restores}
 use Rattle.cfb_journal.specs.Stamp.{stamp_of}
 use Rattle.cfb_journal.specs.States.{KeepsGates, Leaves, Meanwhile, IsOn, PutsBehind}
 use Rattle.cfb_journal.proofs.Beginning.{HasHead, head-gate, head_kept, head_torn, on_head, restores_head}
-use Rattle.cfb_journal.proofs.Behind.{journal_more}
 use Rattle.cfb_journal.proofs.Clock.{joined, once, weaker}
+use Rattle.cfb_journal.proofs.Spilled.{journal_more}
 
 module _ {T : Type 0} (len : ℕ) (fits : len < 2 ^ 64) (file : List ℕ) (is : len ≡ length file) (one two : View) (same : one.seen.file ≡ file) (is_on : IsOn (head_of len (stamp_of file)) one) where
   gate_leaves : (result : Result T MediumFault) → Changes (InJournal (Torn 17 1)) (InJournal (IsWritten 17 (1 ∷ []))) result one two → Leaves two (HasHead len file)
@@ -32,7 +32,7 @@ module _ {T : Type 0} (len : ℕ) (fits : len < 2 ^ 64) (file : List ℕ) (is : 
 
     pub staged_at_once : (result : Result U MediumFault) → PutsBehind body result two three → OnOk result (Leaves three (λ c. c.journal ≡ three.seen.journal)) → OnOk result (IsOn (journal_of len (stamp_of file) 0 1 body) three)
     staged_at_once (Ok also) put durable =
-        let here = put.seen ∙ ap (λ (j : List ℕ). j ++ body) (gate_put done call) ∙ journal_more len (stamp_of file) body in
+        let here = put.seen ∙ ap (λ (j : List ℕ). j ++ body) (gate_put done call) ∙ journal_more len (stamp_of file) [] body in
         record {
           seen = here;
           file = λ c now. (body_leaves (Ok also) put c now).file_is ∙ sym (put.file ∙ call.seen.file ∙ same);

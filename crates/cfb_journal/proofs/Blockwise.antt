@@ -9,13 +9,8 @@ use Rattle.cfb_journal.specs.Journal.{Frame, applied, encoded, frame_head}
 use Rattle.cfb_journal.specs.Overlay.{block_at, contents, frames_from, AreBlocks}
 use Rattle.cfb_journal.specs.States.{Meanwhile, IsApplying, IsWithin}
 use Rattle.cfb_journal.proofs.Applying.{Progress, step_done, step_failed, step_run}
-use Rattle.cfb_journal.proofs.Contents.{encoded_alone, encoded_next}
-use Rattle.cfb_journal.proofs.Tables.{applied-length, block-length, frames_lie, frames_some, lie_wider}
-
--- the file with a table over it is as long
-pub table-length : (base len : ℕ) (table : List (List ℕ)) (file : List ℕ) → base ≤ len → AreBlocks base 0 table → len ≡ length file → len ≡ length (applied (frames_from 0 table) file)
-table-length base len table file ordered are is =
-    is ∙ sym (applied-length (frames_from 0 table) file (lie_wider base (length file) (frames_from 0 table) (omega (arith, is)) (frames_lie base 0 table are)))
+use Rattle.cfb_journal.proofs.Contents.{encoded_next}
+use Rattle.cfb_journal.proofs.Tables.{block-length, frames_some}
 
 frames_none : (place : ℕ) (b : List ℕ) (after : List (List ℕ)) → length b ≡ 0 → frames_from place (b ∷ after) ≡ frames_from (place + 4096) after
 frames_none place [] after none = refl
@@ -69,12 +64,11 @@ progress_all all [] place old now none so_far = so_far.leads
 progress_all all (b ∷ rest) place old now none so_far = absurd (omega arith)
 
 -- a block as a frame
-pub frame_bytes : (place : ℕ) (b : List ℕ) → 0 < length b → frame_head place (length b) ++ b ≡ encoded (frames_from place (b ∷ []))
+pub frame_whole : (place : ℕ) (b : List ℕ) → frame_head place (length b) ++ b ≡ encoded ((place, b) ∷ [])
 unfolding frame_head
-frame_bytes place b some =
+frame_whole place b =
     append_assoc (to_le_bytes w64 place) (to_le_bytes w64 (length b)) b
     ∙ ap (λ (x : List ℕ). to_le_bytes w64 place ++ (to_le_bytes w64 (length b) ++ x)) (sym (append-nil b))
-    ∙ sym (encoded_alone place b some)
 
 -- a block fits where as many bytes are asked for as it can have
 pub block_fits : (base : ℕ) (table : List (List ℕ)) (i at n : ℕ) → AreBlocks base 0 table → at ≡ i * 4096 → min 4096 (base - at) ≤ n → length (block_at i table) ≤ n

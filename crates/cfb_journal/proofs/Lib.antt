@@ -20,3 +20,7 @@ pub mod Blockwise
 pub mod LaidFrames
 pub mod Framed
 pub mod Ending
+pub mod Slots
+pub mod Spilled
+pub mod Carrying
+pub mod Commits

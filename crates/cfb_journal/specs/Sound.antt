@@ -1,15 +1,15 @@
 -- What holds of a journaled medium between its calls.
-use Rattle.std.specs.Prelude.{◌≡◌, ◌≢◌, ◌⊎◌, ◌<◌, ◌≤◌, ℕ, ◌+◌, List, [], ◌∷◌, length, take, Some, Vec}
-use Rattle.std.specs.declared.alloc.Global.{Global}
+use Rattle.std.specs.Prelude.{◌≡◌, ◌≢◌, ◌⊎◌, ◌<◌, ◌≤◌, ℕ, ◌+◌, List, [], ◌∷◌, length, take, Some}
 use Rattle.std.proofs.Props.{props}
 use Rattle.cfb_format.specs.declared.medium.MediumFault.{MediumFault}
 use Rattle.cfb_format.specs.declared.medium.MediumFault.TheVariants.{Memory as OutOfMemory}
 use Rattle.cfb_journal.specs.declared.medium.Phase.{Phase}
 use Rattle.cfb_journal.specs.declared.medium.Phase.TheVariants.{Quiet, Changing, Broken}
 use Rattle.cfb_journal.specs.Disk.{Image, View}
-use Rattle.cfb_journal.specs.Journal.{applied, recovered, Restores, RestoresEither}
-use Rattle.cfb_journal.specs.Overlay.{contents, frames_from, AreBlocks}
+use Rattle.cfb_journal.specs.Journal.{Frame, applied, recovered, Restores, RestoresEither}
+use Rattle.cfb_journal.specs.Overlay.{frames_over, AreBlocks, AreLeft, AreWhole}
 use Rattle.cfb_journal.specs.States.{IsQuiet, IsChanging}
+use Rattle.cfb_journal.specs.declared.table.Table.{Table}
 
 -- how far the change has come on the disk, as the medium knows it
 pub record IsSound (phase : Phase) (base len : ℕ) (v : View) : Type 0 where
@@ -36,9 +36,16 @@ pub AreBlocks-prop : (base at : ℕ) (table : List (List ℕ)) → IsProp (AreBl
 AreBlocks-prop base at [] = hlevel props
 AreBlocks-prop base at (b ∷ rest) = hlevel (props, AreBlocks-prop base (at + 4096) rest)
 
--- the bytes that were written, in the file or not
-abbrev pub logical : List (Vec ℕ Global) → List ℕ → List ℕ
-logical blocks file = applied (frames_from 0 (contents blocks)) file
+AreWhole-prop : (base reach : ℕ) (frames : List Frame) → IsProp (AreWhole base reach frames)
+AreWhole-prop base reach [] = hlevel props
+AreWhole-prop base reach (frame ∷ rest) = hlevel (props, AreWhole-prop base reach rest)
+
+pub AreLeft-prop : (base taken : ℕ) (slots journal : List ℕ) → IsProp (AreLeft base taken slots journal)
+AreLeft-prop base taken slots journal = hlevel (props, AreWhole-prop)
+
+-- the bytes that were written: those of the file, and over them those that are in the journal or in memory
+abbrev pub logical : Table → Image → List ℕ
+logical table seen = applied (frames_over table seen.journal) seen.file
 
 -- why a call failed: the disk failed meanwhile, or memory was refused
 abbrev pub HasCause : MediumFault → ℕ → View → Type 0

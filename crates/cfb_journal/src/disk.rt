@@ -56,7 +56,13 @@ pub trait Disk: Drop {
         ensures honest { IsTrue tells → OnlyLooks result (view self.old) (view self.new) }
         ensures bytes { IsTrue tells → IfOk result (λ bytes. bytes.items ≡ (view self.old).seen.journal) };
 
-    /// Writes over what is in the journal, and past its end.
+    /// Reads from `at` on, as many bytes as `into` has room for, of the journal.
+    fn read_journal_at(&mut self, at: u64, into: &mut [u8]) -> Result<(), MediumFault>
+        ensures honest { IsTrue tells → OnlyLooks result (view self.old) (view self.new) }
+        ensures bytes { IsTrue tells → at + length into.old ≤ length (view self.old).seen.journal
+            → OnOk result (into.new ≡ part (view self.old).seen.journal at (length into.old)) };
+
+    /// Writes over what is in the journal, and past its end; a gap before it is filled with zeros.
     fn write_journal(&mut self, at: u64, from: &[u8]) -> Result<(), MediumFault>
         ensures honest { IsTrue tells → Changes (InJournal (Torn at (length from.now)))
             (InJournal (IsWritten at from.now)) result (view self.old) (view self.new) };

@@ -4,6 +4,7 @@
 pub mod disk;
 mod frames;
 mod laying;
+mod leaving;
 pub mod looking;
 pub mod medium;
 mod overlay;
@@ -11,4 +12,5 @@ mod pieces;
 pub mod recovery;
 mod stages;
 mod stamps;
+mod table;
 pub mod transaction;

@@ -2,18 +2,23 @@
 ghost use Rattle.std.specs.Prelude.{◌≡◌, ◌+◌, ◌*◌, ◌^◌, ◌≤◌, ◌<◌, ◌∷◌, ◌++◌, [], length, IsTrue, IfOk, OnOk};
 ghost use Rattle.cfb_journal.specs.Disk.{CountsFault};
 ghost use Rattle.cfb_journal.specs.Journal.{applied, encoded, frame_head, front_of};
-ghost use Rattle.cfb_journal.specs.Overlay.{contents, frames_from, AreBlocks};
-ghost use Rattle.cfb_journal.specs.States.{IsApplying, IsOn, IsWithin, Meanwhile, PutsBehind};
+ghost use Rattle.cfb_journal.specs.Overlay.{contents, frames_from, frames_over, AreBlocks, HasFrames};
+ghost use Rattle.cfb_journal.specs.States.{IsApplying, IsOn, IsWithin, Meanwhile, PutsAt, PutsBehind};
 
 use crate::disk::Disk;
+use crate::frames::u64_at;
 use crate::overlay::BLOCK;
+use crate::table::Table;
 use cfb_format::medium::MediumFault;
 
 /// How many bytes a frame has before those of its block.
-const HEAD: usize = 16;
+pub(crate) const HEAD: usize = 16;
+
+/// How many bytes a frame has, if its block is not short.
+pub(crate) const FRAME: usize = HEAD + BLOCK;
 
 /// Where the first frame stands in the journal.
-const FIRST: u64 = 42;
+pub(crate) const FIRST: u64 = 42;
 
 /// What stands before the frames of a body.
 #[tactic(auto, unfolding(crate::specs::Journal::front_of))]
@@ -27,11 +32,10 @@ pub(crate) fn front(len: u64, stamp: u64, count: u64) -> [u8; 24]
     ]
 }
 
-/// Puts bytes at the journal's end, behind its gates.
+/// Puts bytes into the journal, behind its gates.
 pub(crate) fn put_behind<D: Disk>(disk: &mut D, at: u64, from: &[u8]) -> Result<(), MediumFault>
     requires behind { 18 ≤ at }
-    requires end { IsTrue D.tells → at ≡ length (D.view disk.old).seen.journal }
-    ensures { IsTrue D.tells → PutsBehind from.now result (D.view disk.old) (D.view disk.new) }
+    ensures { IsTrue D.tells → PutsAt at from.now result (D.view disk.old) (D.view disk.new) }
 {
     disk.write_journal(at, from)
 }
@@ -57,10 +61,27 @@ fn head(place: u64, len: u64) -> [u8; HEAD]
     ]
 }
 
+/// Puts a block into the journal, as a frame behind its gates.
+pub(crate) fn write_frame<D: Disk>(
+    disk: &mut D,
+    at: u64,
+    place: u64,
+    block: &[u8],
+) -> Result<(), MediumFault>
+    requires behind { 18 ≤ at }
+    requires small { length block.now ≤ 4096 }
+    ensures { IsTrue D.tells → PutsAt at (encoded ((place, block.now) ∷ [])) result (D.view disk.old) (D.view disk.new) }
+{
+    let mut bytes = [0; FRAME];
+    let frame = &mut bytes[..HEAD + block.len()];
+    join(frame, &head(place, block.len() as u64), block);
+    put_behind(disk, at, frame)
+}
+
 /// Puts a block at the journal's end, as a frame, if it was touched. At `Ok`, where the next one goes.
 fn put_frame<D: Disk>(disk: &mut D, at: u64, place: u64, block: &[u8]) -> Result<u64, MediumFault>
     requires behind { 18 ≤ at }
-    requires room { at ≤ 2 ^ 63 + 2 ^ 62 }
+    requires room { at ≤ 2 ^ 63 + 2 ^ 62 + 2 ^ 61 }
     requires small { length block.now ≤ 4096 }
     requires end { IsTrue D.tells → at ≡ length (D.view disk.old).seen.journal }
     ensures next { IfOk result (λ n. n ≡ at + length (encoded (frames_from place (block.now ∷ [])))) }
@@ -70,25 +91,25 @@ fn put_frame<D: Disk>(disk: &mut D, at: u64, place: u64, block: &[u8]) -> Result
     if block.is_empty() {
         return Ok(at);
     }
-    let mut bytes = [0; HEAD + BLOCK];
-    let frame = &mut bytes[..HEAD + block.len()];
-    join(frame, &head(place, block.len() as u64), block);
-    put_behind(disk, at, frame)?;
-    Ok(at + frame.len() as u64)
+    write_frame(disk, at, place, block)?;
+    Ok(at + (HEAD + block.len()) as u64)
 }
 
 /// Puts the blocks that were touched at the journal's end, as frames.
 pub(crate) fn put_blocks<D: Disk>(
     disk: &mut D,
     base: u64,
+    first: u64,
     blocks: &[Vec<u8>],
 ) -> Result<(), MediumFault>
+    requires behind { 18 ≤ first }
+    requires room { first ≤ 2 ^ 62 + 2 ^ 60 }
     requires few { 4096 * length blocks.now ≤ 2 ^ 63 }
     requires fits { AreBlocks base 0 (contents blocks.now) }
-    requires end { IsTrue D.tells → length (D.view disk.old).seen.journal ≡ 42 }
+    requires end { IsTrue D.tells → first ≡ length (D.view disk.old).seen.journal }
     ensures { IsTrue D.tells → PutsBehind (encoded (frames_from 0 (contents blocks.now))) result (D.view disk.old) (D.view disk.new) }
 {
-    let mut at = FIRST;
+    let mut at = first;
     let mut place = 0;
     let mut rest = blocks;
     while let [block, after @ ..] = rest {
@@ -99,27 +120,37 @@ pub(crate) fn put_blocks<D: Disk>(
     Ok(())
 }
 
-/// Writes the blocks that were touched into the compound file. A crash meanwhile leaves it as it was wherever no
-/// block goes.
-pub(crate) fn apply_blocks<D: Disk>(
+/// Writes the blocks that left into the compound file, and then those in memory. A crash meanwhile leaves it as it was
+/// wherever no block goes.
+pub(crate) fn apply_table<D: Disk>(
     disk: &mut D,
     base: u64,
-    blocks: &[Vec<u8>],
+    table: &Table,
 ) -> Result<(), MediumFault>
-    requires few { 4096 * length blocks.now ≤ 2 ^ 63 }
-    requires fits { AreBlocks base 0 (contents blocks.now) }
+    requires few { 4096 * length table.now.blocks.items ≤ 2 ^ 63 }
+    requires fits { AreBlocks base 0 (contents table.now.blocks.items) }
+    requires left { IsTrue D.tells → HasFrames base (length table.now.slots.items) table.now.taken (D.view disk.old).seen.journal }
     requires within { IsTrue D.tells → base ≤ length (D.view disk.old).seen.file }
     requires on { IsTrue D.tells → IsOn (D.view disk.old).seen.journal (D.view disk.old) }
     ensures applied { IsTrue D.tells → OnOk result ((D.view disk.new).seen.file
-        ≡ applied (frames_from 0 (contents blocks.now)) (D.view disk.old).seen.file) }
-    ensures within { IsTrue D.tells → IsApplying (frames_from 0 (contents blocks.now))
+        ≡ applied (frames_over table.now (D.view disk.old).seen.journal) (D.view disk.old).seen.file) }
+    ensures within { IsTrue D.tells → IsApplying (frames_over table.now (D.view disk.old).seen.journal)
         (D.view disk.old).seen.file (D.view disk.old).seen.journal (D.view disk.new) }
     ensures any_moment { IsTrue D.tells → Meanwhile (D.view disk.old) (D.view disk.new)
-        (IsWithin (frames_from 0 (contents blocks.now)) (D.view disk.old).seen.file (D.view disk.old).seen.journal) }
+        (IsWithin (frames_over table.now (D.view disk.old).seen.journal) (D.view disk.old).seen.file (D.view disk.old).seen.journal) }
     ensures cause { IsTrue D.tells → CountsFault result (D.view disk.old).faults (D.view disk.new).faults }
 {
+    let mut frame = [0; FRAME];
+    let mut at = FIRST;
+    let mut left = table.taken;
+    while left > 0 {
+        disk.read_journal_at(at, &mut frame)?;
+        disk.write_file(u64_at(&frame, 0), &frame[HEAD..])?;
+        at += FRAME as u64;
+        left -= 1;
+    }
     let mut place = 0;
-    let mut rest = blocks;
+    let mut rest = table.blocks.as_slice();
     while let [block, after @ ..] = rest {
         let bytes = block.as_slice();
         if !bytes.is_empty() {

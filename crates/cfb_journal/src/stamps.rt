@@ -3,13 +3,15 @@ ghost use Rattle.std.specs.Prelude.{◌≡◌, ◌+◌, ◌%◌, ◌^◌, ◌<�
 ghost use Rattle.cfb_format.specs.Medium.{part, FailsBy};
 ghost use Rattle.cfb_journal.specs.Disk.{CountsFault, OnlyLooks};
 ghost use Rattle.cfb_journal.specs.Journal.{applied, are_whole, frames_of};
-ghost use Rattle.cfb_journal.specs.Overlay.{contents, frames_from, AreBlocks};
+ghost use Rattle.cfb_journal.specs.Overlay.{contents, AreBlocks, AreLeft};
+ghost use Rattle.cfb_journal.specs.Sound.{logical};
 ghost use Rattle.cfb_journal.specs.Stamp.{stamp_of, step_of, summed};
 ghost use Rattle.cfb_journal.specs.States.{Looks};
 
 use crate::disk::Disk;
 use crate::laying::lay_frames;
 use crate::overlay::read_with;
+use crate::table::Table;
 use cfb_format::medium::{MediumFault, ReadMedium};
 use cfb_format::transfer::read_exact_at;
 
@@ -103,13 +105,14 @@ pub(crate) fn stamp_with<D: Disk>(
     disk: &mut D,
     base: u64,
     len: u64,
-    blocks: &[Vec<u8>],
+    table: &Table,
 ) -> Result<u64, MediumFault>
     requires ordered { base ≤ len }
-    requires fits { AreBlocks base 0 (contents blocks.now) }
+    requires fits { AreBlocks base 0 (contents table.now.blocks.items) }
+    requires left { IsTrue D.tells → AreLeft base table.now.taken table.now.slots.items (D.view disk.old).seen.journal }
     requires sized { IsTrue D.tells → len ≡ length (D.view disk.old).seen.file }
     ensures stamp { IsTrue D.tells → IfOk result (λ n. n
-        ≡ stamp_of (applied (frames_from 0 (contents blocks.now)) (D.view disk.old).seen.file)) }
+        ≡ stamp_of (logical table.now (D.view disk.old).seen)) }
     ensures looks { IsTrue D.tells → Looks (D.view disk.old) (D.view disk.new) }
     ensures cause { IsTrue D.tells → CountsFault result (D.view disk.old).faults (D.view disk.new).faults }
 {
@@ -121,7 +124,7 @@ pub(crate) fn stamp_with<D: Disk>(
     while left > 0 && at < len {
         let size = (len - at).min(BLOCK) as usize;
         let piece = &mut bytes[..size];
-        read_with(disk, base, blocks, at, piece)?;
+        read_with(disk, base, table, at, piece)?;
         sum = summed(sum, piece);
         at += step.min(len - at);
         left -= 1;

@@ -32,7 +32,7 @@ impl<D: Disk> Transaction<D> {
     pub fn begin(alloc: Global, disk: D) -> Result<Transaction<D>, RecoveryError>
         requires opened { IsTrue D.tells → IsOpened D.opened (D.view disk) }
         ensures found { IsTrue D.tells → IfOk result (λ t. recovered D.opened.seen
-            ≡ Some (logical t.medium.blocks.items (D.view t.medium.disk).seen.file)) }
+            ≡ Some (logical t.medium.table (D.view t.medium.disk).seen)) }
         ensures damaged { IsTrue D.tells → IsErrOf result Damaged → recovered D.opened.seen ≡ None }
         ensures foreign { IsTrue D.tells → IsErrOf result Foreign → IsForeign D.opened.seen }
     {
@@ -50,7 +50,7 @@ impl<D: Disk> Transaction<D> {
     pub fn begin_on(alloc: Global, disk: D) -> Result<Transaction<D>, NotOpened<D>>
         requires opened { IsTrue D.tells → IsOpened D.opened (D.view disk) }
         ensures found { IsTrue D.tells → IfOk result (λ t. recovered D.opened.seen
-            ≡ Some (logical t.medium.blocks.items (D.view t.medium.disk).seen.file)) }
+            ≡ Some (logical t.medium.table (D.view t.medium.disk).seen)) }
         ensures not_begun { IsTrue D.tells → IfErr result (λ r. IsNotBegun r.error D.opened (D.view r.disk)) }
     {
         match JournaledMedium::open_first(alloc, disk) {
@@ -68,10 +68,10 @@ impl<D: Disk> Transaction<D> {
     /// Those of the disk; `Memory`, which lets the change go as `roll_back` does.
     pub fn commit(self) -> (Result<(), MediumFault>, D)
         ensures committed { IsTrue D.tells → OnOk result.0 ((D.view result.1).seen.file
-            ≡ logical self.medium.blocks.items (D.view self.medium.disk).seen.file) }
+            ≡ logical self.medium.table (D.view self.medium.disk).seen) }
         ensures durable { IsTrue D.tells → OnOk result.0 (IsQuiet (D.view result.1)) }
         ensures all_or_nothing { IsTrue D.tells → IsAllOrNothing D.opened
-            (logical self.medium.blocks.items (D.view self.medium.disk).seen.file) (D.view result.1) }
+            (logical self.medium.table (D.view self.medium.disk).seen) (D.view result.1) }
         ensures cause { IsTrue D.tells → IfErr result.0 (λ fault. IsNotCommitted D.opened fault (D.view result.1)) }
     {
         let Transaction { medium } = self;
@@ -94,7 +94,7 @@ impl<D: Disk> Transaction<D> {
 impl<D: Disk> ReadMedium for Transaction<D> {
     ghost tells = { D.tells };
 
-    ghost bytes = { λ t. logical t.medium.blocks.items (D.view t.medium.disk).seen.file };
+    ghost bytes = { λ t. logical t.medium.table (D.view t.medium.disk).seen };
 
     ghost failures = { λ t. t.medium.failures };
 
@@ -106,10 +106,10 @@ impl<D: Disk> ReadMedium for Transaction<D> {
 
     fn read_at(&mut self, at: u64, into: &mut [u8]) -> Result<usize, MediumFault>
         ensures bound { IfOk result (λ n. n ≤ length into.new) }
-        ensures same { IsTrue D.tells → logical self.new.medium.blocks.items (D.view self.new.medium.disk).seen.file
-            ≡ logical self.old.medium.blocks.items (D.view self.old.medium.disk).seen.file }
+        ensures same { IsTrue D.tells → logical self.new.medium.table (D.view self.new.medium.disk).seen
+            ≡ logical self.old.medium.table (D.view self.old.medium.disk).seen }
         ensures honest { IsTrue D.tells → MatchResult result (ReadsAt (λ _. true)
-            (logical self.old.medium.blocks.items (D.view self.old.medium.disk).seen.file)
+            (logical self.old.medium.table (D.view self.old.medium.disk).seen)
             self.old.medium.failures self.new.medium.failures at into.new)
             (FailsBy (λ _. true) self.old.medium.failures self.new.medium.failures) }
         ensures cause { IsTrue D.tells → IfErr result (λ fault. HasCause fault D.opened.faults (D.view self.new.medium.disk)) }
@@ -124,12 +124,12 @@ impl<D: Disk> Medium for Transaction<D> {
     fn write_at(&mut self, at: u64, from: &[u8]) -> Result<usize, MediumFault>
         ensures bound { IfOk result (λ n. n ≤ length from.now) }
         ensures honest { IsTrue D.tells → MatchResult result (WritesAt (λ _. true)
-            (logical self.old.medium.blocks.items (D.view self.old.medium.disk).seen.file)
-            (logical self.new.medium.blocks.items (D.view self.new.medium.disk).seen.file)
+            (logical self.old.medium.table (D.view self.old.medium.disk).seen)
+            (logical self.new.medium.table (D.view self.new.medium.disk).seen)
             self.old.medium.failures self.new.medium.failures at from.now)
             (FailsToWriteAt (λ _. true)
-            (logical self.old.medium.blocks.items (D.view self.old.medium.disk).seen.file)
-            (logical self.new.medium.blocks.items (D.view self.new.medium.disk).seen.file)
+            (logical self.old.medium.table (D.view self.old.medium.disk).seen)
+            (logical self.new.medium.table (D.view self.new.medium.disk).seen)
             self.old.medium.failures self.new.medium.failures at from.now) }
         ensures cause { IsTrue D.tells → IfErr result (λ fault. HasCause fault D.opened.faults (D.view self.new.medium.disk)
             ⊎ (2 ^ 62 < at + length from.now)) }

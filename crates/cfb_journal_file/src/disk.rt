@@ -171,6 +171,13 @@ impl FileDisk {
         Ok(bytes)
     }
 
+    fn journal_part(&self, at: u64, into: &mut [u8]) -> io::Result<()> {
+        match &self.journal {
+            Some(journal) => journal.read_exact_at(into, at),
+            None => Err(io::Error::from(ErrorKind::InvalidInput)),
+        }
+    }
+
     fn emptied_journal(&mut self) -> io::Result<()> {
         if let Some(journal) = &self.journal {
             journal.set_len(0)?;
@@ -283,6 +290,11 @@ impl Disk for FileDisk {
 
     fn read_journal(&mut self, alloc: Global) -> Result<Vec<u8>, MediumFault> {
         let read = self.journal_bytes(alloc);
+        self.noted(read, MediumFault::Read)
+    }
+
+    fn read_journal_at(&mut self, at: u64, into: &mut [u8]) -> Result<(), MediumFault> {
+        let read = self.journal_part(at, into);
         self.noted(read, MediumFault::Read)
     }
 

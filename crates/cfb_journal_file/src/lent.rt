@@ -59,6 +59,10 @@ impl Disk for LentDisk<'_> {
         self.0.read_journal(alloc)
     }
 
+    fn read_journal_at(&mut self, at: u64, into: &mut [u8]) -> Result<(), MediumFault> {
+        self.0.read_journal_at(at, into)
+    }
+
     fn write_journal(&mut self, at: u64, from: &[u8]) -> Result<(), MediumFault> {
         self.0.write_journal(at, from)
     }

@@ -172,6 +172,25 @@ impl Disk for MemoryDisk {
 
     /// # Errors
     ///
+    /// `Read` if the journal ends before.
+    fn read_journal_at(&mut self, at: u64, into: &mut [u8]) -> Result<(), MediumFault>
+        ensures honest { OnlyLooks result (shown self.old) (shown self.new) }
+        ensures as_before { LeavesAsBefore (shown self.old) (shown self.new) }
+        ensures bytes { at + length into.old ≤ length (shown self.old).seen.journal
+            → IsOk result × (into.new ≡ part (shown self.old).seen.journal at (length into.old)) }
+    {
+        let len = self.journal.len();
+        if at > len as u64 || into.len() > len - at as usize {
+            self.past.note(&[FAILED, 0], &[]);
+            return Err(MediumFault::Read);
+        }
+        let at = at as usize;
+        into.copy_from_slice(&self.journal[at..at + into.len()]);
+        Ok(())
+    }
+
+    /// # Errors
+    ///
     /// `Memory`: then a read returns what it returned before.
     fn write_journal(&mut self, at: u64, from: &[u8]) -> Result<(), MediumFault>
         ensures honest { Changes (InJournal (Torn at (length from.now)))

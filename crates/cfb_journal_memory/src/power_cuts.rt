@@ -190,6 +190,19 @@ impl Disk for Sim {
             .map_err(|_| MediumFault::Memory)
     }
 
+    fn read_journal_at(&mut self, at: u64, into: &mut [u8]) -> Result<(), MediumFault> {
+        if !self.step() {
+            return Err(MediumFault::Read);
+        }
+        let len = self.journal.bytes.len();
+        if at > len as u64 || into.len() > len - at as usize {
+            return Err(MediumFault::Read);
+        }
+        let at = at as usize;
+        into.copy_from_slice(&self.journal.bytes[at..at + into.len()]);
+        Ok(())
+    }
+
     fn write_journal(&mut self, at: u64, from: &[u8]) -> Result<(), MediumFault> {
         if !self.step() {
             return Err(MediumFault::Write);
@@ -215,7 +228,7 @@ impl Disk for Sim {
 /// A write of so many bytes at a place, or a flush where there are none.
 type Op = (u64, usize);
 
-const SCRIPT: [Op; 11] = [
+const SCRIPT: [Op; 12] = [
     (5, 3),
     (4090, 20),
     (4190, 100),
@@ -226,6 +239,7 @@ const SCRIPT: [Op; 11] = [
     (0, 0),
     (4412, 9),
     (4421, 1),
+    (12_590, 30),
     (0, 0),
 ];
 
@@ -325,6 +339,16 @@ fn calls_to_open(alloc: Global, start: &[u8]) -> Result<Option<u64>, AllocError>
 
 /// Plays the script on a disk that stops after so many calls behind those that open it.
 fn make_run(alloc: Global, start: &[u8], calls: u64) -> Result<Option<Run>, AllocError> {
+    make_run_with(alloc, start, calls, usize::MAX)
+}
+
+/// The same, while no more than so many blocks stay in memory.
+fn make_run_with(
+    alloc: Global,
+    start: &[u8],
+    calls: u64,
+    most: usize,
+) -> Result<Option<Run>, AllocError> {
     let Some(opening) = calls_to_open(alloc, start)? else {
         return Ok(None);
     };
@@ -332,6 +356,7 @@ fn make_run(alloc: Global, start: &[u8], calls: u64) -> Result<Option<Run>, Allo
     let Ok(mut medium) = JournaledMedium::open(alloc, disk) else {
         return Ok(None);
     };
+    medium.keep_in_memory(most);
     let mut flushes = 0usize;
     let mut model = start.to_vec(alloc)?;
     let mut seed = 1_u64;
@@ -430,11 +455,15 @@ fn a_whole_run_is_what_was_written(rt: HostRuntime) -> Result<(), Fail> {
     Ok(())
 }
 
-#[test]
-fn a_crash_at_each_call_is_recovered(rt: HostRuntime) -> Result<(), Fail> {
-    let alloc = rt.alloc();
-    let start = numbered(alloc, 4200, 7)?;
-    let whole = make_run(alloc, &start, u64::MAX)?.ok_or("not opened")?;
+/// How many crashes were tried, if each was recovered, while no more than so many blocks stay in memory.
+fn crashes_recovered(alloc: Global, len: usize, most: usize) -> Result<Option<u64>, AllocError> {
+    let start = numbered(alloc, len, 7)?;
+    let Some(whole) = make_run_with(alloc, &start, u64::MAX, most)? else {
+        return Ok(None);
+    };
+    if !whole.right {
+        return Ok(None);
+    }
     let states = [
         state(alloc, &start, 0)?,
         state(alloc, &start, 1)?,
@@ -444,27 +473,56 @@ fn a_crash_at_each_call_is_recovered(rt: HostRuntime) -> Result<(), Fail> {
     let mut seed = 99;
     let mut tried = 0u64;
     for calls in 0..whole.calls.saturating_add(1) {
-        let ran = make_run(alloc, &start, calls)?.ok_or("not opened")?;
+        let Some(ran) = make_run_with(alloc, &start, calls, most)? else {
+            return Ok(None);
+        };
         if ran.flushes >= 3 {
             break;
         }
         let before = &states[ran.flushes];
         let after = &states[ran.flushes + 1];
         for variant in 0..4u64 {
-            let found = recovered(
+            let Some(found) = recovered(
                 alloc,
                 &ran.disk.file,
                 &ran.disk.journal,
                 &mut seed,
                 variant,
-            )?.ok_or("damaged")?;
+            )?
+            else {
+                return Ok(None);
+            };
             let old = found.as_slice() == before.as_slice();
             let new = ran.stopped_in_flush && found.as_slice() == after.as_slice();
-            assert!(rt; old || new, "calls {calls}, variant {variant}");
+            if !(old || new) {
+                return Ok(None);
+            }
             tried = tried.saturating_add(1);
         }
     }
+    Ok(Some(tried))
+}
+
+#[test]
+fn a_crash_at_each_call_is_recovered(rt: HostRuntime) -> Result<(), Fail> {
+    let tried = crashes_recovered(rt.alloc(), 4200, usize::MAX)?.ok_or("not recovered")?;
     println!(rt; "tried {tried}")?;
+    Ok(())
+}
+
+#[test]
+fn a_crash_while_one_block_stays_in_memory_is_recovered(rt: HostRuntime) -> Result<(), Fail> {
+    let tried = crashes_recovered(rt.alloc(), 12_600, 1)?.ok_or("not recovered")?;
+    println!(rt; "tried {tried}")?;
+    assert!(rt; tried > 0);
+    Ok(())
+}
+
+#[test]
+fn a_crash_while_no_block_stays_in_memory_is_recovered(rt: HostRuntime) -> Result<(), Fail> {
+    let tried = crashes_recovered(rt.alloc(), 12_600, 0)?.ok_or("not recovered")?;
+    println!(rt; "tried {tried}")?;
+    assert!(rt; tried > 0);
     Ok(())
 }
 
@@ -530,5 +588,34 @@ fn a_journal_of_another_file_is_refused(rt: HostRuntime) -> Result<(), Fail> {
     let whole = make_run(alloc, &start, u64::MAX)?.ok_or("not opened")?;
     let refused = refused_journals(alloc, &start, whole.calls)?.ok_or("not refused")?;
     assert!(rt; refused > 0);
+    Ok(())
+}
+
+#[test]
+fn many_blocks_are_read_as_they_were_written(rt: HostRuntime) -> Result<(), Fail> {
+    let alloc = rt.alloc();
+    let mut model = numbered(alloc, 30_001, 3)?;
+    let disk = new_disk(alloc, &model, u64::MAX)?;
+    let mut medium = JournaledMedium::open(alloc, disk).ok().ok_or("not opened")?;
+    medium.keep_in_memory(2);
+    let mut seed = 5_u64;
+    for turn in 0..60_u64 {
+        let at = next(&mut seed) % 31_000;
+        let len = (next(&mut seed) % 5_000) as usize + 1;
+        if at > model.len() as u64 {
+            continue;
+        }
+        let bytes = numbered(alloc, len, seed)?;
+        assert!(rt; write_all(&mut medium, at, &bytes), "turn {turn}");
+        put_at(&mut model, at as usize, &bytes)?;
+        assert!(rt; is_read(alloc, &mut medium, &model)?, "turn {turn}");
+        if turn % 16 == 15 {
+            assert!(rt; medium.flush().is_ok(), "turn {turn}");
+        }
+    }
+    assert!(rt; medium.flush().is_ok());
+    let disk = medium.into_disk();
+    assert_eq!(rt; disk.file.bytes.as_slice(), model.as_slice());
+    assert!(rt; disk.journal.bytes.is_empty());
     Ok(())
 }

@@ -9,11 +9,11 @@ use Rattle.cfb_journal.proofs.pieces.put_blocks.Goals as goal
 pub loop-rest-init : goal.loop-rest-init
 loop-rest-init g c =
     record {
-      behind = omega arith;
+      behind = c.requires.behind;
       room = omega arith;
       few = omega (arith, c.requires.few);
       fits = c.requires.fits;
-      honest = λ tells. reaches_none (encoded (frames_from 0 (contents c.args.blocks.now))) 42 (g.D.Disk.view c.args.disk.now) (sym (c.requires.end tells));
+      honest = λ tells. reaches_none (encoded (frames_from 0 (contents c.args.blocks.now))) c.args.first (g.D.Disk.view c.args.disk.now) (c.requires.end tells);
     }
 
 pub put_frame-requires-clause-small : goal.put_frame-requires-clause-small

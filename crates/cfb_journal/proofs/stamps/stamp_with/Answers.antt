@@ -1,11 +1,11 @@
-use Rattle.std.proofs.Common.{◌≡◌, ◌∙◌, ◌+◌, ap, sym, refl, length, length-take, ◌-◌, take, arith}
+use Rattle.std.proofs.Common.{◌≡◌, ◌∙◌, ◌+◌, ap, sym, subst, refl, length, length-take, ◌-◌, take, arith}
 use Rattle.cfb_format.specs.Medium.{part}
 use Rattle.cfb_journal.specs.Disk.{Image}
-use Rattle.cfb_journal.specs.Journal.{applied}
-use Rattle.cfb_journal.specs.Overlay.{contents, frames_from}
+use Rattle.cfb_journal.specs.Overlay.{AreLeft}
+use Rattle.cfb_journal.specs.Sound.{logical}
 use Rattle.cfb_journal.specs.Stamp.{summed_over}
-use Rattle.cfb_journal.proofs.Blockwise.{table-length}
 use Rattle.cfb_journal.proofs.Clock.{looks_none, looks_more}
+use Rattle.cfb_journal.proofs.Spilled.{over-length}
 use Rattle.cfb_journal.proofs.StampLemmas.{over_first, over_next, over_all}
 use Rattle.cfb_journal.proofs.stamps.stamp_with.Goals as goal
 
@@ -15,10 +15,9 @@ loop-left-init g c =
       inside = omega arith;
       aligned = λ _. refl;
       sum = λ tells.
-          let was = (g.D.Disk.view c.args.disk.now).seen.file in
-          let table = contents c.args.blocks.now in
-          over_first (applied (frames_from 0 table) was) c.args.len c.step-step.result
-          (table-length c.args.base c.args.len table was c.requires.ordered c.requires.fits (c.requires.sized tells)) c.step-step.ensures.is;
+          let was = (g.D.Disk.view c.args.disk.now).seen in
+          over_first (logical c.args.table.now was) c.args.len c.step-step.result
+          (over-length c.args.base c.args.len c.args.table.now was c.requires.fits (c.requires.left tells) c.requires.ordered (c.requires.sized tells)) c.step-step.ensures.is;
       looks = λ tells. looks_none (g.D.Disk.view c.args.disk.now);
       calm = λ tells. refl;
     }
@@ -29,13 +28,12 @@ loop-left-preserved g c =
       inside = omega (arith, c.min-at.ensures, c.if-at-len.true);
       aligned = λ more. omega (arith, c.min-at.ensures, c.if-at-len.true, c.loop-left.invariant.aligned c.if-at-len.true, c.step-step.ensures.blocks, more);
       sum = λ tells.
-          let was = (g.D.Disk.view c.args.disk.now).seen.file in
-          let table = contents c.args.blocks.now in
-          let file = applied (frames_from 0 table) was in
-          let is = table-length c.args.base c.args.len table was c.requires.ordered c.requires.fits (c.requires.sized tells) in
+          let was = (g.D.Disk.view c.args.disk.now).seen in
+          let file = logical c.args.table.now was in
+          let is = over-length c.args.base c.args.len c.args.table.now was c.requires.fits (c.requires.left tells) c.requires.ordered (c.requires.sized tells) in
           let size : length (take c.min-size.result c.loop-left.bytes) ≡ c.min-size.result = omega (arith, length-take c.min-size.result c.loop-left.bytes, c.min-size.array_long, c.min-size.ensures) in
           let read = c.in_ok-read_with.ensures.part tells
-          ∙ ap (λ (i : Image). part (applied (frames_from 0 table) i.file) c.loop-left.at (length (take c.min-size.result c.loop-left.bytes))) (c.loop-left.invariant.looks tells).seen
+          ∙ ap (λ (i : Image). part (logical c.args.table.now i) c.loop-left.at (length (take c.min-size.result c.loop-left.bytes))) (c.loop-left.invariant.looks tells).seen
           ∙ ap (part file c.loop-left.at) size in
           ap (λ k. summed_over (c.loop-left.left - 1) c.step-step.result (c.loop-left.at + k) file c.summed-sum.result) c.min-at.ensures
           ∙ over_next c.loop-left.left c.step-step.result c.loop-left.at c.args.len c.min-size.result file c.loop-left.sum c.summed-sum.result _ (omega (arith, c.loop-left-test.true)) is c.if-at-len.true
@@ -47,16 +45,19 @@ loop-left-preserved g c =
 
 pub returns-else-at-len-clause-stamp : goal.returns-else-at-len-clause-stamp
 returns-else-at-len-clause-stamp g c tells =
-    let was = (g.D.Disk.view c.args.disk.now).seen.file in
-    let table = contents c.args.blocks.now in
-    let is = table-length c.args.base c.args.len table was c.requires.ordered c.requires.fits (c.requires.sized tells) in
-    sym (over_all c.loop-left.left c.step-step.result c.loop-left.at c.args.len (applied (frames_from 0 table) was) c.loop-left.sum is (λ some inside. omega (arith, c.if-at-len.false, inside)))
+    let was = (g.D.Disk.view c.args.disk.now).seen in
+    let is = over-length c.args.base c.args.len c.args.table.now was c.requires.fits (c.requires.left tells) c.requires.ordered (c.requires.sized tells) in
+    sym (over_all c.loop-left.left c.step-step.result c.loop-left.at c.args.len (logical c.args.table.now was) c.loop-left.sum is (λ some inside. omega (arith, c.if-at-len.false, inside)))
     ∙ c.loop-left.invariant.sum tells
 
 pub returns-after-loop-left-clause-stamp : goal.returns-after-loop-left-clause-stamp
 returns-after-loop-left-clause-stamp g c tells =
-    let was = (g.D.Disk.view c.args.disk.now).seen.file in
-    let table = contents c.args.blocks.now in
-    let is = table-length c.args.base c.args.len table was c.requires.ordered c.requires.fits (c.requires.sized tells) in
-    sym (over_all c.loop-left.left c.step-step.result c.loop-left.at c.args.len (applied (frames_from 0 table) was) c.loop-left.sum is (λ some inside. omega (arith, c.loop-left-test.false, some)))
+    let was = (g.D.Disk.view c.args.disk.now).seen in
+    let is = over-length c.args.base c.args.len c.args.table.now was c.requires.fits (c.requires.left tells) c.requires.ordered (c.requires.sized tells) in
+    sym (over_all c.loop-left.left c.step-step.result c.loop-left.at c.args.len (logical c.args.table.now was) c.loop-left.sum is (λ some inside. omega (arith, c.loop-left-test.false, some)))
     ∙ c.loop-left.invariant.sum tells
+
+pub read_with-requires-clause-left : goal.read_with-requires-clause-left
+read_with-requires-clause-left g c tells =
+    let table = c.args.table.now in
+    subst (λ (i : Image). AreLeft c.args.base table.taken table.slots.items i.journal) (sym (c.loop-left.invariant.looks tells).seen) (c.requires.left tells)

@@ -1,11 +1,14 @@
-use Rattle.std.proofs.Common.{◌≡◌, ◌≢◌, ◌<◌, ◌≤◌, ◌∙◌, ap, length, refl, subst, sym, take, arith, rules}
-use Rattle.cfb_format.proofs.ByteLemmas.{length-written}
+use Rattle.std.proofs.Common.{◌≡◌, ◌≢◌, ◌<◌, ◌≤◌, ◌∙◌, ap, length, refl, subst, sym, take, List, ℕ, arith, rules}
+use Rattle.cfb_format.specs.Medium.{ChangesOnlyBytes}
+use Rattle.cfb_format.proofs.ByteLemmas.{length-written, ChangesOnly_refl}
+use Rattle.cfb_journal.specs.Sound.{logical}
 use Rattle.cfb_journal.proofs.Contents.{is_some_block}
 use Rattle.cfb_journal.specs.declared.medium.Phase.TheVariants.{Broken, Changing}
 use Rattle.cfb_journal.specs.Journal.{Restores}
+use Rattle.cfb_journal.specs.Overlay.{left_frames, AreLeft}
 use Rattle.cfb_journal.specs.States.{Meanwhile}
 use Rattle.cfb_journal.proofs.Clock.{joined}
-use Rattle.cfb_journal.proofs.Mediums.{kept_first, logical_changes, logical_written, sound_changing}
+use Rattle.cfb_journal.proofs.Mediums.{kept_first, logical_changes, logical_written, ready_frames, ready_left, ready_logical, sound_changing}
 use Rattle.cfb_journal.proofs.Since.{since_on}
 use Rattle.cfb_journal.proofs.medium.JournaledMediumMedium.write_at.Goals as goal
 
@@ -19,10 +22,12 @@ returns-in-Err-append-clause-honest g c tells =
     let s = me.sound tells in
     let sized : me.len ≡ length old = search (rules, s.sized) in
     let long : me.base ≤ length old = omega (arith, sized, me.ordered) in
+    let usable : me.phase ≢ Broken = search rules in
+    let frames = ap (left_frames me.table.taken) (c.append.ensures.journal tells) ∙ ready_frames me.phase me.base me.len me.table (g.D.Disk.view me.disk) (g.D.Disk.view me.disk) (g.D.Disk.view c.ready.new.disk) (me.sound tells) (me.left tells usable) refl (c.ready.ensures.left tells) in
     record {
       fails = record { can = refl; rises = c.fail-in-Err-append.ensures.rises };
-      others = logical_changes me.base me.blocks.items me.fits old (g.D.Disk.view c.ready.new.disk).seen.file (g.D.Disk.view c.append.new.disk).seen.file c.args.at (length c.args.from.now)
-          (c.ready.ensures.file tells) long c.if-at-self.false (c.append.ensures.others tells);
+      others = logical_changes me.base me.table (g.D.Disk.view me.disk).seen (g.D.Disk.view c.append.new.disk).seen me.fits (me.left tells usable) (g.D.Disk.view c.ready.new.disk).seen.file c.args.at (length c.args.from.now)
+          frames (c.ready.ensures.file tells) long c.if-at-self.false (c.append.ensures.others tells);
     }
 
 pub invariant_of-self-2 : goal.invariant_of-self-2
@@ -33,6 +38,10 @@ invariant_of-self-2 g c =
       small = omega (arith, c.max-self.ensures, me.small, c.if-at-gt-MAX_LENGTH.false, c.if-from-at.false);
       few = me.few;
       fits = me.fits;
+      left = λ tells usable_now.
+          let usable : me.phase ≢ Broken = search rules in
+          subst (λ (j : List ℕ). AreLeft me.base me.table.taken me.table.slots.items j) (sym (c.append.ensures.journal tells))
+          (ready_left me.phase me.base me.len me.table (g.D.Disk.view me.disk) (g.D.Disk.view me.disk) (g.D.Disk.view c.ready.new.disk) (me.sound tells) (me.left tells usable) refl (c.in_default.ensures.framed tells));
       sound = λ tells.
           let old = (g.D.Disk.view me.disk).seen.file in
           let s = me.sound tells in
@@ -65,9 +74,11 @@ returns-clause-honest g c tells =
     let sized : me.len ≡ length old = search (rules, s.sized) in
     let long : me.base ≤ length old = omega (arith, sized, me.ordered) in
     let some : 0 < length c.args.from.now = is_some_block _ c.is_empty.result c.if-is_empty.false c.is_empty.ensures in
+    let usable : me.phase ≢ Broken = search rules in
+    let frames = ap (left_frames me.table.taken) (c.append.ensures.journal tells) ∙ ready_frames me.phase me.base me.len me.table (g.D.Disk.view me.disk) (g.D.Disk.view me.disk) (g.D.Disk.view c.ready.new.disk) (me.sound tells) (me.left tells usable) refl (c.ready.ensures.left tells) in
     record {
-      writes = λ _. logical_written me.base me.blocks.items me.fits old (g.D.Disk.view c.ready.new.disk).seen.file (g.D.Disk.view c.append.new.disk).seen.file c.args.from.now c.args.at
-          (c.ready.ensures.file tells) long c.if-at-self.false (c.in_default-append.ensures.wrote tells);
+      writes = λ _. logical_written me.base me.table (g.D.Disk.view me.disk).seen (g.D.Disk.view c.append.new.disk).seen me.fits (me.left tells usable) (g.D.Disk.view c.ready.new.disk).seen.file c.args.from.now c.args.at
+          frames (c.ready.ensures.file tells) long c.if-at-self.false (c.in_default-append.ensures.wrote tells);
       calm = λ _. refl;
       unasked = λ none. absurd (omega arith);
       unasked_calm = λ none. absurd (omega arith);
@@ -106,6 +117,7 @@ invariant_of-self-in-Err-append g c =
       small = me.small;
       few = me.few;
       fits = me.fits;
+      left = λ tells usable. absurd (usable refl);
       sound = λ tells. record { quiet = λ e. cc; still = λ e. cc; changing = λ e. cc; sized = λ usable. absurd (usable refl) };
       since = λ tells tracked.
           let old = g.D.Disk.view me.disk in
@@ -128,7 +140,13 @@ invariant_of-self-in-Err-append g c =
           omega (arith, was, mid, new);
     }
 
-pub invariant_of-self-in-Err-clause-caused : goal.invariant_of-self-in-Err-clause-caused
-invariant_of-self-in-Err-clause-caused g c tells tracked broken =
-    let usable : c.args.self.now.phase ≢ Broken = search rules in
-    absurd (usable broken)
+pub returns-in-Err-clause-honest : goal.returns-in-Err-clause-honest
+returns-in-Err-clause-honest g c tells =
+    let me = c.args.self.now in
+    let old = g.D.Disk.view me.disk in
+    let usable : me.phase ≢ Broken = search rules in
+    let same = ready_logical me.phase me.base me.len me.table old old (g.D.Disk.view c.ready.new.disk) (me.sound tells) (me.left tells usable) refl (c.ready.ensures.left tells) (c.ready.ensures.file tells) in
+    record {
+      fails = record { can = refl; rises = c.fail-in-Err.ensures.rises };
+      others = subst (λ (b : List ℕ). ChangesOnlyBytes c.args.at (length c.args.from.now) (logical me.table old.seen) b) (sym same) (ChangesOnly_refl c.args.at (length c.args.from.now) (logical me.table old.seen));
+    }
