@@ -1,0 +1,16 @@
+FILES({"cfb_siblings/Changing": "What a storage's tree of children is once one was put in or taken out.", "cfb_entries/Changing": "What the list of entries is once one was put in or taken out."})
+SI = "cfb_siblings:insert.rt::"
+SR = "cfb_siblings:remove.rt::"
+E = "cfb_entries:entries.rt:Entries:"
+en = [("(entries_of entries.old)","old","List Entry"),("(entries_of entries.new)","new","List Entry")]
+R("InsertsChild", "inserts", "the child stands in the tree, which is in balance and has no red child of a red one if it was so; what was touched is told", "cfb_siblings/Changing", SI+"insert", "inserted balanced red_apart touches touches_only",
+  subs=en+[("(chars (string_bytes entry.name))","name","List ℕ"),("(steps_of place)","steps","List PathStep"),("(entry_of entry)","entry","Entry"),("result.items","touched","List ℕ")])
+R("RemovesChild", "removes", "done, the child is taken out, and the slot freed is its own where it has at most one child; refused, all stays", "cfb_siblings/Changing", SR+"remove", "removed thin refused",
+  subs=en+[("cases.now","cases","Cases"),("entries.new","entries'","T'"),("entries.old","entries","T'")]) if False else None
+R("RemovesChild", "removes", "done, the child is taken out, and the slot freed is its own where it has at most one child", "cfb_siblings/Changing", SR+"remove", "removed thin", subs=en+[("cases.now","cases","Cases")], T="Result ℕ AllocError", imports=["use Rattle.std.specs.declared.alloc.AllocError.{AllocError}"])
+R("StaysInShape", "shape", "done, the tree is in balance and has no red child of a red one if it was so", "cfb_siblings/Changing", SR+"remove", "balanced red_apart", subs=en+[("cases.now","cases","Cases")], T="Result ℕ AllocError", imports=["use Rattle.std.specs.declared.alloc.AllocError.{AllocError}"])
+R("TouchesTold", "touched", "done, all entries that changed are told, few, and of this storage alone", "cfb_siblings/Changing", SR+"remove", "touches touches_changed touches_only touches_few", subs=en+[("cases.now","cases","Cases"),("touched.new.items","touched","List ℕ")], T="Result ℕ AllocError", imports=["use Rattle.std.specs.declared.alloc.AllocError.{AllocError}"])
+R("RemovesSafely", "removes", "done, the entry is taken out, and the storage's tree stays in balance and red apart", "cfb_entries/Changing", E+"remove", "removed balanced red_apart", T="Result T AllocError", imports=["use Rattle.std.specs.declared.alloc.AllocError.{AllocError}"])
+R("TouchesTold", "touches", "done, all entries that changed are told, few, and of this storage alone", "cfb_entries/Changing", E+"remove", "touches touches_only touches_few", T="Result (Vec ℕ A) AllocError", implicit="{A : Type 0}", imports=["use Rattle.std.specs.declared.alloc.AllocError.{AllocError}"])
+R("InsertsSafely", "inserts", "the entry is in the list, and the storage's tree stays in balance and red apart", "cfb_entries/Changing", E+"insert", "inserted balanced red_apart", subs=[("result.0","number","ℕ"),("(new_entry (name_in insertion) kind moment)","entry","Entry")])
+R("InsertTouches", "touched", "all entries that changed are told, the new one and those of this storage", "cfb_entries/Changing", E+"insert", "touches touches_only", subs=[("result.0","number","ℕ"),("result.1.items","touched","List ℕ")])

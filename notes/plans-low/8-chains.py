@@ -1,0 +1,33 @@
+FILES({"cfb_chains/Listing": "What becomes of a chain's list.", "cfb_chains/Reading": "What is read of a chain.", "cfb_chains/Writing": "What a call on a chain leaves, and what it does."})
+C = "cfb_chains:chain.rt:Chain:"
+X = "cfb_chains:chain.rt::"
+M = ["use Rattle.cfb_format.specs.declared.medium.ReadMedium as medium", "use Rattle.cfb_chains.specs.declared.chain.Numbers as numbers"]
+CH = dict(implicit="{F A : Type 0} {g : medium.Ghosts F} {n : numbers.Ghosts (Vec ℕ A)}", types={"old": "Chain F A (Vec ℕ A) g n", "new": "Chain F A (Vec ℕ A) g n"}, imports=M)
+al = [("(allocator_of self.old).now","old","AllocatorState"),("(allocator_of self.new).now","new","AllocatorState"),("(ids_of self.old)","ids","List ℕ"),("(ids_of self.new)","ids'","List ℕ"),("ids_of self.old","ids","List ℕ"),("ids_of self.new","ids'","List ℕ"),
+      ("(version_of self.old)","version","Version"),("(init_of self.old)","init","SectorInit")]
+R("ListGrows", "grows", "done, so many sectors were taken and listed behind those that were there", "cfb_chains/Listing", C+"grow", "ids=listed count=counted taken", subs=al[:6])
+R("GrowingRefused", "refused", "nothing but the last sector's word and what was taken has changed; where it was refused nothing was taken, or the medium failed", "cfb_chains/Listing", C+"grow", "spares refused err", subs=al[:6])
+R("CutsTheList", "shorter", "done, the list has so many sectors, and those behind them are free; where it was refused nothing has changed, or the medium failed", "cfb_chains/Listing", C+"cut", "ids=listed holds changes spares refused err counts", subs=al[:6]+[("(start_sector_of self.old)","start","ℕ")])
+R("LongerList", "longer", "the list is no shorter, and as long as a chain can be; done, it and its chain have so many sectors more", "cfb_chains/Listing", X+"extend_list", "few longer lengthened", subs=[("ids.old.items","ids","List ℕ"),("ids.new.items","ids'","List ℕ")])
+R("StaysListed", "listed", "the list is the chain from its start, in tables of the same version", "cfb_chains/Listing", X+"extend_list", "chained version", subs=[("ids.new.items","ids","List ℕ"),("start.new","start","ℕ"),("allocator.old","old","AllocatorState"),("allocator.new","new","AllocatorState")])
+R("FillsGained", "fills", "done, the new sectors have these bytes, and are filled up; refused, they have, or all sectors but the FAT's stay", "cfb_chains/Listing", X+"extend_list", "put ordered", subs=[("ids.old.items","ids","List ℕ"),("ids.new.items","ids'","List ℕ"),("from.now","from","List ℕ")])
+R("MovesAlong", "moves", "the chain is the same, in the same allocator, and the next byte is as many further as were read or written", "cfb_chains/Reading", C+"read", "same_allocator chain position", **CH)
+R("SameChain", "stays", "the chain is the same, in the same allocator", "cfb_chains/Reading", C+"zero_tail", "same_allocator chain", **CH)
+R("SameAllocator", "same", "the allocator is the same, of the same version, and so is what fills new sectors", "cfb_chains/Reading", C+"grow", "same_allocator init version", **CH)
+R("ReadsChain", "part", "some bytes were read where there are any, those from the position on, and the rest of the slice stays", "cfb_chains/Reading", C+"read", "count=most some within ok=placed rest content", **CH)
+R("ChainReadRefused", "error", "where the file ends before the next byte it is refused; else only the medium can refuse", "cfb_chains/Reading", C+"read", "cut there err", T="Result ℕ Error", **CH)
+R("WritesInChain", "writes", "bytes were written into the chain's sectors, and nothing else; the tables hold still", "cfb_chains/Writing", C+"zero_tail", "tables kept holds err spares counts", subs=al[:4])
+R("WritesChainPart", "part", "some bytes were written where there is room for any, from the position on; where there is none nothing has changed", "cfb_chains/Writing", C+"write_within", "count=most some none ok=done places content", **CH)
+R("ZeroesTail", "zeroes", "the last sector's bytes from the offset on are zeros; where it begins a sector nothing has changed", "cfb_chains/Writing", C+"zero_tail", "none ok=done whole same content begun", T="Result T Error", **CH)
+R("FreesAll", "frees", "done, the chain has no sectors, and those that it had are free; where it had none nothing has changed", "cfb_chains/Writing", C+"free", "ids=empty none freed holds changes begun", **CH)
+R("FreeingRefused", "refused", "where it was refused nothing has changed, or the medium failed", "cfb_chains/Writing", C+"free", "refused view place err", **CH)
+R("WritesOn", "written", "some bytes were written where there are any, and the chain has the sectors more that they needed", "cfb_chains/Writing", C+"write", "count=most some position none ids gained=longer", **CH)
+R("TakesMissing", "takes", "the tables stay where no sector lacked; else so many were taken", "cfb_chains/Writing", C+"write", "tables taken enough begun", **CH)
+R("HoldsWritten", "holds", "over a medium that tells its bytes: the tables hold still, and the bytes stand at their places; refused, no new sector is half filled", "cfb_chains/Writing", C+"write", "holds places content there ordered", **CH)
+R("WriteSpares", "spares", "over a medium that tells its bytes: where the bytes lie together they stand there, sectors of other chains stay, and failures are counted", "cfb_chains/Writing", C+"write", "run others foreign spares counts", **CH)
+R("WriteRefused", "refused", "where it was refused nothing has changed, or the medium failed; where no sector lacked only the medium can refuse", "cfb_chains/Writing", C+"write", "broken err needed", **CH)
+R("HasLen", "sized", "done, the chain has the sectors that the length needs", "cfb_chains/Writing", C+"set_len", "count none position grown cut", **CH)
+R("TurnsTables", "takes", "the sectors that lacked were taken, or those that are too many are free", "cfb_chains/Writing", C+"set_len", "taken enough freed tables begun", **CH)
+R("HoldsResized", "holds", "over a medium that tells its bytes: the tables hold still, the bytes that were there stay, and those behind are filled or zeros", "cfb_chains/Writing", C+"set_len", "filled zeroed holds places longer shorter", **CH)
+R("ResizeSpares", "spares", "over a medium that tells its bytes: sectors of other chains stay, and failures are counted", "cfb_chains/Writing", C+"set_len", "others foreign spares counts", **CH)
+R("ResizeRefused", "refused", "where it was refused nothing has changed, or the medium failed; where as many sectors are needed as there are only the medium can refuse", "cfb_chains/Writing", C+"set_len", "broken err needed", **CH)

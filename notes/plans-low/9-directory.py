@@ -1,0 +1,40 @@
+FILES({"cfb_slots/Writing": "What a call that writes slots into the directory's sectors leaves.", "cfb_directory/Changing": "What a change of the directory keeps, does and answers.", "cfb_directory/Growing": "How the directory grows."})
+SL = "cfb_slots:slots.rt::"
+G = "cfb_directory:changing.rt::"
+D = "cfb_directory:directory.rt:Directory:"
+I = "cfb_directory:inserting.rt::"
+R("WritesSlot", "writes", "done, the slot's bytes stand at its place; no other bytes change, and a change was begun", "cfb_slots/Writing", SL+"write_slot", "tables kept ok=done begun err others spares counts", subs=[("slot.now","slot","List ℕ")])
+R("WritesAmongSectors", "among", "bytes were written into these sectors, and nothing else; the tables hold still where none is theirs", "cfb_slots/Writing", SL+"write_entry", "tables kept holds spares counts", subs=[("sectors.now","sectors","List ℕ")])
+R("PutsEntry", "puts", "done, the entry's bytes stand in its slot; no other slots change, and a change was begun", "cfb_slots/Writing", SL+"write_entry", "ok=done begun err others",
+  subs=[("sectors.now","sectors","List ℕ"),("(entries_of entries.now)","entries","List Entry")])
+do = [("(directory_of allocator.old sectors.now entries.old)","old","DirectoryState"),("(directory_of allocator.new sectors.now entries.new)","new","DirectoryState")]
+R("RemovesSafely", "removes", "done, the entry is taken out, what was in balance is so still, and no red entry has a red child that had none", "cfb_directory/Changing", D+"remove_dir_entry", "removed balanced red_apart")
+R("ChangesDirectory", "changes", "entries were changed in their sectors, and nothing else: the header, the limits and all other sectors stay", "cfb_directory/Changing", D+"remove_dir_entry", "limits header others spares begun refused counts")
+R("ChangesRoot", "changes", "the root's entry was changed in its sector, and nothing else: the header and the limits stay", "cfb_directory/Changing", D+"with_root_dir_entry_mut", "limits header spares begun refused counts")
+R("HoldsChanged", "holds", "done, the directory holds as it did; it is refused for memory, by the medium, or where it did not hold", "cfb_directory/Changing", D+"remove_dir_entry", "holds err")
+R("SetsEntryFields", "sets", "done, the entry has fields that it may be given; refused, it has its own or such; other slots stay", "cfb_directory/Changing", D+"with_dir_entry_mut", "changed entries slots",
+  subs=[("W.post change (fields_in (entry_at self.old.entries number))","given","Fields → Type 0")])
+R("FieldsHold", "holds", "done, the directory holds as it did where the fields leave the entry valid; only the medium refuses it where the entries are placed", "cfb_directory/Changing", D+"with_dir_entry_mut", "holds err placed",
+  subs=[("W.post change (fields_in (entry_at self.old.entries number))","given","Fields → Type 0")])
+R("FieldsRefused", "error", "only the medium refuses it where the entries are placed", "cfb_directory/Changing", D+"with_dir_entry_mut", "err placed")
+R("InsertsInDirectory", "inserts", "done, the object's entry is there, and written into its sectors; the rest of the directory stays", "cfb_directory/Changing", D+"insert_dir_entry", "inserted kept written spared err counts")
+R("GrowsDirectory", "grows", "the directory holds as it did; its slots, its limits and what the header says of others stay", "cfb_directory/Growing", I+"grow", "holds spares header slots limits refused counts",
+  subs=[("(directory_of allocator.old sectors.old.items entries.old)","old","DirectoryState"),("(directory_of allocator.new sectors.new.items entries.new)","new","DirectoryState"),
+        ("sectors.old.items","(old.sectors)","List ℕ"),("allocator.old.file","old.table.file",""),("allocator.new.file","new.table.file",""),("allocator.old","old.table",""),("allocator.new","new.table","")],
+  params="{T : Type 0} (tells : Bool) (can_write : MediumFault → Bool) (old new : DirectoryState) (result : Result T Error)")
+R("StaysListedChain", "listed", "the list of the directory's sectors is a chain as it was, with its entries placed", "cfb_directory/Growing", I+"grow", "above placed chain",
+  subs=[("(directory_of allocator.new sectors.new.items entries.new)","new","DirectoryState"),("sectors.old.items","ids","List ℕ"),("sectors.new.items","ids'","List ℕ"),("above.old","least","ℕ"),("above.new","least'","ℕ"),("allocator.old.tables","tables","TableState"),("allocator.new.tables","tables'","TableState")])
+R("CountsSectors", "counted", "the header counts the directory's sectors, where its version has it do so", "cfb_directory/Growing", I+"grow", "count long", subs=[("sectors.new.items","ids'","List ℕ")])
+R("CountsSectorsIfGrown", "counted", "the header counts the directory's sectors where they are more, where its version has it do so", "cfb_directory/Growing", I+"make_room", "count long", subs=[("sectors.new.items","ids'","List ℕ"),("entries.old.entries","entries","List Entry")])
+R("GrowsByOne", "longer", "done, the directory has one sector more, and as many entries more as it has slots", "cfb_directory/Growing", I+"grow", "entries=fresh lengthened begun", subs=[("sectors.old.items","ids","List ℕ"),("sectors.new.items","ids'","List ℕ"),("entries.old.entries","entries","List Entry"),("entries.new.entries","entries'","List Entry")])
+R("MakesRoom", "room", "done, an entry is free; where one was nothing has changed, and else there is a sector more", "cfb_directory/Growing", I+"make_room", "free kept lengthened", subs=[("sectors.old.items","ids","List ℕ"),("sectors.new.items","ids'","List ℕ"),("entries.old.entries","entries","List Entry"),("entries.new.entries","entries'","List Entry")])
+R("ListedStays", "listed", "the list of the directory's sectors is a chain as it was, of the file's sectors", "cfb_directory/Growing", I+"lengthen", "chain within sizes", subs=[("sectors.old.items","ids","List ℕ"),("sectors.new.items","ids'","List ℕ")])
+R("HoldsLengthened", "holds", "over a medium that tells its bytes: the tables hold still, the new sector has free slots, and other chains stay", "cfb_directory/Growing", I+"lengthen", "filled holds others spares counts", subs=[("sectors.old.items","ids","List ℕ"),("sectors.new.items","ids'","List ℕ")])
+R("LengtheningRefused", "ends", "done, a change was begun; where it was refused nothing has changed, or the medium failed", "cfb_directory/Growing", I+"lengthen", "bounds begun refused err", subs=[("sectors.old.items","ids","List ℕ")])
+R("CountsInHeader", "counted", "where the version has it so the header counts the sectors; else nothing has changed", "cfb_directory/Growing", I+"count_sectors", "tables same begun count=counted long")
+R("WritesHeaderBytes", "writes", "over a medium that tells its bytes: no other bytes change, and the tables hold still; only the medium refuses it", "cfb_directory/Growing", I+"count_sectors", "holds others spares err counts", subs=[("40 4","at many","ℕ")])
+R("CanPutEntry", "can_put", "the parent is a storage, the entry is a storage's or a stream's, one is free, and all are placed", "cfb_directory/Growing", I+"put", "placed parent=reached kind=kinds free", kind="requires", subs=[("(directory_of allocator.old sectors.now entries.old)","old","DirectoryState")], types={"old": "DirectoryState"})
+R("KeepsShape", "shape", "done, what was in balance is so still, and no red entry has a red child that had none", "cfb_directory/Growing", I+"put", "balanced red_apart", subs=do+[("entries.old.entries","old.entries",""),("entries.new.entries","new.entries","")], params="{T : Type 0} (parent : ℕ) (old new : DirectoryState) (result : Result T Error)")
+R("WritesEntries", "writes", "the directory holds as it did; other slots and the header stay, and a change was begun", "cfb_directory/Growing", I+"put", "holds spares header slots begun err counts",
+  subs=do+[("sectors.now","(old.sectors)",""),("allocator.old.file","old.table.file",""),("allocator.new.file","new.table.file",""),("allocator.old","old.table",""),("allocator.new","new.table","")],
+  params="{T : Type 0} (tells : Bool) (can_write : MediumFault → Bool) (parent : ℕ) (old new : DirectoryState) (result : Result T Error)")
