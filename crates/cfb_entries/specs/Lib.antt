@@ -9,3 +9,4 @@ pub mod EntryList
 pub mod Fields
 pub mod Insertions
 pub mod Slots
+pub mod Changing

@@ -1,5 +1,6 @@
 //! The entries of a directory, in memory (MS-CFB 2.6).
 ghost use Rattle.std.specs.Prelude.{◌≡◌, ◌⊎◌, ◌%◌, ℕ, ◌+◌, ◌<◌, ◌≤◌, ◌∷◌, List, length, map, replicate, chars, not, true, Contains, IsTrue, MatchOption, vec_len, IfOk, IfErr, IfSome, OnOk, OnErr};
+ghost use Rattle.cfb_entries.specs.Changing.{RemovesSafely, TouchesTold, InsertsSafely, InsertTouches};
 ghost use Rattle.cfb_format.specs.declared.objtype.ObjType.TheVariants.{Storage, Stream};
 ghost use Rattle.cfb_format.specs.Names.{is_valid_name};
 ghost use Rattle.cfb_format.specs.DirectoryEntry.{unallocated_entry};
@@ -133,22 +134,8 @@ impl<A: Allocator + Clone> Entries<A> {
         requires parent { IsReachedStorage self.old.cases self.old.entries parent }
         requires there { IsChildless self.old.cases self.old.entries parent (chars name.now) }
         ensures cases { self.new.cases ≡ self.old.cases }
-        ensures removed { OnOk result (RemovesEntry self.old.cases self.old.entries self.new.entries
-            parent (chars name.now)) }
-        ensures balanced { OnOk result
-            (KeepsBalance self.old.entries self.new.entries parent) }
-        ensures red_apart { OnOk result ((list : List ℕ)
-            → HasChildren self.old.cases self.old.entries parent list
-            → HasRedApart self.old.entries parent list
-            → (after : List ℕ) × HasChildren self.new.cases self.new.entries parent after
-            × HasRedApart self.new.entries parent after) }
-        ensures touches { IfOk result (λ touched.
-            Touches self.old.entries self.new.entries touched.items) }
-        ensures touches_only { IfOk result (λ touched. (list : List ℕ)
-            → HasChildren self.old.cases self.old.entries parent list
-            → TouchesOnly parent list touched.items) }
-        ensures touches_few { IfOk result (λ touched.
-            TouchesFew self.old.entries parent touched.items) }
+        ensures removes { RemovesSafely parent (chars name.now) self.old self.new result }
+        ensures touches { TouchesTold parent self.old self.new result }
         ensures refused { OnErr result (self.new ≡ record self.old { room = self.new.room }) }
     {
         remove_child(
@@ -212,18 +199,9 @@ impl<A: Allocator + Clone> Entries<A> {
         requires kind { (kind ≡ Storage) ⊎ (kind ≡ Stream) }
         requires free { has_free self.old.entries ≡ true }
         ensures cases { self.new.cases ≡ self.old.cases }
-        ensures inserted { InsertsEntry self.old.cases self.old.entries
-            self.new.entries parent result.0 (new_entry (name_in insertion) kind moment) }
-        ensures balanced { KeepsBalance self.old.entries self.new.entries parent }
-        ensures red_apart { (list : List ℕ)
-            → HasChildren self.old.cases self.old.entries parent list
-            → HasRedApart self.old.entries parent list
-            → (after : List ℕ) × HasChildren self.new.cases self.new.entries parent after
-            × HasRedApart self.new.entries parent after }
-        ensures touches { Touches self.old.entries self.new.entries result.1.items }
-        ensures touches_only { (list : List ℕ)
-            → HasChildren self.old.cases self.old.entries parent list
-            → TouchesOnly parent (result.0 ∷ list) result.1.items }
+        ensures inserts { InsertsSafely parent self.old self.new result.0
+            (new_entry (name_in insertion) kind moment) }
+        ensures touched { InsertTouches parent self.old self.new result.0 result.1.items }
     {
         let Insertion { name, place } = insertion;
         let slot = take_slot(&mut self.free);

@@ -1,6 +1,7 @@
 //! A new entry among the children of a storage: it joins red, as a leaf, and recolourings and
 //! rotations settle the rest (MS-CFB 2.6.4).
 ghost use Rattle.std.specs.Prelude.{◌≡◌, ◌≢◌, ℕ, ◌+◌, ◌*◌, ◌<◌, ◌≤◌, length, chars, string_bytes, IfOk, MatchOption, List, vec_len, vec_capacity, Contains, ◌∷◌, false, true, slice_set};
+ghost use Rattle.cfb_siblings.specs.Changing.{InsertsChild};
 ghost use Rattle.cfb_codecs.specs.EntryModel.{entry_of};
 ghost use Rattle.cfb_format.specs.Siblings.{entry_at};
 ghost use Rattle.cfb_siblings.specs.Order.{Attached, IsPlaceFor, Joins, KeptBeside, MayJoin, steps_of};
@@ -211,21 +212,8 @@ pub fn insert<A: Allocator>(
     requires placed { (cases : Cases) × IsPlaceFor cases
         (entries_of entries.old) parent (chars (string_bytes entry.name)) (steps_of place) }
 
-    ensures inserted { (cases : Cases) (list : List ℕ)
-        → IsPlaceFor cases (entries_of entries.old) parent (chars (string_bytes entry.name))
-        (steps_of place) → HasChildren cases (entries_of entries.old) parent list → Inserts cases
-        (entries_of entries.old) (entries_of entries.new) parent slot (entry_of entry) list }
-    ensures balanced { KeepsBalance (entries_of entries.old) (entries_of entries.new) parent }
-    ensures red_apart { (cases : Cases) (list : List ℕ)
-        → IsPlaceFor cases (entries_of entries.old) parent (chars (string_bytes entry.name))
-        (steps_of place) → HasChildren cases (entries_of entries.old) parent list
-        → HasRedApart (entries_of entries.old) parent list
-        → (after : List ℕ) × HasChildren cases (entries_of entries.new) parent after
-        × HasRedApart (entries_of entries.new) parent after }
-    ensures touches { Touches (entries_of entries.old) (entries_of entries.new) result.items }
-    ensures touches_only { (cases : Cases) (list : List ℕ)
-        → HasChildren cases (entries_of entries.old) parent list
-        → TouchesOnly parent (slot ∷ list) result.items }
+        ensures inserts { InsertsChild parent slot (entries_of entries.old) (entries_of entries.new)
+            (chars (string_bytes entry.name)) (steps_of place) (entry_of entry) result.items }
 {
     let Place {
         mut path,

@@ -2,6 +2,7 @@
 //! is replaced by that, and in place of one with two its predecessor goes, whose entry then moves
 //! into the freed slot.
 ghost use Rattle.std.specs.Prelude.{◌≡◌, ◌≢◌, ℕ, ◌+◌, ◌*◌, ◌<◌, ◌≤◌, ◌++◌, ◌∷◌, length, chars, IfOk, OnErr, OnOk, List, [], vec_len, vec_capacity, true};
+ghost use Rattle.cfb_siblings.specs.Changing.{RemovesChild, StaysInShape, TouchesTold};
 ghost use Rattle.cfb_siblings.specs.Children.{HasChildren, HasRedApart, IsAbsent, IsChildNamed, IsParent, IsSomeChild, IsThin, KeepsBalance, Removes};
 ghost use Rattle.cfb_siblings.specs.Order.{Dir, HasDir};
 ghost use Rattle.cfb_siblings.specs.Painted.{Painted, bare, tree_numbers, occurs};
@@ -182,31 +183,12 @@ pub fn remove<A: Allocator>(
     requires there { (list : List ℕ) → HasChildren cases.now (entries_of entries.old) parent list
         → IsAbsent cases.now (entries_of entries.old) (chars name.now) list → ⊥ }
 
-    ensures removed { IfOk result (λ freed. (list : List ℕ)
-        → HasChildren cases.now (entries_of entries.old) parent list
-        → (after : List ℕ) × Removes cases.now (entries_of entries.old)
-        (entries_of entries.new) parent (chars name.now) freed list after) }
-    ensures thin { IfOk result (λ freed. (list : List ℕ)
-        → HasChildren cases.now (entries_of entries.old) parent list → (n : ℕ)
-        → IsChildNamed cases.now (entries_of entries.old) (chars name.now) list n
-        → IsThin (entries_of entries.old) n → freed ≡ n) }
-    ensures balanced { OnOk result
-        (KeepsBalance (entries_of entries.old) (entries_of entries.new) parent) }
-    ensures red_apart { OnOk result ((list : List ℕ)
-        → HasChildren cases.now (entries_of entries.old) parent list
-        → HasRedApart (entries_of entries.old) parent list
-        → (after : List ℕ) × HasChildren cases.now (entries_of entries.new) parent after
-        × HasRedApart (entries_of entries.new) parent after) }
-    ensures touches { OnOk result
-        (Touches (entries_of entries.old) (entries_of entries.new) touched.new.items) }
-    ensures touches_changed { IfOk result (λ freed.
-        entry_at (entries_of entries.old) freed ≢ unallocated_entry → TouchesChanged
-        (entries_of entries.old) (entries_of entries.new) touched.new.items) }
-    ensures touches_only { OnOk result ((list : List ℕ)
-        → HasChildren cases.now (entries_of entries.old) parent list
-        → TouchesOnly parent list touched.new.items) }
-    ensures touches_few { OnOk result
-        (TouchesFew (entries_of entries.old) parent touched.new.items) }
+        ensures removes { RemovesChild parent (chars name.now) (entries_of entries.old)
+            (entries_of entries.new) cases.now result }
+        ensures shape { StaysInShape parent (entries_of entries.old) (entries_of entries.new)
+            cases.now result }
+        ensures touched { TouchesTold parent (entries_of entries.old) (entries_of entries.new)
+            cases.now touched.new.items result }
     ensures refused { OnErr result (entries.new ≡ entries.old) }
 {
     let mut gap = take_out(alloc, cases, entries, parent, name, touched)?;

@@ -67,14 +67,14 @@ returns-in_err-touched-clause-changes g c = record {
 
 pub write_entries-requires-clause-inside : goal.write_entries-requires-clause-inside
 write_entries-requires-clause-inside g c k m =
-    let within = c.in_ok-touched.ensures.touches.within k (subst (λ (l : List ℕ). Contains l k) c.deref.ensures.value m) in
+    let within = c.in_ok-touched.ensures.touches.touches.within k (subst (λ (l : List ℕ). Contains l k) c.deref.ensures.value m) in
     let long = length-map c.list.result.now entry_of in
     let same = ap (λ (es : List Entry). length es) c.list.ensures.list in
     omega (arith, within, long, same)
 
 pub write_entries-requires-clause-names : goal.write_entries-requires-clause-names
 write_entries-requires-clause-names g c k m =
-    let within = c.in_ok-touched.ensures.touches.within k (subst (λ (l : List ℕ). Contains l k) c.deref.ensures.value m) in
+    let within = c.in_ok-touched.ensures.touches.touches.within k (subst (λ (l : List ℕ). Contains l k) c.deref.ensures.value m) in
     subst (λ (es : List Entry). length (utf16_units (entry_at es k).name) ≤ max_name_len) (sym c.list.ensures.list) (c.list.ensures.in_order.names k within)
 
 pub write_entries-requires-clause-places : goal.write_entries-requires-clause-places
@@ -82,16 +82,16 @@ write_entries-requires-clause-places g c =
     let before : length c.list-count.result.now ≡ length c.args.entries.now.entries =
     sym (length-map c.list-count.result.now entry_of) ∙ ap (λ (es : List Entry). length es) c.list-count.ensures.list in
     let after : length c.list.result.now ≡ length c.args.entries.now.entries =
-    sym (length-map c.list.result.now entry_of) ∙ ap (λ (es : List Entry). length es) c.list.ensures.list ∙ c.in_ok-touched.ensures.removed.removed.longer in
+    sym (length-map c.list.result.now entry_of) ∙ ap (λ (es : List Entry). length es) c.list.ensures.list ∙ c.in_ok-touched.ensures.removes.removed.removed.longer in
     subst (λ (a : AllocatorState). HavePlaces a.tables.version c.args.sectors.now (length c.list.result.now) (length a.tables.fat)) (sym c.begin_change.ensures)
     (subst (λ n. HavePlaces c.args.allocator.now.tables.version c.args.sectors.now n (length c.args.allocator.now.tables.fat)) (before ∙ sym after)
     (c.are_placed.ensures.0 c.if-not-are_placed.false))
 
 pub returns-clause-removes : goal.returns-clause-removes
 returns-clause-removes g c = record {
-  removed = all_ok c.write_entries.result c.in_ok-touched.ensures.removed;
-  balanced = all_ok c.write_entries.result c.in_ok-touched.ensures.balanced;
-  red_apart = all_ok c.write_entries.result c.in_ok-touched.ensures.red_apart;
+  removed = all_ok c.write_entries.result c.in_ok-touched.ensures.removes.removed;
+  balanced = all_ok c.write_entries.result c.in_ok-touched.ensures.removes.balanced;
+  red_apart = all_ok c.write_entries.result c.in_ok-touched.ensures.removes.red_apart;
 }
 
 pub returns-clause-holds : goal.returns-clause-holds
@@ -108,14 +108,14 @@ returns-clause-holds g c = record {
       let same = c.list.ensures.list in
       let touched = c.deref.result.now in
       let items = c.deref.ensures.value in
-      let touches = c.in_ok-touched.ensures.touches in
-      let removes = c.in_ok-touched.ensures.removed in
+      let touches = c.in_ok-touched.ensures.touches.touches in
+      let removes = c.in_ok-touched.ensures.removes.removed in
       let r = removes.removed in
       let told_at : (k : ℕ) → (Contains touched k → ⊥) → entry_at new k ≡ entry_at old k = λ k out. touches.told k (λ m. out (subst (λ (l : List ℕ). Contains l k) (sym items) m)) in
       let late : HoldSlotsBut (touched ++ []) validation v a.file.bytes sectors new = entries-stay touched [] validation v a.file.bytes sectors old new h.slots r.longer told_at in
       let valid : (k : ℕ) → Contains touched k → IsValidEntry v (entry_at new k) = λ k m.
       touched_valid v c.args.entries.now.cases old new c.args.parent removes.number removes.freed removes.before removes.behind removes.after r h.writable h.most c.requires.parent
-      c.in_ok-touched.touched.items (c.in_ok-touched.ensures.touches_only _ r.was) touches.within k (subst (λ (l : List ℕ). Contains l k) items m) in
+      c.in_ok-touched.touched.items (c.in_ok-touched.ensures.touches.touches_only _ r.was) touches.within k (subst (λ (l : List ℕ). Contains l k) items m) in
       let slots = subst (λ (z : AllocatorState). OnOk c.write_entries.result (HoldSlotsBut [] validation z.tables.version after.file.bytes sectors (entries_of c.list.result.now))) begun
       (c.write_entries.ensures.slots told validation []
       (subst (λ (z : AllocatorState). HoldSlotsBut (touched ++ []) validation z.tables.version z.file.bytes sectors (entries_of c.list.result.now)) (sym begun)
@@ -150,12 +150,12 @@ returns-clause-changes g c = record {
       let touched = c.deref.result.now in
       let before : length c.list-count.result.now ≡ length c.args.entries.now.entries =
       sym (length-map c.list-count.result.now entry_of) ∙ ap (λ (es : List Entry). length es) c.list-count.ensures.list in
-      let longer = c.in_ok-touched.ensures.removed.removed.longer in
+      let longer = c.in_ok-touched.ensures.removes.removed.removed.longer in
       others_left touched a.tables.version c.args.sectors.now a.file.bytes c.write_entries.new.allocator.file.bytes (length c.list-count.result.now) (length a.tables.fat)
       (c.are_placed.ensures.0 c.if-not-are_placed.false)
       (subst (λ (z : AllocatorState). ChangesSlots touched z.tables.version c.args.sectors.now z.file.bytes c.write_entries.new.allocator.file.bytes) c.begin_change.ensures
       (c.write_entries.ensures.others told))
-      (λ k m. let inside = c.in_ok-touched.ensures.touches.within k (subst (λ (l : List ℕ). Contains l k) c.deref.ensures.value m) in omega (arith, inside, longer, before))
+      (λ k m. let inside = c.in_ok-touched.ensures.touches.touches.within k (subst (λ (l : List ℕ). Contains l k) c.deref.ensures.value m) in omega (arith, inside, longer, before))
   );
   spares = λ told. (
       begun_spares c.args.sectors.now c.args.allocator.now c.write_entries.new.allocator
@@ -173,11 +173,11 @@ pub returns-clause-slots : goal.returns-clause-slots
 returns-clause-slots g c told validation h list children k lt used beside out =
     let touched = c.deref.result.now in
     let count = h.slots.count in
-    let longer = c.in_ok-touched.ensures.removed.removed.longer in
+    let longer = c.in_ok-touched.ensures.removes.removed.removed.longer in
     let in_items : (j : ℕ) → Contains touched j → Contains c.in_ok-touched.touched.items j = λ j m. subst (λ (l : List ℕ). Contains l j) c.deref.ensures.value m in
     slot_left touched c.args.allocator.now.tables.version c.args.sectors.now c.args.allocator.now.file.bytes c.write_entries.new.allocator.file.bytes k h.chain.distinct h.whole
     (subst (λ (a : AllocatorState). ChangesSlots touched a.tables.version c.args.sectors.now a.file.bytes c.write_entries.new.allocator.file.bytes) c.begin_change.ensures
     (c.write_entries.ensures.others told))
-    (λ j m. let inside = c.in_ok-touched.ensures.touches.within j (in_items j m) in omega (arith, inside, longer, count))
+    (λ j m. let inside = c.in_ok-touched.ensures.touches.touches.within j (in_items j m) in omega (arith, inside, longer, count))
     (omega (arith, lt, count))
-    (λ m. elim (c.in_ok-touched.ensures.touches_only list children k (in_items k m)) [ inl e ↦ beside e | inr child ↦ out child ])
+    (λ m. elim (c.in_ok-touched.ensures.touches.touches_only list children k (in_items k m)) [ inl e ↦ beside e | inr child ↦ out child ])

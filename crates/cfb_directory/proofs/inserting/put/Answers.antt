@@ -19,13 +19,13 @@ use Rattle.cfb_directory.proofs.inserting.put.Goals as goal
 
 pub write_entries-requires-clause-inside : goal.write_entries-requires-clause-inside
 write_entries-requires-clause-inside g c = λ k m.
-    let w = c.insert-number.ensures.touches.within k (subst (λ (l : List ℕ). Contains l k) c.deref.ensures.value m) in
+    let w = c.insert-number.ensures.touched.touches.within k (subst (λ (l : List ℕ). Contains l k) c.deref.ensures.value m) in
     let len : length c.insert-number.new.self.entries ≡ length c.list.result.now = sym (ap (λ (l : List Entry). length l) c.list.ensures.list) ∙ length-map c.list.result.now entry_of in
     omega (arith, w, len)
 
 pub write_entries-requires-clause-names : goal.write_entries-requires-clause-names
 write_entries-requires-clause-names g c = λ k m.
-    let w = c.insert-number.ensures.touches.within k (subst (λ (l : List ℕ). Contains l k) c.deref.ensures.value m) in
+    let w = c.insert-number.ensures.touched.touches.within k (subst (λ (l : List ℕ). Contains l k) c.deref.ensures.value m) in
     subst (λ (l : List Entry). length (utf16_units (entry_at l k).name) ≤ max_name_len) (sym c.list.ensures.list) (c.list.ensures.in_order.names k w)
 
 pub returns-in_err-write_entries-clause-writes : goal.returns-in_err-write_entries-clause-writes
@@ -37,7 +37,7 @@ returns-in_err-write_entries-clause-writes g c = record {
       let change = subst (λ (l : List ℕ). ChangesSlots l c.args.allocator.now.tables.version c.args.sectors.now c.args.allocator.now.file.bytes c.write_entries.new.allocator.file.bytes)
       c.deref.ensures.value (c.write_entries.ensures.others told) in
       put-keeps (directory_of c.args.allocator.now c.args.sectors.now c.args.entries.now) c.insert-number.new.self.entries c.args.parent _ _ _
-      c.requires.can_put.reached c.insert-number.ensures.inserted c.insert-number.ensures.touches c.insert-number.ensures.touches_only validation held
+      c.requires.can_put.reached c.insert-number.ensures.inserts.inserted c.insert-number.ensures.touched.touches c.insert-number.ensures.touched.touches_only validation held
       c.write_entries.new.allocator.file.bytes change
   );
   begun = first_of (search rules, grind (arith, common_steps));
@@ -56,8 +56,8 @@ returns-clause-writes g c = record {
       let change = subst (λ (l : List ℕ). ChangesSlots l v c.args.sectors.now bytes c.write_entries.new.allocator.file.bytes) listed (c.write_entries.ensures.others told) in
       let name = name_in c.args.insertion in
       let stands = new-stands v name c.args.kind c.args.moment (scalars-chars (string_bytes c.args.insertion.name) (IsUtf8-string_bytes c.args.insertion.name)) c.requires.valid (omega (arith, c.value-fact.ensures, c.value-fact.type_inv)) c.requires.can_put.kinds in
-      let late = late-slots d entries c.args.parent _ _ _ c.requires.can_put.reached c.insert-number.ensures.inserted c.insert-number.ensures.touches c.insert-number.ensures.touches_only validation held stands in
-      let valid = touched-valid d entries c.args.parent _ _ _ c.requires.can_put.reached c.insert-number.ensures.inserted c.insert-number.ensures.touches c.insert-number.ensures.touches_only validation held stands in
+      let late = late-slots d entries c.args.parent _ _ _ c.requires.can_put.reached c.insert-number.ensures.inserts.inserted c.insert-number.ensures.touched.touches c.insert-number.ensures.touched.touches_only validation held stands in
+      let valid = touched-valid d entries c.args.parent _ _ _ c.requires.can_put.reached c.insert-number.ensures.inserts.inserted c.insert-number.ensures.touched.touches c.insert-number.ensures.touched.touches_only validation held stands in
       let touched = c.insert-number.result.1.items in
       let late' = subst (λ (l : List ℕ). HoldSlotsBut (l ++ []) validation v bytes c.args.sectors.now (entries_of c.list.result.now)) (sym listed)
       (subst (λ (es : List Entry). HoldSlotsBut (touched ++ []) validation v bytes c.args.sectors.now es) (sym c.list.ensures.list) late) in
@@ -66,7 +66,7 @@ returns-clause-writes g c = record {
       let slots = subst (λ (es : List Entry). HoldSlotsBut [] validation v c.write_entries.new.allocator.file.bytes c.args.sectors.now es) c.list.ensures.list
       (c.in_ok-write_entries.ensures.slots told validation [] late' valid' held.whole held.chain.distinct) in
       let holds = c.in_ok-write_entries.ensures.among.holds told validation held.tables (members-no_table validation c.args.allocator.now _ c.args.sectors.now held.tables held.chain) in
-      put-holds d entries c.args.parent _ _ touched c.requires.can_put.reached c.insert-number.ensures.inserted c.insert-number.ensures.touches c.insert-number.ensures.touches_only validation held stands
+      put-holds d entries c.args.parent _ _ touched c.requires.can_put.reached c.insert-number.ensures.inserts.inserted c.insert-number.ensures.touched.touches c.insert-number.ensures.touched.touches_only validation held stands
       c.write_entries.new.allocator c.insert-number.new.self.cases c.write_entries.ensures.among.tables holds slots change
   );
   spares = first_of (search rules, grind (arith, common_steps));
@@ -75,12 +75,12 @@ returns-clause-writes g c = record {
       let change = subst (λ (l : List ℕ). ChangesSlots l c.args.allocator.now.tables.version c.args.sectors.now c.args.allocator.now.file.bytes c.write_entries.new.allocator.file.bytes)
       c.deref.ensures.value (c.write_entries.ensures.others told) in
       put-keeps (directory_of c.args.allocator.now c.args.sectors.now c.args.entries.now) c.insert-number.new.self.entries c.args.parent _ _ _
-      c.requires.can_put.reached c.insert-number.ensures.inserted c.insert-number.ensures.touches c.insert-number.ensures.touches_only validation held
+      c.requires.can_put.reached c.insert-number.ensures.inserts.inserted c.insert-number.ensures.touched.touches c.insert-number.ensures.touched.touches_only validation held
       c.write_entries.new.allocator.file.bytes change
   );
   begun = (
       let some = some-touched (directory_of c.args.allocator.now c.args.sectors.now c.args.entries.now) c.insert-number.new.self.entries c.args.parent _ _ _
-      c.requires.can_put.reached c.insert-number.ensures.inserted c.insert-number.ensures.touches c.insert-number.ensures.touches_only (used-kind c.args.kind c.requires.can_put.kinds) in
+      c.requires.can_put.reached c.insert-number.ensures.inserts.inserted c.insert-number.ensures.touched.touches c.insert-number.ensures.touched.touches_only (used-kind c.args.kind c.requires.can_put.kinds) in
       c.in_ok-write_entries.ensures.begun.1 (subst (λ (l : List ℕ). 0 < length l) (sym c.deref.ensures.value) some)
   );
   err = first_of (search rules, grind (arith, common_steps));

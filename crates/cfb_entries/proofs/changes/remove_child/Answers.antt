@@ -26,31 +26,31 @@ returns-clause-removed g c =
     c.args.parent (chars c.args.name.now) c.in_ok-freed.freed c.args.free.now.items c.reserve.new.self.items c.push_reserved.new.self.items
     (ap entries_of c.deref_mut.ensures.value)
     (ap entries_of (written-back c.args.list.now.len new (drop (length new) c.args.list.now.items) (c.remove.auto.entries ∙ c.deref_mut.ensures.len)))
-    c.requires.there c.in_ok-freed.ensures.removed c.push_reserved.ensures.items c.reserve.ensures.items
+    c.requires.there c.in_ok-freed.ensures.removes.removed c.push_reserved.ensures.items c.reserve.ensures.items
 
 pub returns-clause-balanced : goal.returns-clause-balanced
 returns-clause-balanced g c =
     let new = c.remove.new.entries in
     let back : take c.args.list.now.len (new ++ drop (length new) c.args.list.now.items) ≡ new = written-back c.args.list.now.len new (drop (length new) c.args.list.now.items) (c.remove.auto.entries ∙ c.deref_mut.ensures.len) in
-    rw back (rw c.deref_mut.ensures.value at c.in_ok-freed.ensures.balanced)
+    rw back (rw c.deref_mut.ensures.value at c.in_ok-freed.ensures.shape.balanced)
 
 pub returns-clause-red_apart : goal.returns-clause-red_apart
 returns-clause-red_apart g c =
     let new = c.remove.new.entries in
     let back : take c.args.list.now.len (new ++ drop (length new) c.args.list.now.items) ≡ new = written-back c.args.list.now.len new (drop (length new) c.args.list.now.items) (c.remove.auto.entries ∙ c.deref_mut.ensures.len) in
-    rw back (rw c.deref_mut.ensures.value at c.in_ok-freed.ensures.red_apart)
+    rw back (rw c.deref_mut.ensures.value at c.in_ok-freed.ensures.shape.red_apart)
 
 pub returns-clause-touches : goal.returns-clause-touches
 returns-clause-touches g c =
     let new = c.remove.new.entries in
     let back : take c.args.list.now.len (new ++ drop (length new) c.args.list.now.items) ≡ new = written-back c.args.list.now.len new (drop (length new) c.args.list.now.items) (c.remove.auto.entries ∙ c.deref_mut.ensures.len) in
-    rw back (rw c.deref_mut.ensures.value at c.in_ok-freed.ensures.touches)
+    rw back (rw c.deref_mut.ensures.value at c.in_ok-freed.ensures.touched.touches)
 
 pub returns-clause-touches_only : goal.returns-clause-touches_only
-returns-clause-touches_only g c = rw c.deref_mut.ensures.value at c.in_ok-freed.ensures.touches_only
+returns-clause-touches_only g c = rw c.deref_mut.ensures.value at c.in_ok-freed.ensures.touched.touches_only
 
 pub returns-clause-touches_few : goal.returns-clause-touches_few
-returns-clause-touches_few g c = rw c.deref_mut.ensures.value at c.in_ok-freed.ensures.touches_few
+returns-clause-touches_few g c = rw c.deref_mut.ensures.value at c.in_ok-freed.ensures.touched.touches_few
 
 -- ---- the index
 
@@ -76,7 +76,7 @@ index_removal-requires-clause-inside g c =
     let new = c.remove.new.entries in
     let back : take c.args.list.now.len (new ++ drop (length new) c.args.list.now.items) ≡ new = written-back c.args.list.now.len new (drop (length new) c.args.list.now.items) (c.remove.auto.entries ∙ c.deref_mut.ensures.len) in
     let same : c.deref-2.result.now ≡ new = c.deref-2.ensures.value ∙ back in
-    let removes = rw c.deref_mut.ensures.value at c.in_ok-freed.ensures.removed in
+    let removes = rw c.deref_mut.ensures.value at c.in_ok-freed.ensures.removes.removed in
     let longer = told-longer c.args.letters.now old (entries_of new) c.args.parent (chars c.args.name.now) c.requires.short c.requires.there c.in_ok-freed.freed removes in
     let within = there-within c.args.letters.now old c.args.parent (chars c.args.name.now) c.requires.parent c.requires.short c.args.index.now c.requires.covers c.requires.there in
     omega (arith, within, number, longer, entries-length new, ap length same)
@@ -87,7 +87,7 @@ index_removal-requires-clause-within g c k m =
     let new = c.remove.new.entries in
     let back : take c.args.list.now.len (new ++ drop (length new) c.args.list.now.items) ≡ new = written-back c.args.list.now.len new (drop (length new) c.args.list.now.items) (c.remove.auto.entries ∙ c.deref_mut.ensures.len) in
     let same : c.deref-2.result.now ≡ new = c.deref-2.ensures.value ∙ back in
-    let removes = rw c.deref_mut.ensures.value at c.in_ok-freed.ensures.removed in
+    let removes = rw c.deref_mut.ensures.value at c.in_ok-freed.ensures.removes.removed in
     let longer = told-longer c.args.letters.now old (entries_of new) c.args.parent (chars c.args.name.now) c.requires.short c.requires.there c.in_ok-freed.freed removes in
     let within = c.in_ok-inside.ensures.within k (rw c.deref-3.ensures.value at m) in
     omega (arith, within, longer, ap length c.deref.ensures.value, entries-length c.args.list.now.items, entries-length new, ap length same)
@@ -98,7 +98,7 @@ index_removal-requires-clause-short g c =
     let new = c.remove.new.entries in
     let back : take c.args.list.now.len (new ++ drop (length new) c.args.list.now.items) ≡ new = written-back c.args.list.now.len new (drop (length new) c.args.list.now.items) (c.remove.auto.entries ∙ c.deref_mut.ensures.len) in
     let same : c.deref-2.result.now ≡ new = c.deref-2.ensures.value ∙ back in
-    let removes = rw c.deref_mut.ensures.value at c.in_ok-freed.ensures.removed in
+    let removes = rw c.deref_mut.ensures.value at c.in_ok-freed.ensures.removes.removed in
     rw same (told-short c.args.letters.now old (entries_of new) c.args.parent (chars c.args.name.now) c.requires.short c.requires.there c.in_ok-freed.freed removes)
 
 pub index_removal-requires-clause-fits : goal.index_removal-requires-clause-fits
@@ -116,12 +116,12 @@ returns-clause-covered g c =
     let new = c.remove.new.entries in
     let back : take c.args.list.now.len (new ++ drop (length new) c.args.list.now.items) ≡ new = written-back c.args.list.now.len new (drop (length new) c.args.list.now.items) (c.remove.auto.entries ∙ c.deref_mut.ensures.len) in
     let same : c.deref-2.result.now ≡ new = c.deref-2.ensures.value ∙ back in
-    let removes = rw c.deref_mut.ensures.value at c.in_ok-freed.ensures.removed in
+    let removes = rw c.deref_mut.ensures.value at c.in_ok-freed.ensures.removes.removed in
     let (m, moved) = rw c.deref.ensures.value at c.in_ok-inside.ensures.moved in
     let covers = covers-same c.args.letters.now old c.args.index.now c.reserve-2.new.self c.reserve-2.ensures.same c.requires.covers in
     let told = rw (same, c.deref-3.ensures.value) at c.index_removal.ensures.indexed in
     rw back (told-covered c.args.letters.now old (entries_of new) c.args.parent (chars c.args.name.now) c.requires.short c.requires.there c.in_ok-freed.freed removes
-    c.requires.parent c.unwrap-number.result number (rw c.deref_mut.ensures.value at c.in_ok-freed.ensures.thin) m c.in_ok-inside.inside.items moved c.reserve-2.new.self c.index_removal.new.index covers told)
+    c.requires.parent c.unwrap-number.result number (rw c.deref_mut.ensures.value at c.in_ok-freed.ensures.removes.thin) m c.in_ok-inside.inside.items moved c.reserve-2.new.self c.index_removal.new.index covers told)
 
 pub returns-clause-room : goal.returns-clause-room
 returns-clause-room g c =

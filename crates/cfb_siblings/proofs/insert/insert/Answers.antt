@@ -22,79 +22,78 @@ attach-requires-clause-place g c =
     (place-joins es c.args.parent c.args.slot c.requires.few cases (entry_of c.args.entry) (steps_of c.args.place) lt c.requires.beside p fresh) in
     (cases, p.tree, p.frames, j)
 
-pub returns-clause-inserted : goal.returns-clause-inserted
-returns-clause-inserted g c cases list p h =
-    let es = entries_of c.args.entries.now in
-    let (cases2, children, has, out) = c.requires.vacant in
-    let lt = entries-in c.args.entries.now c.args.slot c.requires.slot_in in
-    let w = entry-write c.args.entries.now c.args.slot c.args.entry in
-    let fresh = not-in-tree es c.args.parent c.args.slot c.requires.few cases cases2 p.tree children has out p.dir in
-    let j = subst (λ new. Joins cases new c.args.parent c.args.slot (steps_of c.args.place) p.tree p.frames) (sym w)
-    (place-joins es c.args.parent c.args.slot c.requires.few cases (entry_of c.args.entry) (steps_of c.args.place) lt c.requires.beside p fresh) in
-    let added = subst (λ mid. Attached cases mid (entries_of c.attach.new.entries) c.args.parent c.args.slot p.tree) w (c.attach.ensures.added cases p.tree p.frames j) in
-    let kept = subst (λ mid. KeptBeside mid (entries_of c.attach.new.entries) c.args.parent c.args.slot p.tree) w (c.attach.ensures.kept cases p.tree p.frames j) in
-    subst (Inserts cases es (entries_of c.attach.new.entries) c.args.parent c.args.slot (entry_of c.args.entry)) (same-list es c.args.parent c.args.slot c.requires.few cases cases p.tree list p.dir h)
-    (inserts cases es c.args.parent c.args.slot (entry_of c.args.entry) p.tree c.requires.few lt c.requires.beside p.dir fresh (entries_of c.attach.new.entries) added kept)
-
-pub returns-clause-balanced : goal.returns-clause-balanced
-returns-clause-balanced g c =
-    let es = entries_of c.args.entries.now in
-    let (cases, p) = c.requires.placed in
-    let (cases2, children, has, out) = c.requires.vacant in
-    let lt = entries-in c.args.entries.now c.args.slot c.requires.slot_in in
-    let w = entry-write c.args.entries.now c.args.slot c.args.entry in
-    let fresh = not-in-tree es c.args.parent c.args.slot c.requires.few cases cases2 p.tree children has out p.dir in
-    let j = subst (λ new. Joins cases new c.args.parent c.args.slot (steps_of c.args.place) p.tree p.frames) (sym w)
-    (place-joins es c.args.parent c.args.slot c.requires.few cases (entry_of c.args.entry) (steps_of c.args.place) lt c.requires.beside p fresh) in
-    let added = subst (λ mid. Attached cases mid (entries_of c.attach.new.entries) c.args.parent c.args.slot p.tree) w (c.attach.ensures.added cases p.tree p.frames j) in
-    let kept = subst (λ mid. KeptBeside mid (entries_of c.attach.new.entries) c.args.parent c.args.slot p.tree) w (c.attach.ensures.kept cases p.tree p.frames j) in
-    keeps-balance cases es c.args.parent c.args.slot (entry_of c.args.entry) p.tree c.requires.few lt c.requires.beside p.dir fresh (entries_of c.attach.new.entries) added kept
-
-pub returns-clause-red_apart : goal.returns-clause-red_apart
-returns-clause-red_apart g c cases list p h apart =
-    let es = entries_of c.args.entries.now in
-    let (cases2, children, has, out) = c.requires.vacant in
-    let lt = entries-in c.args.entries.now c.args.slot c.requires.slot_in in
-    let w = entry-write c.args.entries.now c.args.slot c.args.entry in
-    let fresh = not-in-tree es c.args.parent c.args.slot c.requires.few cases cases2 p.tree children has out p.dir in
-    let j = subst (λ new. Joins cases new c.args.parent c.args.slot (steps_of c.args.place) p.tree p.frames) (sym w)
-    (place-joins es c.args.parent c.args.slot c.requires.few cases (entry_of c.args.entry) (steps_of c.args.place) lt c.requires.beside p fresh) in
-    let added = subst (λ mid. Attached cases mid (entries_of c.attach.new.entries) c.args.parent c.args.slot p.tree) w (c.attach.ensures.added cases p.tree p.frames j) in
-    let kept = subst (λ mid. KeptBeside mid (entries_of c.attach.new.entries) c.args.parent c.args.slot p.tree) w (c.attach.ensures.kept cases p.tree p.frames j) in
-    keeps-apart cases es c.args.parent c.args.slot (entry_of c.args.entry) p.tree c.requires.few lt c.requires.beside p.dir fresh (entries_of c.attach.new.entries) added kept
-    (subst (HasRedApart es c.args.parent) (sym (same-list es c.args.parent c.args.slot c.requires.few cases cases p.tree list p.dir h)) apart)
-
-pub returns-clause-touches : goal.returns-clause-touches
-returns-clause-touches g c =
-    let es = entries_of c.args.entries.now in
-    let (cases, p) = c.requires.placed in
-    let (cases2, children, has, out) = c.requires.vacant in
-    let lt = entries-in c.args.entries.now c.args.slot c.requires.slot_in in
-    let w = entry-write c.args.entries.now c.args.slot c.args.entry in
-    let fresh = not-in-tree es c.args.parent c.args.slot c.requires.few cases cases2 p.tree children has out p.dir in
-    let j = subst (λ new. Joins cases new c.args.parent c.args.slot (steps_of c.args.place) p.tree p.frames) (sym w)
-    (place-joins es c.args.parent c.args.slot c.requires.few cases (entry_of c.args.entry) (steps_of c.args.place) lt c.requires.beside p fresh) in
-    let noted = rw c.args.place.none at c.note.ensures.noted in
-    let P = IsNear c.args.parent (Node false Leaf c.args.slot p.tree) in
-    let tells = tells-trans P es (set es c.args.slot (entry_of c.args.entry)) (entries_of c.attach.new.entries) [] c.note.new.touched.items c.attach.new.touched.items
-    (told-set P es (set es c.args.slot (entry_of c.args.entry)) c.args.slot (entry_of c.args.entry) [] c.note.new.touched.items refl (near-new c.args.parent c.args.slot p.tree) noted)
-    (subst (λ mid. Tells P mid (entries_of c.attach.new.entries) c.note.new.touched.items c.attach.new.touched.items) w (c.attach.ensures.told cases p.tree p.frames j)) in
-    touches P es (entries_of c.attach.new.entries) c.attach.new.touched.items (near-new-range es c.args.parent c.args.slot p.tree p.dir.stands lt) tells
-
-pub returns-clause-touches_only : goal.returns-clause-touches_only
-returns-clause-touches_only g c cases3 list h =
-    let es = entries_of c.args.entries.now in
-    let (cases, p) = c.requires.placed in
-    let (cases2, children, has, out) = c.requires.vacant in
-    let lt = entries-in c.args.entries.now c.args.slot c.requires.slot_in in
-    let w = entry-write c.args.entries.now c.args.slot c.args.entry in
-    let fresh = not-in-tree es c.args.parent c.args.slot c.requires.few cases cases2 p.tree children has out p.dir in
-    let j = subst (λ new. Joins cases new c.args.parent c.args.slot (steps_of c.args.place) p.tree p.frames) (sym w)
-    (place-joins es c.args.parent c.args.slot c.requires.few cases (entry_of c.args.entry) (steps_of c.args.place) lt c.requires.beside p fresh) in
-    let noted = rw c.args.place.none at c.note.ensures.noted in
-    let P = IsNear c.args.parent (Node false Leaf c.args.slot p.tree) in
-    let tells = tells-trans P es (set es c.args.slot (entry_of c.args.entry)) (entries_of c.attach.new.entries) [] c.note.new.touched.items c.attach.new.touched.items
-    (told-set P es (set es c.args.slot (entry_of c.args.entry)) c.args.slot (entry_of c.args.entry) [] c.note.new.touched.items refl (near-new c.args.parent c.args.slot p.tree) noted)
-    (subst (λ mid. Tells P mid (entries_of c.attach.new.entries) c.note.new.touched.items c.attach.new.touched.items) w (c.attach.ensures.told cases p.tree p.frames j)) in
-    let e = same-list es c.args.parent c.args.slot c.requires.few cases cases3 p.tree list p.dir h in
-    touches-only P es (entries_of c.attach.new.entries) c.args.parent (c.args.slot ∷ list) c.attach.new.touched.items (near-new-list c.args.parent c.args.slot p.tree list e) tells
+pub returns : goal.returns
+returns g c = record { inserts = record {
+  inserted = λ cases list p h. (
+      let es = entries_of c.args.entries.now in
+      let (cases2, children, has, out) = c.requires.vacant in
+      let lt = entries-in c.args.entries.now c.args.slot c.requires.slot_in in
+      let w = entry-write c.args.entries.now c.args.slot c.args.entry in
+      let fresh = not-in-tree es c.args.parent c.args.slot c.requires.few cases cases2 p.tree children has out p.dir in
+      let j = subst (λ new. Joins cases new c.args.parent c.args.slot (steps_of c.args.place) p.tree p.frames) (sym w)
+      (place-joins es c.args.parent c.args.slot c.requires.few cases (entry_of c.args.entry) (steps_of c.args.place) lt c.requires.beside p fresh) in
+      let added = subst (λ mid. Attached cases mid (entries_of c.attach.new.entries) c.args.parent c.args.slot p.tree) w (c.attach.ensures.added cases p.tree p.frames j) in
+      let kept = subst (λ mid. KeptBeside mid (entries_of c.attach.new.entries) c.args.parent c.args.slot p.tree) w (c.attach.ensures.kept cases p.tree p.frames j) in
+      subst (Inserts cases es (entries_of c.attach.new.entries) c.args.parent c.args.slot (entry_of c.args.entry)) (same-list es c.args.parent c.args.slot c.requires.few cases cases p.tree list p.dir h)
+      (inserts cases es c.args.parent c.args.slot (entry_of c.args.entry) p.tree c.requires.few lt c.requires.beside p.dir fresh (entries_of c.attach.new.entries) added kept)
+  );
+  balanced = (
+      let es = entries_of c.args.entries.now in
+      let (cases, p) = c.requires.placed in
+      let (cases2, children, has, out) = c.requires.vacant in
+      let lt = entries-in c.args.entries.now c.args.slot c.requires.slot_in in
+      let w = entry-write c.args.entries.now c.args.slot c.args.entry in
+      let fresh = not-in-tree es c.args.parent c.args.slot c.requires.few cases cases2 p.tree children has out p.dir in
+      let j = subst (λ new. Joins cases new c.args.parent c.args.slot (steps_of c.args.place) p.tree p.frames) (sym w)
+      (place-joins es c.args.parent c.args.slot c.requires.few cases (entry_of c.args.entry) (steps_of c.args.place) lt c.requires.beside p fresh) in
+      let added = subst (λ mid. Attached cases mid (entries_of c.attach.new.entries) c.args.parent c.args.slot p.tree) w (c.attach.ensures.added cases p.tree p.frames j) in
+      let kept = subst (λ mid. KeptBeside mid (entries_of c.attach.new.entries) c.args.parent c.args.slot p.tree) w (c.attach.ensures.kept cases p.tree p.frames j) in
+      keeps-balance cases es c.args.parent c.args.slot (entry_of c.args.entry) p.tree c.requires.few lt c.requires.beside p.dir fresh (entries_of c.attach.new.entries) added kept
+  );
+  red_apart = λ cases list p h apart. (
+      let es = entries_of c.args.entries.now in
+      let (cases2, children, has, out) = c.requires.vacant in
+      let lt = entries-in c.args.entries.now c.args.slot c.requires.slot_in in
+      let w = entry-write c.args.entries.now c.args.slot c.args.entry in
+      let fresh = not-in-tree es c.args.parent c.args.slot c.requires.few cases cases2 p.tree children has out p.dir in
+      let j = subst (λ new. Joins cases new c.args.parent c.args.slot (steps_of c.args.place) p.tree p.frames) (sym w)
+      (place-joins es c.args.parent c.args.slot c.requires.few cases (entry_of c.args.entry) (steps_of c.args.place) lt c.requires.beside p fresh) in
+      let added = subst (λ mid. Attached cases mid (entries_of c.attach.new.entries) c.args.parent c.args.slot p.tree) w (c.attach.ensures.added cases p.tree p.frames j) in
+      let kept = subst (λ mid. KeptBeside mid (entries_of c.attach.new.entries) c.args.parent c.args.slot p.tree) w (c.attach.ensures.kept cases p.tree p.frames j) in
+      keeps-apart cases es c.args.parent c.args.slot (entry_of c.args.entry) p.tree c.requires.few lt c.requires.beside p.dir fresh (entries_of c.attach.new.entries) added kept
+      (subst (HasRedApart es c.args.parent) (sym (same-list es c.args.parent c.args.slot c.requires.few cases cases p.tree list p.dir h)) apart)
+  );
+  touches = (
+      let es = entries_of c.args.entries.now in
+      let (cases, p) = c.requires.placed in
+      let (cases2, children, has, out) = c.requires.vacant in
+      let lt = entries-in c.args.entries.now c.args.slot c.requires.slot_in in
+      let w = entry-write c.args.entries.now c.args.slot c.args.entry in
+      let fresh = not-in-tree es c.args.parent c.args.slot c.requires.few cases cases2 p.tree children has out p.dir in
+      let j = subst (λ new. Joins cases new c.args.parent c.args.slot (steps_of c.args.place) p.tree p.frames) (sym w)
+      (place-joins es c.args.parent c.args.slot c.requires.few cases (entry_of c.args.entry) (steps_of c.args.place) lt c.requires.beside p fresh) in
+      let noted = rw c.args.place.none at c.note.ensures.noted in
+      let P = IsNear c.args.parent (Node false Leaf c.args.slot p.tree) in
+      let tells = tells-trans P es (set es c.args.slot (entry_of c.args.entry)) (entries_of c.attach.new.entries) [] c.note.new.touched.items c.attach.new.touched.items
+      (told-set P es (set es c.args.slot (entry_of c.args.entry)) c.args.slot (entry_of c.args.entry) [] c.note.new.touched.items refl (near-new c.args.parent c.args.slot p.tree) noted)
+      (subst (λ mid. Tells P mid (entries_of c.attach.new.entries) c.note.new.touched.items c.attach.new.touched.items) w (c.attach.ensures.told cases p.tree p.frames j)) in
+      touches P es (entries_of c.attach.new.entries) c.attach.new.touched.items (near-new-range es c.args.parent c.args.slot p.tree p.dir.stands lt) tells
+  );
+  touches_only = λ cases3 list h. (
+      let es = entries_of c.args.entries.now in
+      let (cases, p) = c.requires.placed in
+      let (cases2, children, has, out) = c.requires.vacant in
+      let lt = entries-in c.args.entries.now c.args.slot c.requires.slot_in in
+      let w = entry-write c.args.entries.now c.args.slot c.args.entry in
+      let fresh = not-in-tree es c.args.parent c.args.slot c.requires.few cases cases2 p.tree children has out p.dir in
+      let j = subst (λ new. Joins cases new c.args.parent c.args.slot (steps_of c.args.place) p.tree p.frames) (sym w)
+      (place-joins es c.args.parent c.args.slot c.requires.few cases (entry_of c.args.entry) (steps_of c.args.place) lt c.requires.beside p fresh) in
+      let noted = rw c.args.place.none at c.note.ensures.noted in
+      let P = IsNear c.args.parent (Node false Leaf c.args.slot p.tree) in
+      let tells = tells-trans P es (set es c.args.slot (entry_of c.args.entry)) (entries_of c.attach.new.entries) [] c.note.new.touched.items c.attach.new.touched.items
+      (told-set P es (set es c.args.slot (entry_of c.args.entry)) c.args.slot (entry_of c.args.entry) [] c.note.new.touched.items refl (near-new c.args.parent c.args.slot p.tree) noted)
+      (subst (λ mid. Tells P mid (entries_of c.attach.new.entries) c.note.new.touched.items c.attach.new.touched.items) w (c.attach.ensures.told cases p.tree p.frames j)) in
+      let e = same-list es c.args.parent c.args.slot c.requires.few cases cases3 p.tree list p.dir h in
+      touches-only P es (entries_of c.attach.new.entries) c.args.parent (c.args.slot ∷ list) c.attach.new.touched.items (near-new-list c.args.parent c.args.slot p.tree list e) tells
+  );
+} }

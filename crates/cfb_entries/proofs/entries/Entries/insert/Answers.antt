@@ -59,7 +59,7 @@ invariant_of-self g c =
     let placed : IsPlaceFor s.letters (entries_of s.list.items) c.args.parent (chars (string_bytes c.new-entry.result.name)) (steps_of c.args.insertion.place) = rw (cases, entries, name) c.requires.prepared.placed in
     let inserts : (list : List ℕ) → HasChildren s.letters (entries_of s.list.items) c.args.parent list → Inserts s.letters (entries_of s.list.items) (entries_of new) c.args.parent c.take_slot-slot.result (new_entry (name_in c.args.insertion) c.args.kind c.args.moment) list =
     λ list h. subst (λ (e : Entry). Inserts s.letters (entries_of s.list.items) (entries_of new) c.args.parent c.take_slot-slot.result e list) c.new-entry.ensures
-    ((rw c.deref_mut.ensures.value at c.insert-touched.ensures.inserted) s.letters list placed h) in
+    ((rw c.deref_mut.ensures.value at c.insert-touched.ensures.inserts.inserted) s.letters list placed h) in
     let put : IsPut s.letters (entries_of s.list.items) (entries_of new) c.args.parent c.take_slot-slot.result (new_entry (name_in c.args.insertion) c.args.kind c.args.moment) c.take_slot-slot.new.free.items =
     is-put s.letters (entries_of s.list.items) (entries_of new) c.args.parent c.take_slot-slot.result (new_entry (name_in c.args.insertion) c.args.kind c.args.moment) c.take_slot-slot.new.free.items
     reached c.self.invariant.0 listed c.requires.kind refl (valid-short (name_in c.args.insertion) c.requires.valid) inserts in
@@ -93,7 +93,7 @@ put_entry-requires-clause-short g c =
     let placed : IsPlaceFor s.letters (entries_of s.list.items) c.args.parent (chars (string_bytes c.new-entry.result.name)) (steps_of c.args.insertion.place) = rw (cases, entries, name) c.requires.prepared.placed in
     let inserts : (list : List ℕ) → HasChildren s.letters (entries_of s.list.items) c.args.parent list → Inserts s.letters (entries_of s.list.items) (entries_of new) c.args.parent c.take_slot-slot.result (new_entry (name_in c.args.insertion) c.args.kind c.args.moment) list =
     λ list h. subst (λ (e : Entry). Inserts s.letters (entries_of s.list.items) (entries_of new) c.args.parent c.take_slot-slot.result e list) c.new-entry.ensures
-    ((rw c.deref_mut.ensures.value at c.insert-touched.ensures.inserted) s.letters list placed h) in
+    ((rw c.deref_mut.ensures.value at c.insert-touched.ensures.inserts.inserted) s.letters list placed h) in
     let put : IsPut s.letters (entries_of s.list.items) (entries_of new) c.args.parent c.take_slot-slot.result (new_entry (name_in c.args.insertion) c.args.kind c.args.moment) c.take_slot-slot.new.free.items =
     is-put s.letters (entries_of s.list.items) (entries_of new) c.args.parent c.take_slot-slot.result (new_entry (name_in c.args.insertion) c.args.kind c.args.moment) c.take_slot-slot.new.free.items
     reached c.self.invariant.0 listed c.requires.kind refl (valid-short (name_in c.args.insertion) c.requires.valid) inserts in
@@ -104,58 +104,61 @@ put_entry-requires-clause-short g c =
 pub put_entry-requires-clause-room : goal.put_entry-requires-clause-room
 put_entry-requires-clause-room g c = omega (arith, c.self.invariant.3, c.take_slot-slot.ensures.len)
 
-pub returns-clause-inserted : goal.returns-clause-inserted
-returns-clause-inserted g c =
-    let s = c.self.inside in
-    let new = c.insert-touched.new.entries in
-    let cases : s.letters ≡ c.args.self.now.cases = ap (λ (e : EntryList). e.cases) c.self.view_is in
-    let entries : entries_of s.list.items ≡ c.args.self.now.entries = ap (λ (e : EntryList). e.entries) c.self.view_is in
-    let reached : IsReachedStorage s.letters (entries_of s.list.items) c.args.parent = rw (cases, entries) c.requires.parent in
-    let listed : ListsFreeSlots (entries_of s.list.items) (c.take_slot-slot.new.free.items ++ c.take_slot-slot.result ∷ []) = rw c.take_slot-slot.ensures.items at c.self.invariant.1 in
-    let name : chars (string_bytes c.new-entry.result.name) ≡ chars (string_bytes c.args.insertion.name) = ap (λ (e : Entry). e.name) c.new-entry.ensures in
-    let placed : IsPlaceFor s.letters (entries_of s.list.items) c.args.parent (chars (string_bytes c.new-entry.result.name)) (steps_of c.args.insertion.place) = rw (cases, entries, name) c.requires.prepared.placed in
-    let inserts : (list : List ℕ) → HasChildren s.letters (entries_of s.list.items) c.args.parent list → Inserts s.letters (entries_of s.list.items) (entries_of new) c.args.parent c.take_slot-slot.result (new_entry (name_in c.args.insertion) c.args.kind c.args.moment) list =
-    λ list h. subst (λ (e : Entry). Inserts s.letters (entries_of s.list.items) (entries_of new) c.args.parent c.take_slot-slot.result e list) c.new-entry.ensures
-    ((rw c.deref_mut.ensures.value at c.insert-touched.ensures.inserted) s.letters list placed h) in
-    let put : IsPut s.letters (entries_of s.list.items) (entries_of new) c.args.parent c.take_slot-slot.result (new_entry (name_in c.args.insertion) c.args.kind c.args.moment) c.take_slot-slot.new.free.items =
-    is-put s.letters (entries_of s.list.items) (entries_of new) c.args.parent c.take_slot-slot.result (new_entry (name_in c.args.insertion) c.args.kind c.args.moment) c.take_slot-slot.new.free.items
-    reached c.self.invariant.0 listed c.requires.kind refl (valid-short (name_in c.args.insertion) c.requires.valid) inserts in
-    let back : take s.list.len (new ++ drop (length new) s.list.items) ≡ new = written-back s.list.len new (drop (length new) s.list.items) (c.insert-touched.auto.entries ∙ c.deref_mut.ensures.len) in
-    rw back (rw (cases, entries) at put.inserted)
+pub returns-clause-inserts : goal.returns-clause-inserts
+returns-clause-inserts g c = record {
+  inserted = (
+      let s = c.self.inside in
+      let new = c.insert-touched.new.entries in
+      let cases : s.letters ≡ c.args.self.now.cases = ap (λ (e : EntryList). e.cases) c.self.view_is in
+      let entries : entries_of s.list.items ≡ c.args.self.now.entries = ap (λ (e : EntryList). e.entries) c.self.view_is in
+      let reached : IsReachedStorage s.letters (entries_of s.list.items) c.args.parent = rw (cases, entries) c.requires.parent in
+      let listed : ListsFreeSlots (entries_of s.list.items) (c.take_slot-slot.new.free.items ++ c.take_slot-slot.result ∷ []) = rw c.take_slot-slot.ensures.items at c.self.invariant.1 in
+      let name : chars (string_bytes c.new-entry.result.name) ≡ chars (string_bytes c.args.insertion.name) = ap (λ (e : Entry). e.name) c.new-entry.ensures in
+      let placed : IsPlaceFor s.letters (entries_of s.list.items) c.args.parent (chars (string_bytes c.new-entry.result.name)) (steps_of c.args.insertion.place) = rw (cases, entries, name) c.requires.prepared.placed in
+      let inserts : (list : List ℕ) → HasChildren s.letters (entries_of s.list.items) c.args.parent list → Inserts s.letters (entries_of s.list.items) (entries_of new) c.args.parent c.take_slot-slot.result (new_entry (name_in c.args.insertion) c.args.kind c.args.moment) list =
+      λ list h. subst (λ (e : Entry). Inserts s.letters (entries_of s.list.items) (entries_of new) c.args.parent c.take_slot-slot.result e list) c.new-entry.ensures
+      ((rw c.deref_mut.ensures.value at c.insert-touched.ensures.inserts.inserted) s.letters list placed h) in
+      let put : IsPut s.letters (entries_of s.list.items) (entries_of new) c.args.parent c.take_slot-slot.result (new_entry (name_in c.args.insertion) c.args.kind c.args.moment) c.take_slot-slot.new.free.items =
+      is-put s.letters (entries_of s.list.items) (entries_of new) c.args.parent c.take_slot-slot.result (new_entry (name_in c.args.insertion) c.args.kind c.args.moment) c.take_slot-slot.new.free.items
+      reached c.self.invariant.0 listed c.requires.kind refl (valid-short (name_in c.args.insertion) c.requires.valid) inserts in
+      let back : take s.list.len (new ++ drop (length new) s.list.items) ≡ new = written-back s.list.len new (drop (length new) s.list.items) (c.insert-touched.auto.entries ∙ c.deref_mut.ensures.len) in
+      rw back (rw (cases, entries) at put.inserted)
+  );
+  balanced = (
+      let s = c.self.inside in
+      let new = c.insert-touched.new.entries in
+      let same : entries_of c.deref_mut.result.now ≡ c.args.self.now.entries = ap entries_of c.deref_mut.ensures.value ∙ ap (λ (e : EntryList). e.entries) c.self.view_is in
+      let back : take s.list.len (new ++ drop (length new) s.list.items) ≡ new = written-back s.list.len new (drop (length new) s.list.items) (c.insert-touched.auto.entries ∙ c.deref_mut.ensures.len) in
+      rw back (rw same at c.insert-touched.ensures.inserts.balanced)
+  );
+  red_apart = (
+      let s = c.self.inside in
+      let new = c.insert-touched.new.entries in
+      let same : entries_of c.deref_mut.result.now ≡ c.args.self.now.entries = ap entries_of c.deref_mut.ensures.value ∙ ap (λ (e : EntryList). e.entries) c.self.view_is in
+      let back : take s.list.len (new ++ drop (length new) s.list.items) ≡ new = written-back s.list.len new (drop (length new) s.list.items) (c.insert-touched.auto.entries ∙ c.deref_mut.ensures.len) in
+      let cases : s.letters ≡ c.args.self.now.cases = ap (λ (e : EntryList). e.cases) c.self.view_is in
+      let name : chars (string_bytes c.new-entry.result.name) ≡ chars (string_bytes c.args.insertion.name) = ap (λ (e : Entry). e.name) c.new-entry.ensures in
+      let placed : IsPlaceFor s.letters (entries_of c.deref_mut.result.now) c.args.parent (chars (string_bytes c.new-entry.result.name)) (steps_of c.args.insertion.place) = rw (cases, same, name) c.requires.prepared.placed in
+      let apart : (list : List ℕ) → HasChildren c.args.self.now.cases c.args.self.now.entries c.args.parent list → HasRedApart c.args.self.now.entries c.args.parent list
+      → (after : List ℕ) × HasChildren s.letters (entries_of new) c.args.parent after × HasRedApart (entries_of new) c.args.parent after =
+      λ list h a. c.insert-touched.ensures.inserts.red_apart s.letters list placed (rw (cases, same) h) (rw same a) in
+      rw back apart
+  );
+}
 
-pub returns-clause-balanced : goal.returns-clause-balanced
-returns-clause-balanced g c =
-    let s = c.self.inside in
-    let new = c.insert-touched.new.entries in
-    let same : entries_of c.deref_mut.result.now ≡ c.args.self.now.entries = ap entries_of c.deref_mut.ensures.value ∙ ap (λ (e : EntryList). e.entries) c.self.view_is in
-    let back : take s.list.len (new ++ drop (length new) s.list.items) ≡ new = written-back s.list.len new (drop (length new) s.list.items) (c.insert-touched.auto.entries ∙ c.deref_mut.ensures.len) in
-    rw back (rw same at c.insert-touched.ensures.balanced)
-
-pub returns-clause-red_apart : goal.returns-clause-red_apart
-returns-clause-red_apart g c =
-    let s = c.self.inside in
-    let new = c.insert-touched.new.entries in
-    let same : entries_of c.deref_mut.result.now ≡ c.args.self.now.entries = ap entries_of c.deref_mut.ensures.value ∙ ap (λ (e : EntryList). e.entries) c.self.view_is in
-    let back : take s.list.len (new ++ drop (length new) s.list.items) ≡ new = written-back s.list.len new (drop (length new) s.list.items) (c.insert-touched.auto.entries ∙ c.deref_mut.ensures.len) in
-    let cases : s.letters ≡ c.args.self.now.cases = ap (λ (e : EntryList). e.cases) c.self.view_is in
-    let name : chars (string_bytes c.new-entry.result.name) ≡ chars (string_bytes c.args.insertion.name) = ap (λ (e : Entry). e.name) c.new-entry.ensures in
-    let placed : IsPlaceFor s.letters (entries_of c.deref_mut.result.now) c.args.parent (chars (string_bytes c.new-entry.result.name)) (steps_of c.args.insertion.place) = rw (cases, same, name) c.requires.prepared.placed in
-    let apart : (list : List ℕ) → HasChildren c.args.self.now.cases c.args.self.now.entries c.args.parent list → HasRedApart c.args.self.now.entries c.args.parent list
-    → (after : List ℕ) × HasChildren s.letters (entries_of new) c.args.parent after × HasRedApart (entries_of new) c.args.parent after =
-    λ list h a. c.insert-touched.ensures.red_apart s.letters list placed (rw (cases, same) h) (rw same a) in
-    rw back apart
-
-pub returns-clause-touches : goal.returns-clause-touches
-returns-clause-touches g c =
-    let s = c.self.inside in
-    let new = c.insert-touched.new.entries in
-    let same : entries_of c.deref_mut.result.now ≡ c.args.self.now.entries = ap entries_of c.deref_mut.ensures.value ∙ ap (λ (e : EntryList). e.entries) c.self.view_is in
-    let back : take s.list.len (new ++ drop (length new) s.list.items) ≡ new = written-back s.list.len new (drop (length new) s.list.items) (c.insert-touched.auto.entries ∙ c.deref_mut.ensures.len) in
-    rw back (rw same at c.insert-touched.ensures.touches)
-
-pub returns-clause-touches_only : goal.returns-clause-touches_only
-returns-clause-touches_only g c list h =
-    let s = c.self.inside in
-    let cases : s.letters ≡ c.args.self.now.cases = ap (λ (e : EntryList). e.cases) c.self.view_is in
-    let same : entries_of c.deref_mut.result.now ≡ c.args.self.now.entries = ap entries_of c.deref_mut.ensures.value ∙ ap (λ (e : EntryList). e.entries) c.self.view_is in
-    c.insert-touched.ensures.touches_only s.letters list (rw (cases, same) h)
+pub returns-clause-touched : goal.returns-clause-touched
+returns-clause-touched g c = record {
+  touches = (
+      let s = c.self.inside in
+      let new = c.insert-touched.new.entries in
+      let same : entries_of c.deref_mut.result.now ≡ c.args.self.now.entries = ap entries_of c.deref_mut.ensures.value ∙ ap (λ (e : EntryList). e.entries) c.self.view_is in
+      let back : take s.list.len (new ++ drop (length new) s.list.items) ≡ new = written-back s.list.len new (drop (length new) s.list.items) (c.insert-touched.auto.entries ∙ c.deref_mut.ensures.len) in
+      rw back (rw same at c.insert-touched.ensures.touched.touches)
+  );
+  touches_only = λ list h. (
+      let s = c.self.inside in
+      let cases : s.letters ≡ c.args.self.now.cases = ap (λ (e : EntryList). e.cases) c.self.view_is in
+      let same : entries_of c.deref_mut.result.now ≡ c.args.self.now.entries = ap entries_of c.deref_mut.ensures.value ∙ ap (λ (e : EntryList). e.entries) c.self.view_is in
+      c.insert-touched.ensures.touched.touches_only s.letters list (rw (cases, same) h)
+  );
+}

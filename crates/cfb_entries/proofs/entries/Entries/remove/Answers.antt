@@ -1,4 +1,5 @@
-use Rattle.std.proofs.Common.{◌≡◌, ap, length, arith}
+use Rattle.std.proofs.lemmas.Grind.{common_steps}
+use Rattle.std.proofs.Common.{◌≡◌, ap, length, arith, rules}
 use Rattle.std.specs.Prelude.{chars}
 use Rattle.cfb_codecs.specs.EntryModel.{entries_of}
 use Rattle.cfb_outline.specs.Outlines.{IsReachedStorage}
@@ -29,30 +30,34 @@ invariant_of-self g c =
       omega (arith, more, c.self.invariant.3, ap length free, s.free.ok.0, c.remove_child.new.free.ok.0),
     ))
 
-pub returns-clause-removed : goal.returns-clause-removed
-returns-clause-removed g c =
-    let cases : c.self.inside.letters ≡ c.args.self.now.cases = ap (λ (e : EntryList). e.cases) c.self.view_is in
-    let entries : entries_of c.self.inside.list.items ≡ c.args.self.now.entries = ap (λ (e : EntryList). e.entries) c.self.view_is in
-    on-ok c.remove_child.result (λ (r, listed). r) (rw (cases, entries) at c.remove_child.ensures.removed)
+pub returns-clause-removes : goal.returns-clause-removes
+returns-clause-removes g c = record {
+  removed = (
+      let cases : c.self.inside.letters ≡ c.args.self.now.cases = ap (λ (e : EntryList). e.cases) c.self.view_is in
+      let entries : entries_of c.self.inside.list.items ≡ c.args.self.now.entries = ap (λ (e : EntryList). e.entries) c.self.view_is in
+      on-ok c.remove_child.result (λ (r, listed). r) (rw (cases, entries) at c.remove_child.ensures.removed)
+  );
+  balanced = (
+      let entries : entries_of c.self.inside.list.items ≡ c.args.self.now.entries = ap (λ (e : EntryList). e.entries) c.self.view_is in
+      rw entries at c.remove_child.ensures.balanced
+  );
+  red_apart = (
+      let entries : entries_of c.self.inside.list.items ≡ c.args.self.now.entries = ap (λ (e : EntryList). e.entries) c.self.view_is in
+      let cases : c.self.inside.letters ≡ c.args.self.now.cases = ap (λ (e : EntryList). e.cases) c.self.view_is in
+      rw cases (rw (cases, entries) at c.remove_child.ensures.red_apart)
+  );
+}
 
-pub returns-clause-balanced : goal.returns-clause-balanced
-returns-clause-balanced g c =
-    let entries : entries_of c.self.inside.list.items ≡ c.args.self.now.entries = ap (λ (e : EntryList). e.entries) c.self.view_is in
-    rw entries at c.remove_child.ensures.balanced
-
-pub returns-clause-red_apart : goal.returns-clause-red_apart
-returns-clause-red_apart g c =
-    let entries : entries_of c.self.inside.list.items ≡ c.args.self.now.entries = ap (λ (e : EntryList). e.entries) c.self.view_is in
-    let cases : c.self.inside.letters ≡ c.args.self.now.cases = ap (λ (e : EntryList). e.cases) c.self.view_is in
-    rw cases (rw (cases, entries) at c.remove_child.ensures.red_apart)
-
-pub returns-clause-touches_only : goal.returns-clause-touches_only
-returns-clause-touches_only g c =
-    let cases : c.self.inside.letters ≡ c.args.self.now.cases = ap (λ (e : EntryList). e.cases) c.self.view_is in
-    let entries : entries_of c.self.inside.list.items ≡ c.args.self.now.entries = ap (λ (e : EntryList). e.entries) c.self.view_is in
-    rw (cases, entries) at c.remove_child.ensures.touches_only
-
-pub returns-clause-touches_few : goal.returns-clause-touches_few
-returns-clause-touches_few g c =
-    let entries : entries_of c.self.inside.list.items ≡ c.args.self.now.entries = ap (λ (e : EntryList). e.entries) c.self.view_is in
-    rw entries at c.remove_child.ensures.touches_few
+pub returns-clause-touches : goal.returns-clause-touches
+returns-clause-touches g c = record {
+  touches = first_of (search rules, grind (arith, common_steps));
+  touches_only = (
+      let cases : c.self.inside.letters ≡ c.args.self.now.cases = ap (λ (e : EntryList). e.cases) c.self.view_is in
+      let entries : entries_of c.self.inside.list.items ≡ c.args.self.now.entries = ap (λ (e : EntryList). e.entries) c.self.view_is in
+      rw (cases, entries) at c.remove_child.ensures.touches_only
+  );
+  touches_few = (
+      let entries : entries_of c.self.inside.list.items ≡ c.args.self.now.entries = ap (λ (e : EntryList). e.entries) c.self.view_is in
+      rw entries at c.remove_child.ensures.touches_few
+  );
+}
