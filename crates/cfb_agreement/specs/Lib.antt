@@ -13,3 +13,4 @@ pub use Rattle.cfb_content.specs as cfb_content
 pub mod Files
 pub mod Changes
 pub mod Laws
+pub mod LawsTogether

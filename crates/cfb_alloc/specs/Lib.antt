@@ -18,3 +18,4 @@ pub mod Taking
 pub mod Freeing
 pub mod Writing
 pub mod Lending
+pub mod LawsTogether

@@ -1,6 +1,7 @@
 //! What the definitions promise about each other. None of these functions does anything: each has a law
 //! as its contract.
 ghost use Rattle.cfb_alloc.specs.Frame.{NothingIsTouched, SparesLess, SparesInTurn, ForeignStays, OtherChainsAreSpared, BytesStayInPlace, TakingSpares, BrokenTakingSpares, FreeingSpares, BrokenFreeingSpares, WritingSpares};
+ghost use Rattle.cfb_alloc.specs.LawsTogether.{SoundTablesAreHeld, ChangesSpareOthers, EachChangeSparesOthers};
 ghost use Rattle.cfb_alloc.specs.Fresh.{FreshSlotsAreUnallocated};
 ghost use Rattle.cfb_alloc.specs.Held.{SoundTablesAreHeld, StrictTablesAreHeld, HeldTablesAreStrict, MembersAreNoTableSectors, HeldTablesAreUsable};
 
@@ -8,29 +9,18 @@ ghost use Rattle.cfb_alloc.specs.Held.{SoundTablesAreHeld, StrictTablesAreHeld, 
 /// these tables over these bytes may change them, and what it holds as strict opening wants it,
 /// strict opening takes (MS-CFB 2.3 and 2.5).
 pub fn sound_tables_are_held()
-    ensures sound { SoundTablesAreHeld }
-    ensures strict { StrictTablesAreHeld }
-    ensures taken { HeldTablesAreStrict }
+        ensures laws { SoundTablesAreHeld }
 {}
 
 /// What changes spare, one after the other: where nothing is touched all is, and chains of sectors that are none of a change's own
 /// stay, with each of their bytes at its place.
 pub fn changes_spare_others()
-    ensures nothing { NothingIsTouched }
-    ensures less { SparesLess }
-    ensures in_turn { SparesInTurn }
-    ensures foreign { ForeignStays }
-    ensures chains { OtherChainsAreSpared }
-    ensures bytes { BytesStayInPlace }
+        ensures laws { ChangesSpareOthers }
 {}
 
 /// What was said of taking, freeing and writing spares all others, also where the change broke off.
 pub fn each_change_spares_others()
-    ensures taking { TakingSpares }
-    ensures broken_taking { BrokenTakingSpares }
-    ensures freeing { FreeingSpares }
-    ensures broken_freeing { BrokenFreeingSpares }
-    ensures writing { WritingSpares }
+        ensures laws { EachChangeSparesOthers }
 {}
 
 /// Tables that the bytes hold can be changed, and no chain has a table sector among its members.

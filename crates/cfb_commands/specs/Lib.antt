@@ -21,3 +21,4 @@ pub mod Faults
 pub mod Failing
 pub mod Heeding
 pub mod Replies
+pub mod LawsTogether

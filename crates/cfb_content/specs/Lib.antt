@@ -24,3 +24,4 @@ pub mod Along
 pub mod Filling
 pub mod Growing
 pub mod Turning
+pub mod LawsTogether

@@ -5,3 +5,4 @@ pub mod Needs
 pub mod Laws
 pub mod Growth
 pub mod Cut
+pub mod LawsTogether

@@ -1,6 +1,7 @@
 //! What the definitions promise about each other. None of these functions does anything: each has a
 //! law as its contract.
 ghost use Rattle.cfb_copy_sizes.specs.Growth.{AllAreCounted, ContentCanBeHad, CreatedIsTight, EntryCanBeHad, LessIsNotTooMuch, NeededCanBeTaken};
+ghost use Rattle.cfb_copy_sizes.specs.LawsTogether.{GrowthFindsRoom};
 ghost use Rattle.cfb_copy_sizes.specs.Laws.{CountsAreTheTrees, RoomIsForTables};
 
 /// What is counted along the list of all objects is what their tree needs.
@@ -16,10 +17,5 @@ pub fn room_is_for_tables()
 
 /// A file that grows into a tree for which there is room finds what it takes on the way.
 pub fn growth_finds_room()
-    ensures created { CreatedIsTight }
-    ensures less { LessIsNotTooMuch }
-    ensures counted { AllAreCounted }
-    ensures taken { NeededCanBeTaken }
-    ensures entry { EntryCanBeHad }
-    ensures content { ContentCanBeHad }
+        ensures laws { GrowthFindsRoom }
 {}

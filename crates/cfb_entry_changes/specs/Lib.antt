@@ -22,3 +22,4 @@ pub mod Taking
 pub mod Clearing
 pub mod Marking
 pub mod Laws
+pub mod LawsTogether

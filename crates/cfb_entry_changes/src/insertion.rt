@@ -1,13 +1,11 @@
 //! What a new object in the directory makes of a file. None of these functions does anything: each has a law as its contract.
 ghost use Rattle.cfb_entry_changes.specs.Balance.{InsertionKeepsBalance};
+ghost use Rattle.cfb_entry_changes.specs.LawsTogether.{NewObjectsAreInTheTree, InsertionsKeepFilesSound};
 ghost use Rattle.cfb_entry_changes.specs.InsertionLaws.{PutHasOutline, PutLosesNone, PutIsBalanced, PutIsChangeable, PutIsExact, PutObjectIsFound, PutIsNew, PutKeepsRoot, PutKeepsStreams, PutGrowsTightly, PutStorageJoinsTree, PutStreamJoinsTree, FullForEntryIsFull, PutIsSnug, PutIsSnugMini};
 
 /// The new object is one of the tree, empty and of its kind, and stands at its names; the mini stream keeps its length (MS-CFB 2.6).
 pub fn new_objects_are_in_the_tree()
-    ensures outline { PutHasOutline }
-    ensures new { PutIsNew }
-    ensures found { PutObjectIsFound }
-    ensures root { PutKeepsRoot }
+        ensures laws { NewObjectsAreInTheTree }
 {}
 
 /// The contents of all streams stay, whatever becomes of the insertion.
@@ -19,12 +17,7 @@ pub fn insertions_keep_streams()
 /// was not lost before, its tables are exact and its chains as long as they need to be, if they were, and where the file went on none of its
 /// sectors is free.
 pub fn insertions_keep_files_sound()
-    ensures changeable { PutIsChangeable }
-    ensures loses_none { PutLosesNone }
-    ensures exact { PutIsExact }
-    ensures snug { PutIsSnug }
-    ensures snug_mini { PutIsSnugMini }
-    ensures grows { PutGrowsTightly }
+        ensures laws { InsertionsKeepFilesSound }
 {}
 
 /// The children of all storages stay in balance: an insertion changes that of none but its own.

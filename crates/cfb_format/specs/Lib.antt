@@ -21,3 +21,4 @@ pub mod Created
 pub mod Laws
 pub mod StdKinds
 pub mod VersionText
+pub mod LawsTogether

@@ -1,6 +1,7 @@
 //! What the definitions of the format promise about each other. None of these functions does
 //! anything: each has a law as its contract.
 ghost use Rattle.cfb_format.specs.Laws.{AtMostOneReading, AtMostOneTree, ChainIsWalked, OneListBelow, NamesAreOrdered, EqualByKey, CreatedMeansRoot, CreatedIsStrict, CreatedIsSound, CreatedIsOwned, CreatedHasExactTables, MeantTreesAreOrdered, BalancedIsLow, LargeStreamsLieAlongChains, PutIsFound, RemovedIsGone, HeaderIsReadBack, HeaderIsAtTheStart, AtMostOneHeader, AtMostOneDifat, AtMostOneFat, AtMostOneDirectory, AtMostOneOutline, AtMostOneMinifat, CreatedIsThreeSectors, CreatedHeaderIsAccepted, LongChainsWantNone, LongMiniChainsWantNone};
+ghost use Rattle.cfb_format.specs.LawsTogether.{PartsAreUnique, CreatedFileIsRight};
 
 /// Bytes have at most one reading, and mean at most one tree.
 pub fn bytes_mean_at_most_one_tree()
@@ -11,12 +12,7 @@ pub fn bytes_mean_at_most_one_tree()
 /// Each part of a reading is the only one that stands in the bytes for the parts before it: header,
 /// DIFAT, FAT, directory, outline and MiniFAT (MS-CFB 2.2 to 2.6).
 pub fn parts_are_unique()
-    ensures header { AtMostOneHeader }
-    ensures difat { AtMostOneDifat }
-    ensures fat { AtMostOneFat }
-    ensures directory { AtMostOneDirectory }
-    ensures outline { AtMostOneOutline }
-    ensures minifat { AtMostOneMinifat }
+        ensures laws { PartsAreUnique }
 {}
 
 /// A start has at most one chain, which walking finds, and a storage at most one list of children.
@@ -73,11 +69,5 @@ pub fn meant_trees_are_ordered()
 
 /// A created file means the root alone, in both versions.
 pub fn created_file_is_right()
-    ensures means { CreatedMeansRoot }
-    ensures strict { CreatedIsStrict }
-    ensures sound { CreatedIsSound }
-    ensures owned { CreatedIsOwned }
-    ensures tables { CreatedHasExactTables }
-    ensures len { CreatedIsThreeSectors }
-    ensures header { CreatedHeaderIsAccepted }
+        ensures laws { CreatedFileIsRight }
 {}

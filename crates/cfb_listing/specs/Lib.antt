@@ -9,3 +9,4 @@ pub mod Waiting
 pub mod Reached
 pub mod Laws
 pub mod PathLaws
+pub mod LawsTogether

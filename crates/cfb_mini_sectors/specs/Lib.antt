@@ -20,3 +20,4 @@ pub mod GivingBack
 pub mod GrowingLists
 pub mod Writing
 pub mod Reading
+pub mod LawsTogether

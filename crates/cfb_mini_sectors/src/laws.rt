@@ -1,6 +1,7 @@
 //! What the definitions promise about each other. None of these functions does anything: each has a law
 //! as its contract.
 ghost use Rattle.cfb_mini_sectors.specs.Laws.{DirectoryChangeKeepsMini, HeldMiniIsRead, HeldMiniIsStrict, MiniSectorsInTurn, MiniSectorsTakeFew, MiniStaysHeld, SoundMiniIsHeld};
+ghost use Rattle.cfb_mini_sectors.specs.LawsTogether.{MiniChangesSpareOthers};
 ghost use Rattle.cfb_mini_sectors.specs.Laws.{MiniBytesStayInPlace, NoMiniSectorIsTouched, OtherMiniChainsAreSpared, SectorsSpareMini, SparesMiniInTurn, SparesMiniLess, TableChangeSparesMini, WritingSparesMini};
 
 /// Mini sectors that the bytes hold are those that opening reads from them, and where they hold them as strict opening wants it, strict
@@ -26,14 +27,7 @@ pub fn mini_sectors_stay_held()
 /// sectors or of the bytes of one mini sector spares the others, and chains of mini sectors that are none of a change's own stay, with
 /// each of their bytes at its place.
 pub fn mini_changes_spare_others()
-    ensures nothing { NoMiniSectorIsTouched }
-    ensures less { SparesMiniLess }
-    ensures in_turn { SparesMiniInTurn }
-    ensures table { TableChangeSparesMini }
-    ensures sectors { SectorsSpareMini }
-    ensures writing { WritingSparesMini }
-    ensures chains { OtherMiniChainsAreSpared }
-    ensures bytes { MiniBytesStayInPlace }
+        ensures laws { MiniChangesSpareOthers }
 {}
 
 /// What mini sectors need can be taken in parts, and few of them take few sectors.

@@ -6,3 +6,4 @@ pub mod Objects
 pub mod Changes
 pub mod Laws
 pub mod Balance
+pub mod LawsTogether

@@ -4,3 +4,4 @@ pub use Rattle.cfb_objects.specs.cfb_rules
 pub mod Places
 pub mod Parts
 pub mod Laws
+pub mod LawsTogether

@@ -8,3 +8,4 @@ pub mod ReadDirectory
 pub mod ReadMinifat
 pub mod RawFat
 pub mod Steps
+pub mod LawsTogether

@@ -9,3 +9,4 @@ pub mod StreamCalls
 pub mod Runs
 pub mod Lists
 pub mod Laws
+pub mod LawsTogether

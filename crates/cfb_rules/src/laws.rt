@@ -1,6 +1,7 @@
 //! What the rules of calls promise. None of these functions does anything: each has a law as its
 //! contract.
 ghost use Rattle.cfb_rules.specs.Lists.{Deed, FileView};
+ghost use Rattle.cfb_rules.specs.LawsTogether.{RulesAreComplete, CreatedObjectsAreFound, SetFieldsAreFound, RemovedObjectsAreGone, OthersStay, ClosedStreamsAreFound};
 ghost use Rattle.cfb_rules.specs.Laws.{RefusedCallsChangeNothing, RulesRefuseByTheirKinds, SomeReplyFits, OneReplyFits, RefusedStreamCallsChangeNothing, StreamRulesRefuseByTheirKinds, SomeStreamReplyFits, StreamsKeepTheirBounds};
 ghost use Rattle.cfb_rules.specs.Laws.{CreatedStreamIsFound, EmptiedStreamIsFound, CreatedStorageIsFound, AddedStorageIsFound, ClsidIsSet, StateBitsAreSet, CreatedTimeIsSet, ModifiedTimeIsSet, TouchedTimeIsSet, RootIsNotTouched};
 ghost use Rattle.cfb_rules.specs.Laws.{RemovedStorageIsGone, RemovedStreamIsGone, RemovedAllIsGone, RootIsEmptied, CallsKeepOrder, OthersAreFoundAsBefore, OnlyNamedCallsChange, RefusedCallsKeepAll, RootLenStays};
@@ -20,53 +21,34 @@ pub fn rules_refuse_by_their_kinds()
 
 /// The rules say of each call what it answers and what it makes of the tree.
 pub fn rules_are_complete()
-    ensures some { SomeReplyFits }
-    ensures one { OneReplyFits }
-    ensures on_stream { SomeStreamReplyFits }
+        ensures laws { RulesAreComplete }
 {}
 
 /// What was created is there: a new stream is empty, one that was there is emptied, a new storage
 /// has nothing in it, and one that was there is as before.
 pub fn created_objects_are_found()
-    ensures new_stream { CreatedStreamIsFound }
-    ensures emptied_stream { EmptiedStreamIsFound }
-    ensures new_storage { CreatedStorageIsFound }
-    ensures added_storage { AddedStorageIsFound }
+        ensures laws { CreatedObjectsAreFound }
 {}
 
 /// What was set is there, in an object that is otherwise as before.
 pub fn set_fields_are_found()
-    ensures clsid { ClsidIsSet }
-    ensures state_bits { StateBitsAreSet }
-    ensures created { CreatedTimeIsSet }
-    ensures modified { ModifiedTimeIsSet }
-    ensures touched { TouchedTimeIsSet }
-    ensures root { RootIsNotTouched }
+        ensures laws { SetFieldsAreFound }
 {}
 
 /// What was removed was there, and is not any more.
 pub fn removed_objects_are_gone()
-    ensures storage { RemovedStorageIsGone }
-    ensures stream { RemovedStreamIsGone }
-    ensures all { RemovedAllIsGone }
-    ensures root { RootIsEmptied }
+        ensures laws { RemovedObjectsAreGone }
 {}
 
 /// A call changes nothing of what stands at other names than its own, the length of the root's entry
 /// stays where no bytes are taken away, and after a refusal all is as before or the file has failed.
 pub fn others_stay()
-    ensures found { OthersAreFoundAsBefore }
-    ensures unnamed { OnlyNamedCallsChange }
-    ensures root_len { RootLenStays }
-    ensures refused { RefusedCallsKeepAll }
+        ensures laws { OthersStay }
 {}
 
 /// A stream of a sound file that was closed has its list, and nothing else has changed.
 pub fn closed_streams_are_found()
-    ensures found { ClosedStreamIsFound }
-    ensures unsound { UnsoundFilesStay }
-    ensures others { ClosingSparesOthers }
-    ensures order { ClosingKeepsOrder }
+        ensures laws { ClosedStreamsAreFound }
 {}
 
 /// A tree stays a map by name.

@@ -1,6 +1,7 @@
 //! Calls that make or remove many objects do so one by one. None of these functions does anything:
 //! each has a law as its contract.
 ghost use Rattle.cfb_sequences.specs.Laws.{AddedOnTheWay, AllIsThere, NothingIsLeft, RefusalGoesOn, RemovedBelow, RemovedFromRoot, RemovedInside, RemovedWithContent, RemovedWithFields, StreamIsInTheWay, WayIsFree, WayIsThere};
+ghost use Rattle.cfb_sequences.specs.LawsTogether.{StoragesAreAddedOneByOne, ObjectsAreRemovedOneByOne};
 ghost use Rattle.cfb_sequences.specs.Lists.{RunGoesOn, ShortReadsAreReads, StreamCallsGoOn};
 
 use cfb_rules::laws::Seen;
@@ -8,22 +9,12 @@ use cfb_rules::laws::Seen;
 /// Storages on the way are added one by one, and what is refused is found on the way to the first
 /// that is missing.
 pub fn storages_are_added_one_by_one()
-    ensures added { AddedOnTheWay }
-    ensures there { AllIsThere }
-    ensures goes_on { RefusalGoesOn }
-    ensures blocked { StreamIsInTheWay }
-    ensures ends { WayIsThere }
-    ensures free { WayIsFree }
+        ensures laws { StoragesAreAddedOneByOne }
 {}
 
 /// What is in a storage is removed one by one before it, and a stream's bytes before the stream.
 pub fn objects_are_removed_one_by_one()
-    ensures inside { RemovedInside }
-    ensures fields { RemovedWithFields }
-    ensures content { RemovedWithContent }
-    ensures below { RemovedBelow }
-    ensures root { RemovedFromRoot }
-    ensures nothing { NothingIsLeft }
+        ensures laws { ObjectsAreRemovedOneByOne }
 {}
 
 /// A list of commands goes on by one more, and the calls on an open stream by one more.

@@ -3,3 +3,4 @@ pub use Rattle.cfb_alloc.specs.cfb_sectors
 pub mod Slots
 pub mod SlotLaws
 pub mod Writing
+pub mod LawsTogether

@@ -9,3 +9,4 @@ pub mod Frames
 pub mod Growing
 pub mod Contents
 pub mod MiniGrown
+pub mod LawsTogether

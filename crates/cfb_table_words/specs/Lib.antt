@@ -6,3 +6,4 @@ pub mod Stretches
 pub mod Runs
 pub mod Along
 pub mod Writing
+pub mod LawsTogether

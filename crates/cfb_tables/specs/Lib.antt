@@ -13,3 +13,4 @@ pub mod Freeing
 pub mod Taking
 pub mod Growing
 pub mod Free
+pub mod LawsTogether

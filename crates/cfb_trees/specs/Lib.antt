@@ -4,3 +4,4 @@ pub mod Changes
 pub mod Paths
 pub mod Balance
 pub mod Children
+pub mod LawsTogether

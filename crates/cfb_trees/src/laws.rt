@@ -1,16 +1,13 @@
 //! What changes of entries keep of a directory's tree. None of these functions does anything: each
 //! has a law as its contract.
 ghost use Rattle.cfb_trees.specs.Changes.{FieldsKeepOutline, GrowthKeepsOutline, InsertionKeepsOutline, InsertionKeepsStreams, RemovalKeepsOutline, RemovalKeepsStreams};
+ghost use Rattle.cfb_trees.specs.LawsTogether.{ReachedEntriesAreInUse};
 ghost use Rattle.cfb_trees.specs.Reached.{ReachedIsObject, ReachedIsParent, ReachedIsUsed, ReachedIsWithin, StreamsAreByKind};
 
 /// What the tree reaches is an entry in use: the root, or a storage or a stream below it. Where it
 /// is no stream, it has children in order.
 pub fn reached_entries_are_in_use()
-    ensures within { ReachedIsWithin }
-    ensures used { ReachedIsUsed }
-    ensures object { ReachedIsObject }
-    ensures parent { ReachedIsParent }
-    ensures streams { StreamsAreByKind }
+        ensures laws { ReachedEntriesAreInUse }
 {}
 
 /// A directory that grew by free slots has its tree.

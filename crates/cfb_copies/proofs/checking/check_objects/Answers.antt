@@ -17,12 +17,12 @@ loop-place-init g c = record {
 pub is_copyable-requires-clause-inside : goal.is_copyable-requires-clause-inside
 is_copyable-requires-clause-inside g c =
     let order = c.entries-entries.ensures.in_order in
-    ((listed_stands c.args.source.now c.args.list.now c.parts_stand_at_places.ensures.parts order.outline order.is c.requires.listed).1 c.loop-place.place-index c.loop-place-test.true).within
+    ((listed_stands c.args.source.now c.args.list.now c.parts_stand_at_places.ensures.laws.parts order.outline order.is c.requires.listed).1 c.loop-place.place-index c.loop-place-test.true).within
 
 pub is_copyable-requires-clause-object : goal.is_copyable-requires-clause-object
 is_copyable-requires-clause-object g c =
     let order = c.entries-entries.ensures.in_order in
-    ((listed_stands c.args.source.now c.args.list.now c.parts_stand_at_places.ensures.parts order.outline order.is c.requires.listed).1 c.loop-place.place-index c.loop-place-test.true).object
+    ((listed_stands c.args.source.now c.args.list.now c.parts_stand_at_places.ensures.laws.parts order.outline order.is c.requires.listed).1 c.loop-place.place-index c.loop-place-test.true).object
 
 pub returns-then-not-copyable-clause-err : goal.returns-then-not-copyable-clause-err
 returns-then-not-copyable-clause-err g c told holds all =

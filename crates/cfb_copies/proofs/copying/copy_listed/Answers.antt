@@ -54,7 +54,7 @@ copy_object-requires-clause-can_copy g c = record {
 pub number_above-parent-requires : goal.number_above-parent-requires
 number_above-parent-requires g c =
     let order = c.entries-entries.ensures.in_order in
-    parent_below c.args.source.now c.args.list.now c.parts_stand_at_places.ensures.parts c.requires.can_copy.listed order.outline order.is c.loop-place.place-index c.loop-place-test.true
+    parent_below c.args.source.now c.args.list.now c.parts_stand_at_places.ensures.laws.parts c.requires.can_copy.listed order.outline order.is c.loop-place.place-index c.loop-place-test.true
     (length c.as_slice-known.result.now) (ap (λ (l : List ℕ). length l) c.as_slice-known.ensures.value ∙ c.loop-place.invariant.so_far)
 
 pub copy_object-requires-clause-parent : goal.copy_object-requires-clause-parent
@@ -62,7 +62,7 @@ copy_object-requires-clause-parent g c =
     let order = c.entries-entries.ensures.in_order in
     let i = c.loop-place.invariant in
     lead_reached c.loop-place.target _ c.number_above-parent.result
-    (parent_is c.args.source.now c.args.list.now c.parts_stand_at_places.ensures.parts c.requires.can_copy.listed order.outline order.is c.loop-place.place-index c.loop-place-test.true
+    (parent_is c.args.source.now c.args.list.now c.parts_stand_at_places.ensures.laws.parts c.requires.can_copy.listed order.outline order.is c.loop-place.place-index c.loop-place-test.true
     c.loop-place.target c.loop-place.numbers.items c.number_above-parent.result i.so_far (i.numbered order.outline order.is) (subst (λ (l : List ℕ). MatchOption (parent_at c.args.list.now c.loop-place.place-index) (c.number_above-parent.result ≡ 0) (λ above. c.number_above-parent.result ≡ get_or l above 0)) c.as_slice-known.ensures.value c.number_above-parent.ensures))
 
 pub returns-in_err-number-clause-reads : goal.returns-in_err-number-clause-reads
@@ -80,7 +80,7 @@ returns-in_err-number-clause-error g c =
     let start = c.args.source.now in
     let mid = c.loop-place.source in
     let target = c.loop-place.target in
-    let law = c.parts_stand_at_places.ensures.parts in
+    let law = c.parts_stand_at_places.ensures.laws.parts in
     let i = c.loop-place.invariant in
     let at = c.loop-place.place-index in
     let inside = c.loop-place-test.true in
@@ -131,7 +131,7 @@ loop-place-preserved g c =
     let target = c.loop-place.target in
     let after = c.copy_object.new.target in
     let order = c.entries-entries.ensures.in_order in
-    let law = c.parts_stand_at_places.ensures.parts in
+    let law = c.parts_stand_at_places.ensures.laws.parts in
     let i = c.loop-place.invariant in
     let w = c.in_ok-number.ensures in
     let at = c.loop-place.place-index in
@@ -172,6 +172,6 @@ pub returns-clause-tree : goal.returns-clause-tree
 returns-clause-tree g c told tells tree o is ready =
     let start = c.args.source.now in
     let list = c.args.list.now in
-    let lens = (listed_stands start list c.parts_stand_at_places.ensures.parts o is c.requires.can_copy.listed).0 in
+    let lens = (listed_stands start list c.parts_stand_at_places.ensures.laws.parts o is c.requires.can_copy.listed).0 in
     way_ends c.loop-place.target (parts_in_file start o) c.loop-place.place-index (parts_copied (cases_of c.args.target.now.base) (parts_in_file start o) tree)
     (omega (arith, lens, c.loop-place-test.false)) (c.loop-place.invariant.way told tells tree o is ready)

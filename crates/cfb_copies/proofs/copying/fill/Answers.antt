@@ -113,14 +113,14 @@ returns-clause-tree g c told tells holds target kept none =
       target_held = s.ends.agrees tells target s.ends.ended;
       kept = kept;
       means = subst (λ (cs : Cases). Means cs (bytes_of mid.base) (root_alone source)) (sym s.ends.setting.limits.cases) means;
-      allowed = λ o is. starts_allowed source laws.ordered o is c.copied_objects_are_the_tree.ensures.allowed (cases_of mid.base) cases;
+      allowed = λ o is. starts_allowed source laws.laws.ordered o is c.copied_objects_are_the_tree.ensures.allowed (cases_of mid.base) cases;
     } in
     let o = holds.outline in
     let is = holds.reads.outline in
     on_ok_weaker c.copy_listed.result
     (λ meant. means_cut source c.copy_listed.new.target holds
     (subst (λ (t : Tree). Means (cases_of c.copy_listed.new.target.base) (bytes_of c.copy_listed.new.target.base) t)
-    (ends source laws.ordered o is c.copied_objects_are_the_tree.ensures.tree (cases_of mid.base) cases) meant))
+    (ends source laws.laws.ordered o is c.copied_objects_are_the_tree.ensures.tree (cases_of mid.base) cases) meant))
     (c.copy_listed.ensures.tree told tells (root_alone source) o is ready)
 
 pub returns-clause-err : goal.returns-clause-err
@@ -146,7 +146,7 @@ returns-clause-err g c told tells holds target kept none =
       target_held = s.ends.agrees tells target s.ends.ended;
       kept = kept;
       means = subst (λ (cs : Cases). Means cs (bytes_of mid.base) (root_alone source)) (sym s.ends.setting.limits.cases) means;
-      allowed = λ o is. starts_allowed source laws.ordered o is c.copied_objects_are_the_tree.ensures.allowed (cases_of mid.base) cases;
+      allowed = λ o is. starts_allowed source laws.laws.ordered o is c.copied_objects_are_the_tree.ensures.allowed (cases_of mid.base) cases;
     })
 
 pub returns-clause-enough : goal.returns-clause-enough
@@ -176,7 +176,7 @@ returns-clause-enough g c told tells holds target kept none fresh fits =
       target_held = s.ends.agrees tells target s.ends.ended;
       kept = kept;
       means = subst (λ (cs : Cases). Means cs (bytes_of mid.base) (root_alone source)) (sym s.ends.setting.limits.cases) means;
-      allowed = λ o is. starts_allowed source laws.ordered o is c.copied_objects_are_the_tree.ensures.allowed (cases_of mid.base) cases;
+      allowed = λ o is. starts_allowed source laws.laws.ordered o is c.copied_objects_are_the_tree.ensures.allowed (cases_of mid.base) cases;
     } in
     let room : HasRoomOnTheWay mid (root_alone source) goal = record {
       made = parts-keep-made old.base mid.base (s.keeps.parts tells target) fresh.made;
@@ -185,7 +185,7 @@ returns-clause-enough g c told tells holds target kept none fresh fits =
       used = marked_used old.base mid.base 0 s.fields.entries.0 s.fields.entries.2 ∙ fresh.used;
       fits = subst (λ (w : Version). IsTooLarge w max_regular_sector goal → ⊥) (sym version)
           (subst (λ (t : Tree). IsTooLarge (version_of source.base) max_regular_sector t → ⊥)
-          (sym (ends source laws.ordered o is c.copied_objects_are_the_tree.ensures.tree (cases_of mid.base) cases)) (fits (tree_in source holds) (means_in source holds)));
+          (sym (ends source laws.laws.ordered o is c.copied_objects_are_the_tree.ensures.tree (cases_of mid.base) cases)) (fits (tree_in source holds) (means_in source holds)));
     } in
     c.copy_listed.ensures.error.enough told tells (root_alone source) o is ready room
 

@@ -28,7 +28,7 @@ returns-clause-copy g c = record {
 pub returns-clause-empty : goal.returns-clause-empty
 returns-clause-empty g c told =
     let file : FileState = record { base = c.in_ok-mini.mini; is_sound = true; buffer_limit = c.args.buffer_limit } in
-    subst (λ (f : FileState). HasNoObjects f) (sym c.new.ensures) (created_none file _ c.created_file_is_right.ensures.means (c.in_ok-mini.ensures.made.bytes told))
+    subst (λ (f : FileState). HasNoObjects f) (sym c.new.ensures) (created_none file _ c.created_file_is_right.ensures.laws.means (c.in_ok-mini.ensures.made.bytes told))
 
 pub returns-clause-fresh : goal.returns-clause-fresh
 returns-clause-fresh g c told =

@@ -19,7 +19,7 @@ returns-in_err-check_objects-clause-err g c told holds =
     let file = c.args.source.now in
     let lists : ListsObjects file c.in_ok-list.list.items = λ o is.
     c.in_ok-list.ensures.ok (cases_of file.base) o (subst (λ (es : List Entry). IsOutline (cases_of file.base) es o) (sym c.entries-entries.ensures.entries) is) in
-    rw (p.1, p.2) (not_prepared file holds c.parts_stand_at_places.ensures.whole c.as_slice-listed.result.now (subst (λ (l : List Place). ListsObjects file l) (sym c.as_slice-listed.ensures.value) lists)
+    rw (p.1, p.2) (not_prepared file holds c.parts_stand_at_places.ensures.laws.whole c.as_slice-listed.result.now (subst (λ (l : List Place). ListsObjects file l) (sym c.as_slice-listed.ensures.value) lists)
     c.in_err-check_objects.field-0.0 (c.in_err-check_objects.ensures.err told holds))
 
 pub contents-requires : goal.contents-requires
@@ -43,7 +43,7 @@ returns-in_err-check_room-clause-err g c told holds =
     let large = is_too_large_in file holds c.version.result (entries_in c.entries-entries.result.now) c.as_slice-numbers.result.now c.version.ensures
     c.entries-entries.ensures.entries (λ o has. c.as_slice-numbers.ensures.value ∙ c.in_ok-order.ensures.ok (cases_of file.base) o has) why.1 in
     rw (p.1, p.2) (subst (λ (e : Error). IsNotPrepared file e) (sym why.0)
-    (no_room file holds (readable_whole file holds c.parts_stand_at_places.ensures.whole c.in_ok-list.list.items lists readable) large))
+    (no_room file holds (readable_whole file holds c.parts_stand_at_places.ensures.laws.whole c.in_ok-list.list.items lists readable) large))
 
 pub returns-clause-listed : goal.returns-clause-listed
 returns-clause-listed g c = λ o is.
@@ -61,6 +61,6 @@ returns-clause-allowed g c told holds =
     let lists : ListsObjects file c.in_ok-list.list.items = λ o is.
     c.in_ok-list.ensures.ok (cases_of file.base) o (subst (λ (es : List Entry). IsOutline (cases_of file.base) es o) (sym c.entries-entries.ensures.entries) is) in
     let readable = subst (λ (l : List Place). AreReadable file l) c.as_slice-listed.ensures.value (c.in_ok-check_objects.ensures.whole told holds) in
-    can_be_copied file holds c.parts_stand_at_places.ensures.whole c.in_ok-list.list.items lists readable
+    can_be_copied file holds c.parts_stand_at_places.ensures.laws.whole c.in_ok-list.list.items lists readable
     (has_room_in file holds c.version.result (entries_in c.entries-entries.result.now) c.as_slice-numbers.result.now c.version.ensures
     c.entries-entries.ensures.entries (λ o has. c.as_slice-numbers.ensures.value ∙ c.in_ok-order.ensures.ok (cases_of file.base) o has) c.in_ok-check_room.ensures.room)

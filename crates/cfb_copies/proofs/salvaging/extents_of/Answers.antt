@@ -18,17 +18,17 @@ loop-place-init g c = record {
 pub is_allowed-requires-clause-inside : goal.is_allowed-requires-clause-inside
 is_allowed-requires-clause-inside g c =
     let order = c.entries-entries.ensures.in_order in
-    ((listed_stands c.args.source.now c.args.list.now c.parts_stand_at_places.ensures.parts order.outline order.is c.requires.listed).1 c.loop-place.place-index c.loop-place-test.true).within
+    ((listed_stands c.args.source.now c.args.list.now c.parts_stand_at_places.ensures.laws.parts order.outline order.is c.requires.listed).1 c.loop-place.place-index c.loop-place-test.true).within
 
 pub is_allowed-requires-clause-object : goal.is_allowed-requires-clause-object
 is_allowed-requires-clause-object g c =
     let order = c.entries-entries.ensures.in_order in
-    ((listed_stands c.args.source.now c.args.list.now c.parts_stand_at_places.ensures.parts order.outline order.is c.requires.listed).1 c.loop-place.place-index c.loop-place-test.true).object
+    ((listed_stands c.args.source.now c.args.list.now c.parts_stand_at_places.ensures.laws.parts order.outline order.is c.requires.listed).1 c.loop-place.place-index c.loop-place-test.true).object
 
 pub add_extent-requires : goal.add_extent-requires
 add_extent-requires g c =
     let order = c.entries-entries.ensures.in_order in
-    record { inside = ((listed_stands c.args.source.now c.args.list.now c.parts_stand_at_places.ensures.parts order.outline order.is c.requires.listed).1 c.loop-place.place-index c.loop-place-test.true).within }
+    record { inside = ((listed_stands c.args.source.now c.args.list.now c.parts_stand_at_places.ensures.laws.parts order.outline order.is c.requires.listed).1 c.loop-place.place-index c.loop-place-test.true).within }
 
 pub returns-then-not-is_allowed-clause-err : goal.returns-then-not-is_allowed-clause-err
 returns-then-not-is_allowed-clause-err g c told holds = absurd (let w : false ≡ true = sym c.if-not-is_allowed.true ∙ c.is_allowed.ensures.always told holds in cc)

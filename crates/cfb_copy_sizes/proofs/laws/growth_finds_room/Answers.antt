@@ -4,4 +4,4 @@ use Rattle.cfb_copy_sizes.proofs.Having.{content-can-be-had, entry-can-be-had}
 use Rattle.cfb_copy_sizes.proofs.laws.growth_finds_room.Goals as goal
 
 pub returns : goal.returns
-returns c = record { created = created-is-tight; less = less-is-not-too-much; counted = all-are-counted; taken = needed-can-be-taken; entry = entry-can-be-had; content = content-can-be-had }
+returns c = record { laws = record { created = created-is-tight; less = less-is-not-too-much; counted = all-are-counted; taken = needed-can-be-taken; entry = entry-can-be-had; content = content-can-be-had; }; }

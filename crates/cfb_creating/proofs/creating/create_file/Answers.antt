@@ -18,7 +18,7 @@ returns-clause-made g c = record {
       let is = limited v c.args.letters (g.F.ReadMedium.bytes c.in_ok-written.written) failures limit c.in_ok-file.file c.set_max_sectors.new.self
       c.in_ok-file.ensures.ok c.set_max_sectors.ensures (c.in_ok-written.ensures.bytes told) in
       subst (λ (m : MiniState). Holds (record { base = m; is_sound = true; buffer_limit = buffer })) is
-      (holds c.parts_are_unique.ensures.header c.parts_are_unique.ensures.outline v c.args.letters c.sound_mini_sectors_are_held.ensures failures limit buffer)
+      (holds c.parts_are_unique.ensures.laws.header c.parts_are_unique.ensures.laws.outline v c.args.letters c.sound_mini_sectors_are_held.ensures failures limit buffer)
   );
   made = λ told. (
       let v = c.args.version in
@@ -27,6 +27,6 @@ returns-clause-made g c = record {
       let is = limited v c.args.letters (g.F.ReadMedium.bytes c.in_ok-written.written) failures limit c.in_ok-file.file c.set_max_sectors.new.self
       c.in_ok-file.ensures.ok c.set_max_sectors.ensures (c.in_ok-written.ensures.bytes told) in
       subst IsAsMade is
-      (made c.parts_are_unique.ensures.header c.parts_are_unique.ensures.outline v c.args.letters c.sound_mini_sectors_are_held.ensures failures limit)
+      (made c.parts_are_unique.ensures.laws.header c.parts_are_unique.ensures.laws.outline v c.args.letters c.sound_mini_sectors_are_held.ensures failures limit)
   );
 }

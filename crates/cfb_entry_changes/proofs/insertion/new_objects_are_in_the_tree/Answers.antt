@@ -1,14 +1,10 @@
 use Rattle.cfb_entry_changes.proofs.Entries.{put-has-outline, put-is-found, put-is-new, put-keeps-root}
 use Rattle.cfb_entry_changes.proofs.insertion.new_objects_are_in_the_tree.Goals as goal
 
-pub returns-clause-outline : goal.returns-clause-outline
-returns-clause-outline c = put-has-outline
-
-pub returns-clause-new : goal.returns-clause-new
-returns-clause-new c = put-is-new
-
-pub returns-clause-found : goal.returns-clause-found
-returns-clause-found c = put-is-found
-
-pub returns-clause-root : goal.returns-clause-root
-returns-clause-root c = put-keeps-root
+pub returns : goal.returns
+returns c = record { laws = record {
+  outline = put-has-outline;
+  new = put-is-new;
+  found = put-is-found;
+  root = put-keeps-root;
+} }

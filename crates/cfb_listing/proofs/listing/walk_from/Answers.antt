@@ -13,13 +13,13 @@ use Rattle.cfb_listing.proofs.listing.walk_from.Goals.{In_ok-push}
 pub entry_of-requires : goal.entry_of-requires
 entry_of-requires g c =
     let (cases, o, is, reached) = c.requires in
-    let l = c.reached_entries_are_in_use.ensures.within cases (entries_of c.args.entries.now) o c.args.number is reached in
+    let l = c.reached_entries_are_in_use.ensures.laws.within cases (entries_of c.args.entries.now) o c.args.number is reached in
     omega (arith, l, length-map c.args.entries.now entry_of)
 
 pub is_stream-requires : goal.is_stream-requires
 is_stream-requires g c =
     let (cases, o, is, reached) = c.requires in
-    let l = c.reached_entries_are_in_use.ensures.within cases (entries_of c.args.entries.now) o c.args.number is reached in
+    let l = c.reached_entries_are_in_use.ensures.laws.within cases (entries_of c.args.entries.now) o c.args.number is reached in
     omega (arith, l, length-map c.args.entries.now entry_of)
 
 -- the object itself stands first

@@ -2,11 +2,9 @@ use Rattle.cfb_objects.proofs.Added.{storage-is-added, stream-is-added}
 use Rattle.cfb_objects.proofs.Same.{growth-keeps-tree}
 use Rattle.cfb_objects.proofs.laws.insertion_is_addition.Goals as goal
 
-pub returns-clause-storage : goal.returns-clause-storage
-returns-clause-storage c = storage-is-added
-
-pub returns-clause-stream : goal.returns-clause-stream
-returns-clause-stream c = stream-is-added
-
-pub returns-clause-growth : goal.returns-clause-growth
-returns-clause-growth c = growth-keeps-tree
+pub returns : goal.returns
+returns c = record { laws = record {
+  storage = storage-is-added;
+  stream = stream-is-added;
+  growth = growth-keeps-tree;
+} }

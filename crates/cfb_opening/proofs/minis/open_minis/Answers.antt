@@ -27,7 +27,7 @@ returns-in_err-mini-clause-err g c =
     let none : IsTrue g.F.ReadMedium.tells → ((list : List ℕ) → AreMinifatSectors d words h.first_minifat_sector list
     → AcceptsMini v (max_mini_sectors d.table.tables.version) (root_len_in d / mini_sector_len) words → IfStrict v (h.num_minifat_sectors ≡ length list) → ⊥) → IsRefused v cases bytes =
     λ told refused. minis-refused v cases bytes failures h d listed.points_into_file (c.in_ok-header.ensures.ok told) words (c.in_ok-header.ensures.words told)
-    c.words_make_the_minifat.ensures.taken refused in
+    c.words_make_the_minifat.ensures.laws.taken refused in
     let p = err_from_is_err_and c.from_residual-in_err-mini.result c.from_residual-in_err-mini.ensures.1 in
     rw (p.1, p.2) (memory-refused g.F.ReadMedium.tells g.F.ReadMedium.read_faults _ _ none c.in_err-mini.field-0.0 c.in_err-mini.ensures.refused)
 
@@ -45,7 +45,7 @@ returns-clause-ok g c told =
     let sizes : AreSizes d.table.tables.version (sizes_of d.table.tables) =
     subst (λ (a : AllocatorState). AreSizes a.tables.version (sizes_of a.tables)) c.allocator.ensures c.file_len-fact.ensures.sizes in (
       h,
-      minis-known v cases bytes failures h d listed.points_into_file (c.in_ok-header.ensures.ok told) words (c.in_ok-header.ensures.words told) c.words_make_the_minifat.ensures.table
+      minis-known v cases bytes failures h d listed.points_into_file (c.in_ok-header.ensures.ok told) words (c.in_ok-header.ensures.words told) c.words_make_the_minifat.ensures.laws.table
           c.in_ok-mini.mini e.directory e.limit e.minifat e.sectors e.mini_stream e.accepted e.counted sizes,
     )
 

@@ -15,7 +15,7 @@ use Rattle.cfb_shown.proofs.tree.write_tree.Goals as goal
 pub entry_in-first-requires : goal.entry_in-first-requires
 entry_in-first-requires g c =
     let (cases, o, is, reached) = c.requires in
-    let l = c.reached_entries_are_in_use.ensures.within cases (entries_of c.args.entries.now) o c.args.number is reached in
+    let l = c.reached_entries_are_in_use.ensures.laws.within cases (entries_of c.args.entries.now) o c.args.number is reached in
     omega (arith, l, length-map c.args.entries.now entry_of)
 
 pub returns-then-is_stream-clause-text : goal.returns-then-is_stream-clause-text

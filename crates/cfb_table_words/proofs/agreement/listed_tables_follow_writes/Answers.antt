@@ -3,20 +3,12 @@ use Rattle.cfb_table_words.proofs.DifatLinked.{difat_sector_linked}
 use Rattle.cfb_table_words.proofs.DifatWords.{fresh_fat_words, fresh_difat_words}
 use Rattle.cfb_table_words.proofs.agreement.listed_tables_follow_writes.Goals as goal
 
-pub returns-clause-stays : goal.returns-clause-stays
-returns-clause-stays c = listing_stays
-
-pub returns-clause-in_header : goal.returns-clause-in_header
-returns-clause-in_header c = listed_into_header
-
-pub returns-clause-in_sector : goal.returns-clause-in_sector
-returns-clause-in_sector c = listed_into_sector
-
-pub returns-clause-linked : goal.returns-clause-linked
-returns-clause-linked c = difat_sector_linked
-
-pub returns-clause-fresh_fat : goal.returns-clause-fresh_fat
-returns-clause-fresh_fat c = fresh_fat_words
-
-pub returns-clause-fresh_difat : goal.returns-clause-fresh_difat
-returns-clause-fresh_difat c = fresh_difat_words
+pub returns : goal.returns
+returns c = record { laws = record {
+  stays = listing_stays;
+  in_header = listed_into_header;
+  in_sector = listed_into_sector;
+  linked = difat_sector_linked;
+  fresh_fat = fresh_fat_words;
+  fresh_difat = fresh_difat_words;
+} }

@@ -22,7 +22,7 @@ returns-clause-answers g c told =
     (c.in_ok-opened.ensures.answers told) in
     subst (λ (file : FileState). IsOpenedWith c.args.self bytes failures file) (sym c.new-volume.ensures)
     (subst (λ (o : Options). IsOpenedWith o bytes failures (record { base = mini; is_sound = is_sound; buffer_limit = inside.max_buffer_size })) c.self.view_is
-    (opened-with options bytes failures (record { base = mini; is_sound = is_sound; buffer_limit = inside.max_buffer_size }) c.bytes_are_what_is_held.ensures.sound c.bytes_are_what_is_held.ensures.made opened refl))
+    (opened-with options bytes failures (record { base = mini; is_sound = is_sound; buffer_limit = inside.max_buffer_size }) c.bytes_are_what_is_held.ensures.laws.sound c.bytes_are_what_is_held.ensures.laws.made opened refl))
 
 pub returns-clause-options : goal.returns-clause-options
 returns-clause-options g c =
