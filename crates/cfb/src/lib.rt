@@ -53,7 +53,8 @@ pub use cfb_compound_file::salvaging::{Extent, Salvaged};
 pub use cfb_compound_file::stream::Stream;
 pub use cfb_files::file::{FileMedium, FileReadMedium};
 pub use cfb_files::locking;
-pub use cfb_files_opening::{create, create_as, open, open_journaled, open_rw, seeded_options};
+pub use cfb_files::seek::SeekMedium;
+pub use cfb_files::slice::SliceMedium;
 pub use cfb_format::error::{Detail, Error};
 pub use cfb_format::medium::{Medium, MediumFault, ReadMedium};
 pub use cfb_format::memory::MemoryMedium;
@@ -61,12 +62,13 @@ pub use cfb_format::validate::Validation;
 pub use cfb_format::version::Version;
 pub use cfb_journal::medium::JournaledMedium;
 pub use cfb_journal_file::disk::FileDisk;
+pub use cfb_journal_file::opening::{
+    create, create_as, open, open_journaled, open_rw, seeded_options,
+};
 pub use cfb_listing::entries::Entries;
 pub use cfb_listing::entry::Entry;
 pub use cfb_shown::moments::to_iso;
-pub use cfb_slices::seek::SeekMedium;
-pub use cfb_slices::slice::SliceMedium;
-pub use cfb_std_streams::kinds::{std_error, std_kind};
+pub use cfb_stream_window::kinds::{std_error, std_kind};
 pub use cfb_whole_streams::content::{read_stream, write_stream};
 pub use cfb_whole_streams::copying::copy_stream;
 
@@ -93,7 +95,6 @@ pub mod laws {
 /// The layers that compound files are made of, for tests and for media and tools of this repository. No part of the stable surface: any of
 /// it may change or go in any version.
 pub mod internal {
-    pub use cfb_access::writing::write_content;
     pub use cfb_alloc::alloc::{Allocator, HeaderWord};
     pub use cfb_alloc::seeking::AllocatedSector;
     pub use cfb_chains::chain::Chain;
@@ -101,8 +102,11 @@ pub mod internal {
     pub use cfb_codecs::path::{self, CaseMapper};
     pub use cfb_codecs::timestamp::Timestamp;
     pub use cfb_compound_file::stream::Stream;
+    pub use cfb_content::writing::write_content;
     pub use cfb_directory::directory::Directory;
     pub use cfb_entries::fields::Fields;
+    pub use cfb_files::seek::SeekMedium;
+    pub use cfb_files::slice::SliceMedium;
     pub use cfb_format::color::Color;
     pub use cfb_format::consts;
     pub use cfb_format::header::Header;
@@ -116,6 +120,4 @@ pub mod internal {
     pub use cfb_mini_chains::mini_chain::MiniChain;
     pub use cfb_resizing::resizing::resize_content;
     pub use cfb_sectors::sector::{Sector, SectorInit, Sectors};
-    pub use cfb_slices::seek::SeekMedium;
-    pub use cfb_slices::slice::SliceMedium;
 }

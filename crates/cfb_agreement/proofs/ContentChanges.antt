@@ -14,18 +14,18 @@ use Rattle.cfb_format.specs.Tree.{Tree}
 use Rattle.cfb_format.proofs.Unique.{IsOutline-unique}
 use Rattle.cfb_agreement.specs.cfb_rules.CallChanges.{content_changed_at}
 use Rattle.cfb_agreement.specs.cfb_siblings.Paths.{number_from}
-use Rattle.cfb_agreement.specs.cfb_trees.Balance.{AreAllBalanced}
-use Rattle.cfb_agreement.specs.cfb_trees.Reached.{IsReached}
-use Rattle.cfb_agreement.proofs.cfb_trees.Members.{streams-are-by-kind}
-use Rattle.cfb_objects.specs.Changes.{MovesContentOf}
-use Rattle.cfb_objects.specs.Laws.{BecomesTree}
-use Rattle.cfb_objects.specs.Objects.{tree_from}
-use Rattle.cfb_objects.proofs.Balance.{all-stay-balanced, content-keeps-balance}
-use Rattle.cfb_objects.proofs.Becoming.{tree-becomes}
-use Rattle.cfb_objects.proofs.Fields.{content-changes-in-place}
-use Rattle.cfb_agreement.specs.cfb_mini_sectors.State.{IsChangeable, MiniState, bytes_of, cases_of, content_of, entries_of, reading_of}
-use Rattle.cfb_agreement.specs.cfb_mini_sectors.Steps.{KeepsLimits}
-use Rattle.cfb_agreement.proofs.cfb_mini_sectors.HeldMini.{held-mini-is-read}
+use Rattle.cfb_agreement.specs.cfb_siblings.Balance.{AreAllBalanced}
+use Rattle.cfb_agreement.specs.cfb_siblings.Reached.{IsReached}
+use Rattle.cfb_agreement.proofs.cfb_siblings.Members.{streams-are-by-kind}
+use Rattle.cfb_listing.specs.Changes.{MovesContentOf}
+use Rattle.cfb_listing.specs.ObjectLaws.{BecomesTree}
+use Rattle.cfb_listing.specs.Objects.{tree_from}
+use Rattle.cfb_listing.proofs.Balance.{all-stay-balanced, content-keeps-balance}
+use Rattle.cfb_listing.proofs.Becoming.{tree-becomes}
+use Rattle.cfb_listing.proofs.Fields.{content-changes-in-place}
+use Rattle.cfb_agreement.specs.cfb_mini.State.{IsChangeable, MiniState, bytes_of, cases_of, content_of, entries_of, reading_of}
+use Rattle.cfb_agreement.specs.cfb_mini.Steps.{KeepsLimits}
+use Rattle.cfb_agreement.proofs.cfb_mini.HeldMini.{held-mini-is-read}
 use Rattle.cfb_content.specs.Contents.{IsStreamOf, KeepsOthers, MovesContent, dir_count_of, len_of}
 use Rattle.cfb_content.proofs.Apart.{content-is}
 use Rattle.cfb_content.proofs.Outlines.{moved-at, moved-is-outline, no-root-stream, stream-is-no-root, stream-stays}

@@ -6,8 +6,8 @@ use Rattle.cfb_format.specs.declared.validate.Validation.TheVariants.{Permissive
 use Rattle.cfb_format.specs.Header.{IfStrict}
 use Rattle.cfb_agreement.specs.cfb_alloc.Alloc.{AllocatorState, HoldsTables}
 use Rattle.cfb_agreement.specs.cfb_directory.State.{HoldsDirectory}
-use Rattle.cfb_agreement.specs.cfb_mini_sectors.Held.{with_table}
-use Rattle.cfb_agreement.specs.cfb_mini_sectors.State.{HoldsMini, IsChangeable, IsStrictMini, MiniState, bytes_of, table_of, tables_in}
+use Rattle.cfb_agreement.specs.cfb_mini.Held.{with_table}
+use Rattle.cfb_agreement.specs.cfb_mini.State.{HoldsMini, IsChangeable, IsStrictMini, MiniState, bytes_of, table_of, tables_in}
 use Rattle.cfb_agreement.specs.Changes.{KeepsParts}
 use Rattle.cfb_agreement.specs.Files.{IsAsMade, failures_of, is_failed}
 use Rattle.cfb_agreement.specs.Laws.{AsBeforeIsSame, FlagsAreNotMade, FlagsAreNotRead, FlagsKeepParts}

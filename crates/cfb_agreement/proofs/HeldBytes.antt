@@ -12,10 +12,10 @@ use Rattle.cfb_format.specs.Reading.{Outline, Reading, Reads, no_more}
 use Rattle.cfb_format.specs.Soundness.{IsSound, IsSoundFile}
 use Rattle.cfb_format.proofs.Unique.{IsOutline-unique, Reads-unique}
 use Rattle.cfb_agreement.proofs.cfb_soundness.Owned.{nothing-loose-owned}
-use Rattle.cfb_objects.specs.Objects.{tree_from}
-use Rattle.cfb_objects.proofs.Balance.{balanced-is-red-apart, balanced-storages-are-low}
-use Rattle.cfb_agreement.specs.cfb_mini_sectors.State.{MiniState, bytes_of, cases_of, content_of, entries_of, header_of_version, reading_of, tables_in, version_of}
-use Rattle.cfb_agreement.proofs.cfb_mini_sectors.HeldMini.{held-mini-is-read, held-mini-is-strict}
+use Rattle.cfb_listing.specs.Objects.{tree_from}
+use Rattle.cfb_listing.proofs.Balance.{balanced-is-red-apart, balanced-storages-are-low}
+use Rattle.cfb_agreement.specs.cfb_mini.State.{MiniState, bytes_of, cases_of, content_of, entries_of, header_of_version, reading_of, tables_in, version_of}
+use Rattle.cfb_agreement.proofs.cfb_mini.HeldMini.{held-mini-is-read, held-mini-is-strict}
 use Rattle.cfb_agreement.specs.Laws.{AsMadeIsInOrder, AsMadeIsLow, ChangeableIsHeld, HeldMeansItsTree, SoundIsExact}
 
 pub changeable-is-held : ChangeableIsHeld

@@ -2,7 +2,7 @@
 use Rattle.std.proofs.Common.{◌≡◌, ◌<◌, ◌≤◌, inl, inr, ℕ, Bool, true, false, refl, sym, ◌∙◌, subst, length, arith}
 use Rattle.std.proofs.lemmas.Bool.{cases_lt}
 use Rattle.cfb_agreement.specs.cfb_tables.Changes.{NoneFree}
-use Rattle.cfb_agreement.specs.cfb_mini_sectors.State.{MiniState, tables_in}
+use Rattle.cfb_agreement.specs.cfb_mini.State.{MiniState, tables_in}
 use Rattle.cfb_content.specs.Contents.{KeepsOthers}
 use Rattle.cfb_content.proofs.FixedHeader.{bytes-keep-header, header-then}
 use Rattle.cfb_content.proofs.Kept.{nothing-is-moved, others-kept-then}
@@ -13,7 +13,7 @@ use Rattle.cfb_agreement.specs.Laws.{AsBeforeIsNone, ContentsInTurn, OneChangeKe
 use Rattle.cfb_agreement.proofs.Flags.{as-before-same, flagged, parts-flagged}
 use Rattle.cfb_agreement.proofs.Parts.{parts-then}
 use Rattle.cfb_agreement.proofs.Settled.{settled-flagged, settled-then}
-use Rattle.cfb_agreement.proofs.cfb_mini_changes.MiniExtended.{limits-then}
+use Rattle.cfb_agreement.proofs.cfb_mini.MiniExtended.{limits-then}
 
 pub setting-then : (a b c : FileState) → SameSetting a b → SameSetting b c → SameSetting a c
 setting-then a b c p q = record {

@@ -1,9 +1,12 @@
-pub use Rattle.cfb_content.proofs.cfb_mini_changes
-pub use Rattle.cfb_objects.proofs.cfb_trees
+pub use Rattle.cfb_content.proofs.cfb_mini
+pub use Rattle.cfb_listing.proofs.cfb_siblings
 pub use Rattle.cfb_content.proofs.cfb_soundness
-pub use Rattle.cfb_content.proofs.cfb_mini_sectors
-pub use Rattle.cfb_objects.proofs as cfb_objects
+pub use Rattle.cfb_listing.proofs as cfb_listing
 pub use Rattle.cfb_content.proofs as cfb_content
+pub use Rattle.cfb_content.proofs.cfb_entries
+pub use Rattle.cfb_content.proofs.cfb_tables
+pub use Rattle.cfb_content.proofs.cfb_directory
+pub use Rattle.cfb_content.proofs.cfb_rules
 pub mod Flags
 pub mod Parts
 pub mod Settled
@@ -11,3 +14,20 @@ pub mod HeldBytes
 pub mod Reopened
 pub mod ContentChanges
 pub mod InTurn
+pub mod Spared
+pub mod Balance
+pub mod Entries
+pub mod SameUse
+pub mod Streams
+pub mod Sound
+pub mod Joined
+pub mod Fullness
+pub mod Dropped
+pub mod Standing
+pub mod Trees
+pub mod Taken
+pub mod TakenBalance
+pub mod Cleared
+pub mod Emptied
+pub mod Marked
+pub mod Moved

@@ -3,8 +3,8 @@ use Rattle.std.proofs.Common.{◌≡◌, inl, inr, ℕ, List, sym, ◌∙◌, ap
 use Rattle.cfb_format.specs.Bytes.{free_sector}
 use Rattle.cfb_format.specs.Chain.{value}
 use Rattle.std.proofs.lemmas.Bool.{cases_eq}
-use Rattle.cfb_agreement.specs.cfb_mini_sectors.State.{MiniState, table_of}
-use Rattle.cfb_agreement.specs.cfb_mini_sectors.Steps.{IsSnugMini}
+use Rattle.cfb_agreement.specs.cfb_mini.State.{MiniState, table_of}
+use Rattle.cfb_agreement.specs.cfb_mini.Steps.{IsSnugMini}
 use Rattle.cfb_content.specs.Changed.{FreesMini}
 use Rattle.cfb_content.proofs.Lost.{all-used-kept, none-lost-then}
 use Rattle.cfb_agreement.specs.Changes.{KeepsParts}

@@ -6,7 +6,7 @@ use Rattle.cfb_format.specs.Names.{Cases}
 use Rattle.cfb_format.specs.Reading.{Reading, Reads, no_more}
 use Rattle.cfb_format.specs.Soundness.{IsSoundFile}
 use Rattle.cfb_format.proofs.Unique.{Reads-unique}
-use Rattle.cfb_agreement.specs.cfb_mini_sectors.State.{MiniState, bytes_of, cases_of, header_of_version, parts_of, reading_of, table_of, tables_in, version_of}
+use Rattle.cfb_agreement.specs.cfb_mini.State.{MiniState, bytes_of, cases_of, header_of_version, parts_of, reading_of, table_of, tables_in, version_of}
 use Rattle.cfb_agreement.specs.Files.{FileState, Holds, IsAsMade}
 use Rattle.cfb_agreement.specs.Laws.{MadeIsExact}
 use Rattle.cfb_agreement.proofs.Flags.{made-over, over}

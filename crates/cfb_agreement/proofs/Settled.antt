@@ -2,7 +2,7 @@
 use Rattle.std.proofs.Common.{inl, inr, ℕ, Bool, arith}
 use Rattle.std.proofs.lemmas.Bool.{cases_lt}
 use Rattle.cfb_format.specs.DirectoryEntry.{Entry}
-use Rattle.cfb_agreement.specs.cfb_mini_sectors.State.{MiniState}
+use Rattle.cfb_agreement.specs.cfb_mini.State.{MiniState}
 use Rattle.cfb_content.specs.Contents.{IsSnug, len_of}
 use Rattle.cfb_agreement.specs.Changes.{SettlesStream}
 use Rattle.cfb_agreement.proofs.Flags.{flagged}

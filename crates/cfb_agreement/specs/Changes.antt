@@ -10,10 +10,10 @@ use Rattle.cfb_format.specs.Siblings.{entry_at}
 use Rattle.cfb_format.specs.Tree.{Tree}
 use Rattle.cfb_agreement.specs.cfb_rules.CallChanges.{storage_added_at, stream_added_at}
 use Rattle.cfb_agreement.specs.cfb_tables.Tables.{AreExactTables}
-use Rattle.cfb_agreement.specs.cfb_trees.Balance.{AreAllBalanced}
-use Rattle.cfb_agreement.specs.cfb_mini_sectors.State.{IsChangeable, MiniState, cases_of, entries_of, table_of, tables_in}
-use Rattle.cfb_agreement.specs.cfb_mini_sectors.Steps.{IsSnugMini}
-use Rattle.cfb_agreement.specs.cfb_mini_changes.MiniSectors.{IsOfWholeSectors}
+use Rattle.cfb_agreement.specs.cfb_siblings.Balance.{AreAllBalanced}
+use Rattle.cfb_agreement.specs.cfb_mini.State.{IsChangeable, MiniState, cases_of, entries_of, table_of, tables_in}
+use Rattle.cfb_agreement.specs.cfb_mini.Steps.{IsSnugMini}
+use Rattle.cfb_agreement.specs.cfb_mini.MiniSectors.{IsOfWholeSectors}
 use Rattle.cfb_content.specs.Changed.{FreesMini}
 use Rattle.cfb_content.specs.Contents.{AreSnug, IsSnug, KeepsContent, KeepsFixedHeader, KeepsOthers, LosesNone, MovesContent, len_of}
 use Rattle.cfb_agreement.specs.Files.{EmptyStartAtEnd, FileState, IsAsBefore, IsCounted, IsLostEntry, GrowsTightly, SameSetting, StartsAtEndIfEmpty, is_failed}

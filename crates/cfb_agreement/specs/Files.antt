@@ -12,11 +12,11 @@ use Rattle.cfb_format.specs.Siblings.{entry_at}
 use Rattle.cfb_format.specs.Soundness.{IsSound}
 use Rattle.cfb_agreement.specs.cfb_tables.Changes.{NoneFree}
 use Rattle.cfb_agreement.specs.cfb_tables.Tables.{AreExactTables}
-use Rattle.cfb_agreement.specs.cfb_trees.Balance.{AreAllBalanced}
-use Rattle.cfb_agreement.specs.cfb_trees.Reached.{IsReached}
-use Rattle.cfb_agreement.specs.cfb_mini_sectors.State.{IsChangeable, MiniState, bytes_of, cases_of, entries_of, parts_of, reading_of, table_of, tables_in, version_of}
-use Rattle.cfb_agreement.specs.cfb_mini_sectors.Steps.{IsSnugMini, KeepsLimits}
-use Rattle.cfb_agreement.specs.cfb_mini_changes.MiniSectors.{IsStill, IsOfWholeSectors}
+use Rattle.cfb_agreement.specs.cfb_siblings.Balance.{AreAllBalanced}
+use Rattle.cfb_agreement.specs.cfb_siblings.Reached.{IsReached}
+use Rattle.cfb_agreement.specs.cfb_mini.State.{IsChangeable, MiniState, bytes_of, cases_of, entries_of, parts_of, reading_of, table_of, tables_in, version_of}
+use Rattle.cfb_agreement.specs.cfb_mini.Steps.{IsSnugMini, KeepsLimits}
+use Rattle.cfb_agreement.specs.cfb_mini.MiniSectors.{IsStill, IsOfWholeSectors}
 use Rattle.cfb_content.specs.Contents.{AreAllUsed, AreSnug, IsStreamOf, TellsPlaces, dir_count_of, len_of}
 
 -- what the layers below keep, whether the file is sound, and for how many bytes the buffer of a stream may have room

@@ -10,12 +10,12 @@ use Rattle.cfb_agreement.specs.cfb_rules.CallChanges.{content_changed_at}
 use Rattle.cfb_agreement.specs.cfb_siblings.Paths.{number_from}
 use Rattle.cfb_agreement.specs.cfb_tables.Changes.{NoneFree}
 use Rattle.cfb_agreement.specs.cfb_tables.Tables.{AreExactTables}
-use Rattle.cfb_objects.specs.Balance.{AreLow, IsLowFile}
-use Rattle.cfb_objects.specs.Laws.{BecomesTree}
-use Rattle.cfb_objects.specs.Objects.{tree_from}
-use Rattle.cfb_agreement.specs.cfb_mini_sectors.Held.{with_table}
-use Rattle.cfb_agreement.specs.cfb_mini_sectors.State.{IsChangeable, MiniState, bytes_of, cases_of, content_of, entries_of, table_of, tables_in}
-use Rattle.cfb_agreement.specs.cfb_mini_sectors.Steps.{IsSnugMini}
+use Rattle.cfb_listing.specs.Balance.{AreLow, IsLowFile}
+use Rattle.cfb_listing.specs.ObjectLaws.{BecomesTree}
+use Rattle.cfb_listing.specs.Objects.{tree_from}
+use Rattle.cfb_agreement.specs.cfb_mini.Held.{with_table}
+use Rattle.cfb_agreement.specs.cfb_mini.State.{IsChangeable, MiniState, bytes_of, cases_of, content_of, entries_of, table_of, tables_in}
+use Rattle.cfb_agreement.specs.cfb_mini.Steps.{IsSnugMini}
 use Rattle.cfb_content.specs.Changed.{FreesMini, MovesAlone, StaysTidy}
 use Rattle.cfb_content.specs.Contents.{AreSnug, IsStreamOf, KeepsOthers, LosesNone, MovesContent}
 use Rattle.cfb_agreement.specs.Files.{FileState, Holds, IsAsBefore, IsAsMade, IsMadeFile, SameSetting, StartsAtEndIfEmpty, failures_of, is_failed}

@@ -9,18 +9,18 @@ use Rattle.cfb_format.specs.Bytes.{end_of_chain, free_sector}
 use Rattle.cfb_format.specs.Chain.{value, IsChain}
 use Rattle.cfb_format.specs.declared.validate.Validation.{Validation}
 use Rattle.cfb_alloc.specs.Alloc.{AllocatorState, HoldsTables, OthersStay}
-use Rattle.cfb_table_words.specs.Agreement.{KeepsSectors}
-use Rattle.cfb_table_words.specs.Holding.{HoldsBut, IsPlaced, ChangesSectors, IsOtherHeaderByte}
-use Rattle.cfb_table_words.proofs.FrameLemmas.{changes_refl}
+use Rattle.cfb_alloc.specs.Agreement.{KeepsSectors}
+use Rattle.cfb_alloc.specs.Holding.{HoldsBut, IsPlaced, ChangesSectors, IsOtherHeaderByte}
+use Rattle.cfb_alloc.proofs.FrameLemmas.{changes_refl}
 use Rattle.cfb_tables.specs.Changes.{AreDisjoint}
 use Rattle.cfb_tables.specs.Clean.{IsClean}
-use Rattle.cfb_table_words.specs.Difat.{difat_places}
+use Rattle.cfb_alloc.specs.Difat.{difat_places}
 use Rattle.cfb_tables.specs.Refused.{TableRefused, ChangeRefused, NextRefused}
 use Rattle.cfb_alloc.specs.Broken.{BreaksOff}
 use Rattle.cfb_alloc.specs.cfb_sectors.Sectors.{SectorFile, SectorStays, IsMediumError}
 use Rattle.cfb_tables.specs.Tables.{TableState, HasTaken, TakesFor, AreSizes, sizes_of}
 use Rattle.cfb_tables.proofs.CleanLemmas.{taken-clean}
-use Rattle.cfb_table_words.proofs.GrowthLemmas.{fats_apart_more, old_fats_kept}
+use Rattle.cfb_alloc.proofs.GrowthLemmas.{fats_apart_more, old_fats_kept}
 use Rattle.cfb_alloc.proofs.cfb_sectors.SectorLemmas.{SectorStays_refl}
 use Rattle.cfb_format.proofs.Walks.{value-below}
 

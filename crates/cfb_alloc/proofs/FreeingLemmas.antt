@@ -10,9 +10,9 @@ use Rattle.cfb_format.specs.declared.validate.Validation.{Validation}
 use Rattle.cfb_format.specs.declared.version.Version.{Version}
 use Rattle.cfb_format.specs.Bytes.{end_of_chain, max_regular_sector, fat_sector, difat_sector}
 use Rattle.cfb_format.specs.Chain.{value, IsChain}
-use Rattle.cfb_table_words.specs.Agreement.{IsStrictBut}
+use Rattle.cfb_alloc.specs.Agreement.{IsStrictBut}
 use Rattle.cfb_alloc.specs.Alloc.{AllocatorState}
-use Rattle.cfb_table_words.specs.Holding.{HoldsBut, IsPlaced, ChangesSectors}
+use Rattle.cfb_alloc.specs.Holding.{HoldsBut, IsPlaced, ChangesSectors}
 use Rattle.cfb_tables.specs.Changes.{ChangesOnlyValues, GivesBack, IsNextOf, NoChain}
 use Rattle.cfb_tables.specs.Clean.{IsClean}
 use Rattle.cfb_tables.specs.Refused.{TableRefused, ChangeRefused}
@@ -20,12 +20,12 @@ use Rattle.cfb_format.specs.Refused.{AfterMedium}
 use Rattle.cfb_alloc.specs.Broken.{BreaksOff}
 use Rattle.cfb_alloc.specs.cfb_sectors.Sectors.{SectorFile, IsMediumError}
 use Rattle.cfb_tables.specs.Tables.{TableState}
-use Rattle.cfb_table_words.proofs.AgreementLemmas.{changed_late}
-use Rattle.cfb_table_words.proofs.StrictLemmas.{strict_changed}
+use Rattle.cfb_alloc.proofs.AgreementLemmas.{changed_late}
+use Rattle.cfb_alloc.proofs.StrictLemmas.{strict_changed}
 use Rattle.cfb_tables.proofs.ChainLemmas.{follows-values}
 use Rattle.cfb_tables.proofs.CleanLemmas.{clean-within}
-use Rattle.cfb_table_words.proofs.FrameLemmas.{changes_refl}
-use Rattle.cfb_table_words.proofs.GrowthLemmas.{agrees_more, value_is, is_value}
+use Rattle.cfb_alloc.proofs.FrameLemmas.{changes_refl}
+use Rattle.cfb_alloc.proofs.GrowthLemmas.{agrees_more, value_is, is_value}
 use Rattle.cfb_format.proofs.Walks.{regular-le, value-below}
 use Rattle.cfb_format.proofs.Members.{Contains-cases, Contains-here}
 use Rattle.cfb_format.proofs.Tests.{if_strict}

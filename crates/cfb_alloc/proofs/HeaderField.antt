@@ -18,16 +18,16 @@ use Rattle.cfb_alloc.proofs.cfb_sectors.WordLemmas.{length-with_word}
 use Rattle.cfb_alloc.specs.declared.alloc.HeaderWord.{HeaderWord}
 use Rattle.cfb_alloc.specs.declared.alloc.HeaderWord.TheVariants.{DirectorySectors, FirstMiniFat, MiniFatSectors}
 use Rattle.cfb_alloc.specs.HeaderWords.{header_word_place}
-use Rattle.cfb_table_words.specs.Agreement.{IsStrictBut}
+use Rattle.cfb_alloc.specs.Agreement.{IsStrictBut}
 use Rattle.cfb_alloc.specs.Alloc.{AllocatorState, HoldsTables}
-use Rattle.cfb_table_words.specs.Difat.{ListsTables, header_place}
+use Rattle.cfb_alloc.specs.Difat.{ListsTables, header_place}
 use Rattle.cfb_alloc.specs.Frame.{IsFixedHeaderByte, Spares, table_sectors}
-use Rattle.cfb_table_words.proofs.AgreementLemmas.{agreement_stays}
-use Rattle.cfb_table_words.proofs.DifatEntries.{is_free}
-use Rattle.cfb_table_words.proofs.DifatHeader.{Within, within_word, within_words, fixed_stays, stored_same}
-use Rattle.cfb_table_words.proofs.DifatLemmas.{past_header, same_entries, same_next, same_numbers, whole_list}
-use Rattle.cfb_table_words.proofs.DifatWalk.{all_same, follows_on}
-use Rattle.cfb_table_words.proofs.HeldLemmas.{header_long, listed_whole}
+use Rattle.cfb_alloc.proofs.AgreementLemmas.{agreement_stays}
+use Rattle.cfb_alloc.proofs.DifatEntries.{is_free}
+use Rattle.cfb_alloc.proofs.DifatHeader.{Within, within_word, within_words, fixed_stays, stored_same}
+use Rattle.cfb_alloc.proofs.DifatLemmas.{past_header, same_entries, same_next, same_numbers, whole_list}
+use Rattle.cfb_alloc.proofs.DifatWalk.{all_same, follows_on}
+use Rattle.cfb_alloc.proofs.HeldLemmas.{header_long, listed_whole}
 use Rattle.cfb_alloc.proofs.SeekLemmas.{strict_stays}
 use Rattle.cfb_format.proofs.Tests.{if_strict}
 use Rattle.cfb_format.proofs.Members.{same_flat}

@@ -1,14 +1,24 @@
-pub use Rattle.cfb_table_words.proofs.cfb_sectors
+pub use Rattle.cfb_sectors.proofs as cfb_sectors
 pub use Rattle.cfb_tables.proofs as cfb_tables
-pub use Rattle.cfb_table_words.proofs as cfb_table_words
-pub use Rattle.cfb_table_words.proofs.AgreementLemmas
-pub use Rattle.cfb_table_words.proofs.Answering
-pub use Rattle.cfb_table_words.proofs.DifatEntries
-pub use Rattle.cfb_table_words.proofs.DifatWords
-pub use Rattle.cfb_table_words.proofs.FrameLemmas
-pub use Rattle.cfb_table_words.proofs.HeldLemmas
-pub use Rattle.cfb_table_words.proofs.Listed
-pub use Rattle.cfb_table_words.proofs.TableWords
+pub mod TableWords
+pub mod Listed
+pub mod AgreementLemmas
+pub mod Answering
+pub mod DifatEntries
+pub mod DifatHeader
+pub mod DifatLemmas
+pub mod DifatLinked
+pub mod DifatWalk
+pub mod DifatWords
+pub mod FrameLemmas
+pub mod GrowthLemmas
+pub mod HeldLemmas
+pub mod RunWords
+pub mod Stretches
+pub mod StrictLemmas
+pub mod Runs
+pub mod Along
+pub mod FilledSectors
 pub mod AllocLemmas
 pub mod FreeingLemmas
 pub mod SeekLemmas

@@ -23,7 +23,7 @@ use Rattle.cfb_tables.proofs.ListedLemmas.{chain_ends, end_chain, ended_alone, e
 use Rattle.cfb_tables.proofs.PreparedLemmas.{chain-one}
 use Rattle.cfb_tables.proofs.TakenLemmas.{taken-none, taken-nothing}
 use Rattle.cfb_alloc.specs.Alloc.{AllocatorState}
-use Rattle.cfb_table_words.specs.Holding.{HoldsBut, ChangesSectors}
+use Rattle.cfb_alloc.specs.Holding.{HoldsBut, ChangesSectors}
 use Rattle.cfb_alloc.specs.Frame.{Spares}
 use Rattle.cfb_alloc.specs.ListedChain.{CanShorten, Lengthens, Shortens, from_last_of}
 use Rattle.cfb_alloc.proofs.AllocLemmas.{next_refused, refused-less}

@@ -11,20 +11,20 @@ use Rattle.cfb_format.specs.declared.version.Version.TheVariants.{V3, V4}
 use Rattle.cfb_format.specs.Bytes.{sector_len, sector_start, sector_count, words_per_sector}
 use Rattle.cfb_format.specs.Medium.{written, ChangesOnlyBytes}
 use Rattle.cfb_format.proofs.ByteLemmas.{length-written, ChangesOnly-written}
-use Rattle.cfb_table_words.specs.Agreement.{HasSectors, KeepsSectors, IsStrictBut, word_of}
+use Rattle.cfb_alloc.specs.Agreement.{HasSectors, KeepsSectors, IsStrictBut, word_of}
 use Rattle.cfb_alloc.specs.Alloc.{AllocatorState, HoldsTables}
-use Rattle.cfb_table_words.specs.Holding.{HoldsBut, IsPlaced}
+use Rattle.cfb_alloc.specs.Holding.{HoldsBut, IsPlaced}
 use Rattle.cfb_tables.specs.Clean.{IsClean}
 use Rattle.cfb_alloc.specs.Frame.{LieOutside, table_sectors}
 use Rattle.cfb_alloc.specs.InSector.{LiesIn, IsNoTableSector}
 use Rattle.cfb_alloc.specs.cfb_sectors.Sectors.{SectorFile, sectors_end}
 use Rattle.cfb_tables.specs.Tables.{TableState}
-use Rattle.cfb_table_words.proofs.AgreementLemmas.{agreement_stays}
-use Rattle.cfb_table_words.proofs.DifatLemmas.{listing_stays}
-use Rattle.cfb_table_words.proofs.HeldLemmas.{listed_whole, header_long}
+use Rattle.cfb_alloc.proofs.AgreementLemmas.{agreement_stays}
+use Rattle.cfb_alloc.proofs.DifatLemmas.{listing_stays}
+use Rattle.cfb_alloc.proofs.HeldLemmas.{listed_whole, header_long}
 use Rattle.cfb_alloc.proofs.Spared.{apart_from, lies_past}
 use Rattle.cfb_alloc.proofs.cfb_sectors.SectorLemmas.{Stays_apart, sector_apart}
-use Rattle.cfb_table_words.proofs.TableWords.{kept_word}
+use Rattle.cfb_alloc.proofs.TableWords.{kept_word}
 use Rattle.cfb_format.proofs.Tests.{if_strict}
 use Rattle.cfb_format.proofs.Along.{sectors_apart}
 

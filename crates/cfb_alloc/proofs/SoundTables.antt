@@ -18,17 +18,17 @@ use Rattle.cfb_format.specs.Reading.{Reading, Reads, root_entry}
 use Rattle.cfb_format.specs.Siblings.{entry_at}
 use Rattle.cfb_format.specs.Soundness.{IsSound, used_sectors, sectors_of, mini_stream_sectors, large_streams}
 use Rattle.cfb_format.proofs.Chains.{chain_from-IsChain}
-use Rattle.cfb_table_words.specs.Agreement.{word_of, WordsAgree, IsStrictBut}
+use Rattle.cfb_alloc.specs.Agreement.{word_of, WordsAgree, IsStrictBut}
 use Rattle.cfb_alloc.specs.Alloc.{AllocatorState, HoldsTables}
 use Rattle.cfb_tables.specs.Changes.{AreDisjoint}
 use Rattle.cfb_tables.specs.Clean.{IsClean}
-use Rattle.cfb_table_words.specs.Difat.{ListsTables}
+use Rattle.cfb_alloc.specs.Difat.{ListsTables}
 use Rattle.cfb_alloc.specs.Held.{SoundTablesAreHeld, StrictTablesAreHeld, HeldTablesAreStrict}
-use Rattle.cfb_table_words.proofs.AgreementLemmas.{within-stays}
+use Rattle.cfb_alloc.proofs.AgreementLemmas.{within-stays}
 use Rattle.cfb_tables.proofs.ChainLemmas.{follows-busy}
 use Rattle.cfb_tables.proofs.CleanLemmas.{clean-within, follows-next}
 use Rattle.cfb_alloc.proofs.StrictFat.{strict_is, strict_from}
-use Rattle.cfb_table_words.proofs.TableWords.{raw_fat-at, fat_words-at, length-fat_words}
+use Rattle.cfb_alloc.proofs.TableWords.{raw_fat-at, fat_words-at, length-fat_words}
 use Rattle.cfb_format.proofs.Walks.{regular-le, value-at, difat-whole}
 use Rattle.cfb_format.proofs.Members.{Contains-among, Contains-nil, Contains-there, Contains-or, distinct-left, distinct-apart, flat-Contains, not-among, every_member}
 use Rattle.cfb_format.proofs.Words.{whole-below}

@@ -13,7 +13,7 @@ use Rattle.cfb_alloc.specs.cfb_sectors.Words.{Apart}
 use Rattle.cfb_alloc.specs.cfb_sectors.Sectors.{SectorFile, place_in_sector}
 use Rattle.cfb_alloc.proofs.cfb_sectors.SectorLemmas.{sector_apart}
 use Rattle.cfb_alloc.specs.Alloc.{AllocatorState}
-use Rattle.cfb_table_words.specs.Holding.{ChangesSectors, IsOtherHeaderByte, IsPlaced}
+use Rattle.cfb_alloc.specs.Holding.{ChangesSectors, IsOtherHeaderByte, IsPlaced}
 use Rattle.cfb_alloc.specs.Frame.{IsFixedHeaderByte, Spares, LieAmong, TakingSpares, FreeingSpares, WritingSpares, table_sectors}
 use Rattle.cfb_alloc.specs.InSector.{LiesIn}
 use Rattle.cfb_alloc.proofs.AllocLemmas.{others_written}

@@ -8,10 +8,10 @@ use Rattle.std.proofs.lemmas.List.Elements.{Contains-get_or}
 use Rattle.cfb_format.specs.declared.version.Version.{Version}
 use Rattle.cfb_format.specs.Bytes.{sector_count, words_per_sector, points_below, is_regular, free_sector, fat_sector, difat_sector}
 use Rattle.cfb_format.specs.Fat.{raw_fat, fat_words, fat_padding, IsStrictFat}
-use Rattle.cfb_table_words.specs.Agreement.{word_of, WordsAgree, IsStrictBut}
+use Rattle.cfb_alloc.specs.Agreement.{word_of, WordsAgree, IsStrictBut}
 use Rattle.cfb_tables.specs.Changes.{AreDisjoint}
-use Rattle.cfb_table_words.proofs.AgreementLemmas.{every}
-use Rattle.cfb_table_words.proofs.TableWords.{raw_fat-at, fat_words-at, length-fat_words}
+use Rattle.cfb_alloc.proofs.AgreementLemmas.{every}
+use Rattle.cfb_alloc.proofs.TableWords.{raw_fat-at, fat_words-at, length-fat_words}
 use Rattle.cfb_format.proofs.Members.{Contains-nil, Contains-or, every_member}
 
 each_member : (p : ℕ → Bool) (xs : List ℕ) → ((i : ℕ) → Contains xs i → p i ≡ true) → list_all p xs ≡ true

@@ -7,7 +7,7 @@ use Rattle.cfb_format.specs.Chain.{value}
 use Rattle.cfb_alloc.specs.cfb_sectors.Sectors.{SectorFile, SectorStays}
 use Rattle.cfb_tables.specs.Clean.{IsClean}
 use Rattle.cfb_tables.specs.Tables.{TableState, AreSizes, IsCovered}
-pub use Rattle.cfb_table_words.specs.Holding.{IsPlaced, IsMeasured, HoldsBut, IsAsFilled, IsOtherHeaderByte, ChangesSectors}
+pub use Rattle.cfb_alloc.specs.Holding.{IsPlaced, IsMeasured, HoldsBut, IsAsFilled, IsOtherHeaderByte, ChangesSectors}
 
 -- what an allocator keeps
 pub record AllocatorState : Type 0 where

@@ -10,9 +10,9 @@ use Rattle.cfb_tables.specs.Changes.{AreDisjoint}
 use Rattle.cfb_tables.specs.Tables.{TableState, HasTaken, TakesFor, TablesGiveBack, GivesBackChain}
 use Rattle.cfb_alloc.specs.cfb_sectors.Sectors.{SectorStays}
 use Rattle.cfb_alloc.specs.cfb_sectors.Words.{Apart}
-use Rattle.cfb_table_words.specs.Agreement.{KeepsSectors}
+use Rattle.cfb_alloc.specs.Agreement.{KeepsSectors}
 use Rattle.cfb_alloc.specs.Alloc.{AllocatorState, OthersStay}
-use Rattle.cfb_table_words.specs.Holding.{ChangesSectors}
+use Rattle.cfb_alloc.specs.Holding.{ChangesSectors}
 use Rattle.cfb_alloc.specs.Broken.{BreaksOff}
 
 -- the sectors that hold the tables

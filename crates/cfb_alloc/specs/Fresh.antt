@@ -5,7 +5,7 @@ use Rattle.cfb_format.specs.Bytes.{sector_start, entries_per_sector}
 use Rattle.cfb_format.specs.DirectoryEntry.{entry_bytes, unallocated_entry}
 use Rattle.cfb_format.specs.Medium.{part}
 use Rattle.cfb_alloc.specs.cfb_sectors.declared.sector.SectorInit.TheVariants.{Dir}
-use Rattle.cfb_table_words.specs.Holding.{IsAsFilled}
+use Rattle.cfb_alloc.specs.Holding.{IsAsFilled}
 
 -- ---- laws
 

@@ -1,8 +1,11 @@
-pub use Rattle.cfb_table_words.specs.cfb_sectors
+pub use Rattle.cfb_sectors.specs as cfb_sectors
 pub use Rattle.cfb_tables.specs as cfb_tables
-pub use Rattle.cfb_table_words.specs as cfb_table_words
-pub use Rattle.cfb_table_words.specs.Agreement
-pub use Rattle.cfb_table_words.specs.Difat
+pub mod Agreement
+pub mod Difat
+pub mod Holding
+pub mod Stretches
+pub mod Runs
+pub mod Along
 pub mod Alloc
 pub mod Held
 pub mod InSector

@@ -5,9 +5,9 @@ ghost use Rattle.cfb_format.specs.Bytes.{sector_len, max_regular_sector, end_of_
 ghost use Rattle.cfb_format.specs.Chain.{IsChain, value};
 ghost use Rattle.cfb_format.specs.Refused.{CountsFailure, IsInvalidData};
 ghost use Rattle.cfb_alloc.specs.Alloc.{AreListed, HoldsTables, IsUsable, OthersStay};
-ghost use Rattle.cfb_table_words.specs.Agreement.{KeepsSectors};
-ghost use Rattle.cfb_table_words.specs.Along.{AreFilledFrom};
-ghost use Rattle.cfb_table_words.specs.Holding.{ChangesSectors, IsPlaced, IsAsFilled};
+ghost use Rattle.cfb_alloc.specs.Agreement.{KeepsSectors};
+ghost use Rattle.cfb_alloc.specs.Along.{AreFilledFrom};
+ghost use Rattle.cfb_alloc.specs.Holding.{ChangesSectors, IsPlaced, IsAsFilled};
 ghost use Rattle.cfb_tables.specs.ReadFat.{AcceptsFat, AcceptsNoFat};
 ghost use Rattle.cfb_tables.specs.Changes.{IsNextOf, NoChain};
 ghost use Rattle.cfb_tables.specs.Refused.{TableRefused, NextRefused, NoLast, WalkRefused, ChangeRefused};
@@ -23,13 +23,13 @@ ghost use Rattle.cfb_tables.specs.Clean.{IsUnnamed};
 ghost use Rattle.cfb_alloc.specs.cfb_sectors.Sectors.{IsMediumError, IsRaised, OtherSectorsStay, place_in_sector, sectors_end};
 ghost use Rattle.cfb_format.specs.Medium.{ChangesOnlyBytes, part, written};
 
+use crate::writing::{TableSizes, write_taken, write_values};
 use cfb_format::consts::{END_OF_CHAIN, NUM_DIFAT_ENTRIES_IN_HEADER};
 use cfb_format::error::{Detail, Error};
 use cfb_format::medium::{Medium, ReadMedium};
 use cfb_format::validate::Validation;
 use cfb_format::version::Version;
-use cfb_table_words::writing::{TableSizes, write_taken, write_values};
-use cfb_table_words::{SectorInit, Sectors};
+use cfb_sectors::sector::{SectorInit, Sectors};
 use cfb_tables::ends::first_number;
 use cfb_tables::fat::read_fat;
 use cfb_tables::tables::Tables;
@@ -73,7 +73,7 @@ pub struct Allocator<F: ReadMedium, A: Heap = Global> {
 
 impl<F: ReadMedium, A: Heap> Model for Allocator<F, A> {
     ghost use Rattle.cfb_alloc.specs.Alloc.{AllocatorState};
-    ghost use Rattle.cfb_table_words.specs.Holding.{IsPlaced};
+    ghost use Rattle.cfb_alloc.specs.Holding.{IsPlaced};
     ghost use Rattle.cfb_alloc.specs.Kept.{IsKeptChain};
 
     ghost Value = { AllocatorState };

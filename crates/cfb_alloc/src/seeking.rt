@@ -33,7 +33,7 @@ impl<F: ReadMedium, A: Heap> Allocator<F, A> {
     ghost use Rattle.cfb_alloc.specs.LentSector.{allocator_of, start_of, len_of, offset_of, lender_rests};
 
     /// Lends the header, from this byte on (MS-CFB 2.2). What is written there may say of the tables what is not so.
-    #[tactic(auto, using(cfb_table_words::proofs::DifatLemmas::past_header))]
+    #[tactic(auto, using(crate::proofs::DifatLemmas::past_header))]
     pub fn seek_within_header(&mut self, offset: usize) -> AllocatedSector<'_, F, A>
         requires { offset ≤ 512 }
         ensures same_allocator { (allocator_of result).ghost_name ≡ self.entry.ghost_name }

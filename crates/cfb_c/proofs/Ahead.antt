@@ -3,7 +3,7 @@ use Rattle.std.proofs.Common.{◌≡◌, ◌∙◌, ◌≤◌, ◌<◌, ℕ, Boo
 use Rattle.std.proofs.lemmas.List.{drop-append-le, drop-drop, length-drop, length-take, length-take-le, take-append-drop, take-append-le}
 use Rattle.std.specs.Prelude.{◌⊎◌, IfSome, IsTrue, MatchOption, Option, Some, None, chars, ⊤}
 use Rattle.cfb_commands.specs.cfb_agreement.Files.{FileState}
-use Rattle.cfb_commands.specs.cfb_mini_sectors.State.{cases_of}
+use Rattle.cfb_commands.specs.cfb_mini.State.{cases_of}
 use Rattle.cfb_commands.specs.cfb_path_changes.Answers.{Answers}
 use Rattle.cfb_commands.specs.cfb_rules.Calls.{done, open_read_stream}
 use Rattle.cfb_commands.specs.cfb_rules.Runs.{opened_by_path}

@@ -1,3 +1,4 @@
+pub mod BoxValues
 pub mod Values
 pub mod Closed
 pub mod Pieces

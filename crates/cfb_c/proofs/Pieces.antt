@@ -16,7 +16,7 @@ use Rattle.cfb_commands.specs.cfb_rules.Refusal.{Refusal, failed_earlier, invali
 use Rattle.cfb_commands.specs.cfb_rules.Runs.{Causes, IsStreamBroken, StreamCallRuns, StreamOnFailed, StreamRun}
 use Rattle.cfb_commands.specs.cfb_rules.StreamCalls.{Moves, Serves, Refuses, StreamCall, StreamReply, StreamSetting, StreamState, StreamStep, from_start, got, not_done, offset, place_within, read, seek}
 use Rattle.cfb_format.specs.Medium.{part}
-use Rattle.cfb_commands.specs.cfb_stream_buffer.Contents.{stream_setting_of}
+use Rattle.cfb_commands.specs.cfb_stream_window.Contents.{stream_setting_of}
 use Rattle.cfb_commands.specs.cfb_stream_window.Windows.{Runs}
 use Rattle.cfb_commands.specs.cfb_compound_file.OpenedStreams.{BeginsAt}
 use Rattle.cfb_commands.specs.cfb_compound_file.Stored.{kept_of}

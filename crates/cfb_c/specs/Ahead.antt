@@ -2,7 +2,7 @@
 use Rattle.std.specs.Prelude.{ℕ, ◌≡◌, ◌≤◌, ◌<◌, ◌+◌, ◌-◌, ◌⊎◌, List, [], IsTrue, chars, drop, length, take}
 use Rattle.cfb_format.specs.Tree.{Tree}
 use Rattle.cfb_commands.specs.cfb_agreement.Files.{FileState}
-use Rattle.cfb_commands.specs.cfb_mini_sectors.State.{cases_of}
+use Rattle.cfb_commands.specs.cfb_mini.State.{cases_of}
 use Rattle.cfb_commands.specs.cfb_path_changes.Answers.{Answers, MeansTree}
 use Rattle.cfb_commands.specs.cfb_rules.Calls.{done, open_read_stream}
 use Rattle.cfb_commands.specs.cfb_rules.Runs.{opened_by_path}

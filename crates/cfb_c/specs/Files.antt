@@ -3,7 +3,7 @@ use Rattle.std.specs.Prelude.{ℕ, ◌≡◌, ◌⊎◌, ◌++◌, Bool, true, L
 use Rattle.cfb_format.specs.declared.error.Error.{Error}
 use Rattle.cfb_format.specs.Refused.{IsMemory}
 use Rattle.cfb_commands.specs.cfb_agreement.Files.{FileState}
-use Rattle.cfb_commands.specs.cfb_mini_sectors.State.{bytes_of}
+use Rattle.cfb_commands.specs.cfb_mini.State.{bytes_of}
 use Rattle.cfb_commands.specs.cfb_compound_file.Opening.{IsOpenedWith}
 use Rattle.cfb_copies.specs.Copies.{CopyRefused, IsMadeCopy, MeansTheSame}
 use Rattle.cfb_copies.specs.Steps.{IsReadOnly}

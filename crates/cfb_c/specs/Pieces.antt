@@ -5,7 +5,7 @@ use Rattle.cfb_format.specs.declared.medium.MediumFault.{MediumFault}
 use Rattle.cfb_format.specs.Tree.{Tree}
 use Rattle.cfb_commands.specs.cfb_agreement.Files.{FileState, is_failed}
 use Rattle.cfb_commands.specs.cfb_compound_file.StreamAnswers.{OpenStream, causes_of_reading, run_in}
-use Rattle.cfb_commands.specs.cfb_mini_sectors.State.{cases_of}
+use Rattle.cfb_commands.specs.cfb_mini.State.{cases_of}
 use Rattle.cfb_commands.specs.cfb_path_changes.Answers.{Answers, AnswersNot, MeansTree, setting_of}
 use Rattle.cfb_commands.specs.cfb_rules.Calls.{done, open_read_stream}
 use Rattle.cfb_commands.specs.cfb_rules.Refusal.{Refusal}

@@ -2,7 +2,7 @@
 ghost use Rattle.std.specs.Prelude.{◌≡◌};
 ghost use Rattle.cfb_format.specs.Bytes.{version_number};
 ghost use Rattle.cfb_commands.specs.cfb_agreement.Files.{is_failed};
-ghost use Rattle.cfb_commands.specs.cfb_mini_sectors.State.{version_of};
+ghost use Rattle.cfb_commands.specs.cfb_mini.State.{version_of};
 ghost use Rattle.cfb_commands.specs.cfb_path_changes.Answers.{Answers};
 ghost use Rattle.cfb_commands.specs.cfb_rules.Calls as calls;
 ghost use Rattle.cfb_c.specs.Calls.{AtPath, Calls, OnFile, Tells};

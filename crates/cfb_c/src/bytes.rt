@@ -1,7 +1,7 @@
 //! Whole files: copies, and the bytes of files in memory.
 ghost use Rattle.std.specs.Prelude.{◌≡◌, [], MatchResult, length};
 ghost use Rattle.cfb_format.specs.Refused.{IsMemory};
-ghost use Rattle.cfb_commands.specs.cfb_mini_sectors.State.{bytes_of};
+ghost use Rattle.cfb_commands.specs.cfb_mini.State.{bytes_of};
 ghost use Rattle.cfb_c.specs.Calls.{Calls, IsBytesAnd, Makes, OnBytes, OnFile, Tells};
 ghost use Rattle.cfb_c.specs.Files.{Appends, CopiesInto, LeavesBytes, OpensHeld};
 ghost use Rattle.cfb_c.specs.Given.{IsGiven, IsPartOf};
@@ -13,8 +13,8 @@ use crate::held::Kept;
 use crate::open_file::OpenFile;
 use crate::opening::opened_over;
 use crate::refusal::{NOT_OPEN, Refusal};
+use cfb_files::lent::LentMedium;
 use cfb_format::error::Error;
-use cfb_lent::lent::LentMedium;
 use std::alloc::Global;
 use std::mem;
 

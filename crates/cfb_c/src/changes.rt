@@ -9,8 +9,8 @@ use crate::held::Kept;
 use crate::refusal::{NOT_OPEN, Refusal, text};
 use cfb_codecs::timestamp::Timestamp;
 use cfb_compound_file::compound_file::CompoundFile;
+use cfb_files::lent::LentMedium;
 use cfb_format::error::Error;
-use cfb_lent::lent::LentMedium;
 use std::alloc::Global;
 use uuid::Uuid;
 

@@ -8,8 +8,8 @@ ghost use Rattle.cfb_c.specs.Calls.{IsHeld};
 ghost use Rattle.std.specs.Option.{MatchOption};
 
 use crate::held::{Held, Kept};
+use crate::loose::Loose;
 use crate::refusal::{DONE, Refusal, answer};
-use cfb_boxes::loose::Loose;
 use cfb_format::error::Error;
 use std::alloc::Global;
 use std::marker::Model;

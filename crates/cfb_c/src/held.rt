@@ -1,7 +1,7 @@
 //! What a handle holds.
 use crate::open_file::OpenFile;
+use cfb_files::lent::LentMedium;
 use cfb_format::error::Error;
-use cfb_lent::lent::LentMedium;
 use cfb_listing::entry::Entry;
 
 /// What a handle holds.

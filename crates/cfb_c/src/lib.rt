@@ -6,6 +6,8 @@
 //!
 //! A call answers 0 where it is done, and else the number of its refusal (`refusal`). A call that
 //! only asks leaves the file as it is, and what it tells is 0 where it is refused.
+//!
+//! Boxes apart from their pointers, for what another language keeps.
 #![tactic(auto, using(crate::proofs::Closed::not_open, crate::proofs::Closed::held))]
 
 pub mod asking;
@@ -15,6 +17,7 @@ pub mod giving;
 pub mod handle;
 pub mod held;
 pub mod listing;
+pub mod loose;
 pub mod open_file;
 pub mod opening;
 pub mod refusal;

@@ -7,8 +7,8 @@ ghost use Rattle.cfb_c.specs.Pieces.{IsNotReadFrom, ReadsPiece};
 use crate::giving::give_part;
 use crate::streams::read_piece;
 use cfb_compound_file::compound_file::CompoundFile;
+use cfb_files::lent::LentMedium;
 use cfb_format::error::Error;
-use cfb_lent::lent::LentMedium;
 use std::alloc::Global;
 use std::marker::Model;
 

@@ -13,9 +13,9 @@ use crate::open_file::OpenFile;
 use crate::refusal::{Refusal, wrong};
 use cfb_compound_file::compound_file::CompoundFile;
 use cfb_compound_file::options::OpenOptions;
+use cfb_files::lent::LentMedium;
 use cfb_format::error::Error;
 use cfb_format::version::Version;
-use cfb_lent::lent::LentMedium;
 use std::alloc::Global;
 
 /// Opens a file of these bytes, which are copied; where `is_strict` says so, what other writers are

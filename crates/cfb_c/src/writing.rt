@@ -1,12 +1,12 @@
 //! Parts of streams are written, and their lengths changed. Places and lengths are in bytes.
 ghost use Rattle.cfb_format.specs.Memory.{is_refused_growth};
 ghost use Rattle.cfb_c.specs.Calls.{AtPath, Calls, OnFile};
-ghost use Rattle.cfb_stream_parts.specs.Parts.{Resizes, WritesPart};
+ghost use Rattle.cfb_whole_streams.specs.Parts.{Resizes, WritesPart};
 
 use crate::handle::Handle;
 use crate::held::Kept;
 use crate::refusal::{NOT_OPEN, Refusal, text};
-use cfb_stream_parts::parts::{set_len_at, write_at};
+use cfb_whole_streams::parts::{set_len_at, write_at};
 use std::alloc::Global;
 
 /// Writes all of these bytes into the stream at this path, from the place `at` on, which is not

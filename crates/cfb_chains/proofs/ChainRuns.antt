@@ -15,10 +15,10 @@ use Rattle.cfb_format.specs.declared.medium.ReadMedium as medium
 use Rattle.cfb_format.proofs.ByteLemmas.{length-part, part_at, written_at, written_from_bytes}
 use Rattle.cfb_sectors.specs.Sectors.{SectorStays}
 use Rattle.cfb_chains.specs.cfb_alloc.Agreement.{HasSectors}
-use Rattle.cfb_runs.specs.Along.{ChangesOnlyRun}
-use Rattle.cfb_runs.specs.Runs.{IsLongestRun, IsRun, place_along}
-use Rattle.cfb_runs.proofs.Along.{run_stands}
-use Rattle.cfb_runs.proofs.Runs.{in_sector, offset_short, placed_once, shorter_run}
+use Rattle.cfb_chains.specs.Along.{ChangesOnlyRun}
+use Rattle.cfb_chains.specs.Runs.{IsLongestRun, IsRun, place_along}
+use Rattle.cfb_chains.proofs.Along.{run_stands}
+use Rattle.cfb_chains.proofs.Runs.{in_sector, offset_short, placed_once, shorter_run}
 use Rattle.cfb_chains.specs.LentChain.{ids_of, version_of, len_of, position_of, file_bytes_of, place_at, place_of, byte_of, HoldsWanted, ChangesOnlyWanted, HasWritten}
 use Rattle.cfb_chains.specs.declared.chain.Chain.{Chain}
 use Rattle.cfb_chains.specs.declared.chain.Numbers as numbers

@@ -1,5 +1,7 @@
-pub use Rattle.cfb_runs.proofs.cfb_tables
-pub use Rattle.cfb_runs.proofs.cfb_alloc
+pub use Rattle.cfb_alloc.proofs.cfb_tables
+pub use Rattle.cfb_alloc.proofs as cfb_alloc
+pub mod Runs
+pub mod Along
 pub mod ChainBytes
 pub mod ChainContent
 pub mod ChainLists

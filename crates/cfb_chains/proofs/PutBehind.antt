@@ -14,10 +14,10 @@ use Rattle.cfb_format.specs.declared.version.Version.TheVariants.{V3, V4}
 use Rattle.cfb_format.proofs.ByteLemmas.{length-part, part_at, written_from_bytes}
 use Rattle.cfb_sectors.specs.Sectors.{SectorStays, copies, init_bytes}
 use Rattle.cfb_sectors.specs.declared.sector.SectorInit.{SectorInit}
-use Rattle.cfb_runs.specs.Runs.{IsRun}
-use Rattle.cfb_runs.specs.cfb_table_words.Along.{AreFilledFrom, byte_given}
-use Rattle.cfb_runs.proofs.cfb_table_words.FilledSectors.{filled_stays, filled_whole_each, given_first, given_fresh}
-use Rattle.cfb_runs.proofs.cfb_table_words.HeldLemmas.{length-init}
+use Rattle.cfb_chains.specs.Runs.{IsRun}
+use Rattle.cfb_chains.specs.cfb_alloc.Along.{AreFilledFrom, byte_given}
+use Rattle.cfb_chains.proofs.cfb_alloc.FilledSectors.{filled_stays, filled_whole_each, given_first, given_fresh}
+use Rattle.cfb_chains.proofs.cfb_alloc.HeldLemmas.{length-init}
 use Rattle.cfb_chains.specs.cfb_alloc.Agreement.{HasSectors, KeepsSectors}
 use Rattle.cfb_chains.specs.ChainPlaces.{place_along}
 use Rattle.cfb_chains.specs.LentChain.{ids_of, init_of, version_of, len_of, left_of, position_of, file_bytes_of, place_at, byte_of, content_of, HoldsWanted, HasWritten}

@@ -6,8 +6,8 @@ ghost use Rattle.cfb_format.specs.Chain.{IsChain, chain_from, value};
 ghost use Rattle.cfb_format.specs.Content.{place_in_chain, placed_from};
 ghost use Rattle.cfb_format.specs.Medium.{ChangesOnlyBytes, part, written};
 ghost use Rattle.cfb_format.specs.Refused.{AfterMedium, CountsFailure, IsInvalidData, IsInvalidInput};
-ghost use Rattle.cfb_runs.specs.Runs.{IsRun};
-ghost use Rattle.cfb_runs.specs.cfb_table_words.Along.{AreFilledFrom};
+ghost use Rattle.cfb_chains.specs.Runs.{IsRun};
+ghost use Rattle.cfb_chains.specs.cfb_alloc.Along.{AreFilledFrom};
 ghost use Rattle.cfb_chains.specs.cfb_alloc.Agreement.{KeepsSectors};
 ghost use Rattle.cfb_chains.specs.cfb_alloc.Alloc.{ChangesSectors, HoldsTables, IsAsFilled, IsUsable, OthersStay, OthersStayBut};
 ghost use Rattle.cfb_chains.specs.cfb_tables.Clean.{IsUnnamed};
@@ -21,11 +21,12 @@ ghost use Rattle.cfb_chains.specs.ChainLists.{StaysOrBecomes};
 ghost use Rattle.cfb_chains.specs.ChainPlaces.{place_along};
 ghost use Rattle.cfb_chains.specs.cfb_tables.Listed.{ends_of, gained, last_or_end};
 
+use crate::reading::read_run;
+use crate::writing::{write_run, zero_run};
+use cfb_alloc::alloc::Allocator;
+use cfb_alloc::first_number;
 use cfb_format::error::{Detail, Error};
 use cfb_format::medium::{Medium, ReadMedium};
-use cfb_runs::reading::read_run;
-use cfb_runs::writing::{write_run, zero_run};
-use cfb_runs::{Allocator, first_number};
 use cfb_sectors::sector::SectorInit;
 use std::alloc::{Allocator as Heap, Global};
 

@@ -8,7 +8,7 @@ use Rattle.cfb_format.specs.Tree.{Tree}
 use Rattle.cfb_commands.specs.cfb_rules.Lists.{IsSeenAsBefore, names_at}
 use Rattle.cfb_commands.specs.cfb_siblings.Paths.{number_from}
 use Rattle.cfb_commands.specs.cfb_directory.State.{IsFullForEntry}
-use Rattle.cfb_commands.specs.cfb_mini_sectors.State.{cases_of, entries_of, root_len_of}
+use Rattle.cfb_commands.specs.cfb_mini.State.{cases_of, entries_of, root_len_of}
 use Rattle.cfb_commands.specs.cfb_agreement.Changes.{StaysOrFails}
 use Rattle.cfb_commands.specs.cfb_agreement.Files.{FileState, IsAsBefore, IsFullFile, SameSetting, failures_of, is_failed}
 use Rattle.cfb_commands.specs.cfb_agreement.Laws.{with_flags}

@@ -3,7 +3,7 @@ use Rattle.std.proofs.Common.{◌≡◌, ◌∙◌, ◌+◌, ◌-◌, ◌≤◌,
 use Rattle.std.specs.Prelude.{◌||◌, ◌&&◌, ◌==◌, ◌⊎◌, Option, Some, None, MatchBool, MatchOption, nat_le, nat_lt, if◌then◌else◌}
 use Rattle.cfb_commands.specs.cfb_rules.Refusal.{failed_earlier, invalid_data, invalid_input, not_sound, out_of_memory}
 use Rattle.cfb_commands.specs.cfb_rules.Runs.{Causes, IsAllowed, IsStreamBroken, StaysUnfailed, StreamCallRuns, StreamOnFailed, StreamRun, Work, WorkMayBreak, appending, is_never_refused, is_served, moving, no_work, overwriting, reading, resizing, work_of}
-use Rattle.cfb_commands.proofs.cfb_sequences.Lists.{short-read}
+use Rattle.cfb_commands.proofs.cfb_rules.Lists.{short-read}
 use Rattle.cfb_commands.specs.cfb_rules.StreamCalls.{Becomes, Moves, Read, ReadToEnd, ReadsOn, Wrote, resized, Seek, Serves, SetLen, StreamCall, StreamReply, StreamSetting, StreamState, StreamStep, Whence, Write, ask_is_empty, ask_len, ask_position, consume, count, fill_buf, flush, got, not_done, offset, read, read_to_end, ready, seek, set_len, sought, write}
 
 -- the calls that leave bytes lent

@@ -1,8 +1,7 @@
 pub use Rattle.cfb_compound_file.proofs.cfb_volume
 pub use Rattle.cfb_listing.proofs.cfb_rules
-pub use Rattle.cfb_compound_file.proofs.cfb_stream_buffer
+pub use Rattle.cfb_compound_file.proofs.cfb_stream_window
 pub use Rattle.cfb_compound_file.proofs.cfb_agreement
-pub use Rattle.cfb_compound_file.proofs.cfb_sequences
 pub use Rattle.cfb_compound_file.proofs.cfb_path_changes
 pub use Rattle.cfb_compound_file.proofs as cfb_compound_file
 pub mod Before

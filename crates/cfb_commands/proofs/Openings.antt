@@ -11,7 +11,7 @@ use Rattle.cfb_commands.specs.cfb_rules.Lists.{Opening, creates, creates_new, on
 use Rattle.cfb_commands.specs.cfb_rules.Refusal.{Refusal, failed_earlier, out_of_memory}
 use Rattle.cfb_commands.specs.cfb_rules.Runs.{opened_by_path}
 use Rattle.cfb_commands.specs.cfb_rules.StreamCalls.{StreamCall, StreamReply, StreamState}
-use Rattle.cfb_commands.specs.cfb_mini_sectors.State.{cases_of}
+use Rattle.cfb_commands.specs.cfb_mini.State.{cases_of}
 use Rattle.cfb_commands.specs.cfb_agreement.Files.{Agrees, FileState, SameSetting, is_failed}
 use Rattle.cfb_commands.specs.cfb_stream_window.Windows.{Window}
 use Rattle.cfb_commands.specs.cfb_path_changes.Answers.{AnswersNot, IsRefusedBy, setting_of}

@@ -5,9 +5,9 @@ use Rattle.cfb_format.specs.declared.medium.MediumFault.{MediumFault}
 use Rattle.cfb_format.specs.Tree.{Tree}
 use Rattle.cfb_commands.specs.cfb_rules.Calls as calls
 use Rattle.cfb_commands.specs.cfb_rules.Lists.{Command, CommandReply, by_path, replied}
-use Rattle.cfb_commands.specs.cfb_objects.Objects.{tree_from}
-use Rattle.cfb_commands.specs.cfb_mini_sectors.State.{content_of, entries_of}
-use Rattle.cfb_commands.proofs.cfb_sequences.Lists.{run-goes-on}
+use Rattle.cfb_commands.specs.cfb_listing.Objects.{tree_from}
+use Rattle.cfb_commands.specs.cfb_mini.State.{content_of, entries_of}
+use Rattle.cfb_commands.proofs.cfb_rules.Lists.{run-goes-on}
 use Rattle.cfb_commands.specs.cfb_agreement.Files.{Agrees, FileState, is_failed}
 use Rattle.cfb_commands.proofs.cfb_agreement.HeldBytes.{held-means-its-tree}
 use Rattle.cfb_commands.specs.cfb_path_changes.Answers.{MeansTree, setting_of}

@@ -8,8 +8,8 @@ use Rattle.cfb_commands.specs.cfb_rules.Lists.{CallStep, ClosingStep, Command, C
 use Rattle.cfb_commands.specs.cfb_rules.Refusal.{Refusal}
 use Rattle.cfb_commands.specs.cfb_rules.Runs.{Setting}
 use Rattle.cfb_commands.specs.cfb_rules.StreamCalls.{StreamCall, StreamReply}
-use Rattle.cfb_commands.specs.cfb_objects.Balance.{AreLow}
-use Rattle.cfb_commands.specs.cfb_mini_sectors.State.{cases_of, entries_of}
+use Rattle.cfb_commands.specs.cfb_listing.Balance.{AreLow}
+use Rattle.cfb_commands.specs.cfb_mini.State.{cases_of, entries_of}
 use Rattle.cfb_commands.specs.cfb_agreement.Files.{Agrees, FileState, IsAsMade, SameSetting, is_failed}
 use Rattle.cfb_commands.specs.cfb_path_changes.Answers.{MeansTree, setting_of}
 use Rattle.cfb_compound_file.specs.StreamAnswers.{OpenStream, stream_in}

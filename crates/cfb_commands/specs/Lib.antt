@@ -1,10 +1,9 @@
 pub use Rattle.cfb_compound_file.specs.cfb_siblings
 pub use Rattle.cfb_compound_file.specs.cfb_directory
-pub use Rattle.cfb_compound_file.specs.cfb_mini_sectors
+pub use Rattle.cfb_compound_file.specs.cfb_mini
 pub use Rattle.cfb_listing.specs.cfb_rules
-pub use Rattle.cfb_compound_file.specs.cfb_stream_buffer
 pub use Rattle.cfb_compound_file.specs.cfb_stream_window
-pub use Rattle.cfb_compound_file.specs.cfb_objects
+pub use Rattle.cfb_compound_file.specs.cfb_listing
 pub use Rattle.cfb_compound_file.specs.cfb_content
 pub use Rattle.cfb_compound_file.specs.cfb_agreement
 pub use Rattle.cfb_compound_file.specs.cfb_opening

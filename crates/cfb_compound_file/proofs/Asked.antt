@@ -20,10 +20,10 @@ use Rattle.cfb_compound_file.specs.cfb_rules.Finding.{object_at}
 use Rattle.cfb_compound_file.specs.cfb_rules.Refusal.{Refusal, invalid_input, not_found, out_of_memory}
 use Rattle.cfb_compound_file.specs.cfb_rules.Runs.{CallBreaksOff, FollowsRules, HasCause, IsBroken, MayBreak, OnFailed}
 use Rattle.cfb_compound_file.specs.cfb_rules.Steps.{CallKind, Step, asking, asking_freely, kind_of, unsound_refusal}
-use Rattle.cfb_compound_file.specs.cfb_objects.Objects.{object_of, tree_from}
-use Rattle.cfb_compound_file.proofs.cfb_objects.Facts.{root-has-its-name}
-use Rattle.cfb_compound_file.proofs.cfb_objects.Found.{object-is-at-its-entry}
-use Rattle.cfb_compound_file.specs.cfb_mini_sectors.State.{bytes_of, cases_of, content_of, entries_of, reading_of, root_len_of}
+use Rattle.cfb_compound_file.specs.cfb_listing.Objects.{object_of, tree_from}
+use Rattle.cfb_compound_file.proofs.cfb_listing.Facts.{root-has-its-name}
+use Rattle.cfb_compound_file.proofs.cfb_listing.Found.{object-is-at-its-entry}
+use Rattle.cfb_compound_file.specs.cfb_mini.State.{bytes_of, cases_of, content_of, entries_of, reading_of, root_len_of}
 use Rattle.cfb_agreement.specs.Files.{Agrees, FileState, is_failed}
 use Rattle.cfb_agreement.proofs.HeldBytes.{held-means-its-tree}
 use Rattle.cfb_path_changes.proofs.CallKinds.{kind_same}

@@ -10,14 +10,14 @@ use Rattle.cfb_compound_file.specs.cfb_rules.CallChanges.{new_stream}
 use Rattle.cfb_compound_file.specs.cfb_rules.Finding.{object_at}
 use Rattle.cfb_compound_file.specs.cfb_rules.Runs.{opened_by_path, stream_fields}
 use Rattle.cfb_compound_file.specs.cfb_rules.StreamCalls.{opened}
-use Rattle.cfb_compound_file.proofs.cfb_trees.Members.{streams-are-by-kind}
-use Rattle.cfb_compound_file.specs.cfb_objects.Objects.{object_of, tree_from}
-use Rattle.cfb_compound_file.proofs.cfb_objects.Found.{object-is-at-its-path, stream-by-kind}
-use Rattle.cfb_compound_file.specs.cfb_mini_sectors.State.{bytes_of, cases_of, content_of, entries_of}
+use Rattle.cfb_compound_file.proofs.cfb_siblings.Members.{streams-are-by-kind}
+use Rattle.cfb_compound_file.specs.cfb_listing.Objects.{object_of, tree_from}
+use Rattle.cfb_compound_file.proofs.cfb_listing.Found.{object-is-at-its-path, stream-by-kind}
+use Rattle.cfb_compound_file.specs.cfb_mini.State.{bytes_of, cases_of, content_of, entries_of}
 use Rattle.cfb_compound_file.specs.cfb_content.Contents.{IsStreamOf, len_of}
 use Rattle.cfb_agreement.specs.Files.{Agrees, FileState, is_failed}
 use Rattle.cfb_agreement.proofs.HeldBytes.{held-means-its-tree}
-use Rattle.cfb_stream_buffer.proofs.Lists.{laid-nothing}
+use Rattle.cfb_stream_window.proofs.Lists.{laid-nothing}
 use Rattle.cfb_stream_window.specs.Windows.{Window, window_opened}
 use Rattle.cfb_compound_file.specs.OpenedStreams.{BeginsAt}
 use Rattle.cfb_path_changes.specs.Finding.{StandsAt}

@@ -6,12 +6,12 @@ use Rattle.cfb_format.specs.Bytes.{max_stream_len}
 use Rattle.cfb_format.specs.Content.{place_in_stream}
 use Rattle.cfb_format.specs.DirectoryEntry.{Entry, IsEntry}
 use Rattle.cfb_format.specs.Siblings.{entry_at}
-use Rattle.cfb_compound_file.specs.cfb_mini_sectors.State.{bytes_of, entries_of, parts_of, version_of}
+use Rattle.cfb_compound_file.specs.cfb_mini.State.{bytes_of, entries_of, parts_of, version_of}
 use Rattle.cfb_compound_file.specs.cfb_content.Contents.{IsStreamOf, len_of}
 use Rattle.cfb_compound_file.proofs.cfb_content.StreamEntry.{stream-inside}
 use Rattle.cfb_agreement.specs.Files.{FileState, Holds, is_failed}
 use Rattle.cfb_compound_file.specs.cfb_volume.Answers.{content_at}
-use Rattle.cfb_stream_buffer.specs.Contents.{IsFitting}
+use Rattle.cfb_stream_window.specs.Contents.{IsFitting}
 use Rattle.cfb_compound_file.specs.Stored.{stored_of}
 use Rattle.cfb_compound_file.proofs.StoredStreams.{unfailed_content, whole_content}
 use Rattle.cfb_compound_file.proofs.cfb_content.ReadablePlaces.{placed-most}

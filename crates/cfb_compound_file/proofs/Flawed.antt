@@ -26,7 +26,7 @@ use Rattle.cfb_compound_file.specs.cfb_volume.Answers.{IsAsBeforeInMemory}
 use Rattle.cfb_compound_file.specs.cfb_volume.cfb_alloc.Alloc.{AllocatorState}
 use Rattle.cfb_compound_file.specs.cfb_volume.cfb_reading.RawFat.{HasFatSectors, raw_words}
 use Rattle.cfb_compound_file.specs.Flaws.{AreFlawsOf, AreMiniOwnersOf, AreSectorOwnersOf, IsReadFault}
-use Rattle.cfb_compound_file.specs.cfb_mini_sectors.State.{MiniState, bytes_of, cases_of, entries_of, reading_of, table_of, tables_in, version_of}
+use Rattle.cfb_compound_file.specs.cfb_mini.State.{MiniState, bytes_of, cases_of, entries_of, reading_of, table_of, tables_in, version_of}
 
 fat-length : (v : Version) (bytes list own : List ℕ) → length (fat_of v bytes list own) ≡ sector_count v bytes
 unfolding fat_of

@@ -14,12 +14,12 @@ use Rattle.cfb_compound_file.specs.cfb_rules.Finding.{object_at}
 use Rattle.cfb_compound_file.specs.cfb_rules.Refusal.{invalid_input, not_found}
 use Rattle.cfb_compound_file.specs.cfb_siblings.Paths.{number_at_path}
 use Rattle.cfb_compound_file.proofs.cfb_siblings.Tallies.{counted, present}
-use Rattle.cfb_compound_file.specs.cfb_trees.Reached.{IsReached}
-use Rattle.cfb_compound_file.proofs.cfb_trees.Members.{of-stream-kind}
+use Rattle.cfb_compound_file.specs.cfb_siblings.Reached.{IsReached}
+use Rattle.cfb_compound_file.proofs.cfb_siblings.Members.{of-stream-kind}
 use Rattle.cfb_compound_file.specs.cfb_entries.EntryList.{AreInOrder}
-use Rattle.cfb_compound_file.specs.cfb_objects.Objects.{object_of, tree_from}
-use Rattle.cfb_compound_file.proofs.cfb_objects.Found.{object-is-at-its-path, storage-by-kind, stream-by-kind}
-use Rattle.cfb_compound_file.specs.cfb_mini_sectors.State.{MiniState, bytes_of, cases_of, content_of, entries_of}
+use Rattle.cfb_compound_file.specs.cfb_listing.Objects.{object_of, tree_from}
+use Rattle.cfb_compound_file.proofs.cfb_listing.Found.{object-is-at-its-path, storage-by-kind, stream-by-kind}
+use Rattle.cfb_compound_file.specs.cfb_mini.State.{MiniState, bytes_of, cases_of, content_of, entries_of}
 use Rattle.cfb_compound_file.specs.cfb_content.Contents.{IsStreamOf}
 use Rattle.cfb_agreement.specs.Files.{FileState, Holds}
 use Rattle.cfb_agreement.proofs.HeldBytes.{held-means-its-tree}

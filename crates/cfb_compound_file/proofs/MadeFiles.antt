@@ -4,7 +4,7 @@ use Rattle.std.specs.Option.{unwrap_or}
 use Rattle.cfb_format.specs.declared.validate.Validation.{Validation}
 use Rattle.cfb_format.specs.Names.{Cases, default_cases}
 use Rattle.cfb_format.specs.Soundness.{IsSoundFile}
-use Rattle.cfb_compound_file.specs.cfb_mini_sectors.State.{bytes_of, cases_of}
+use Rattle.cfb_compound_file.specs.cfb_mini.State.{bytes_of, cases_of}
 use Rattle.cfb_agreement.specs.Files.{FileState, IsAsMade, IsMadeFile}
 use Rattle.cfb_agreement.specs.Laws.{MadeIsExact, SoundIsExact}
 use Rattle.cfb_opening.specs.Opened.{IsOpened}

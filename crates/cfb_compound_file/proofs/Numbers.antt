@@ -14,16 +14,16 @@ use Rattle.cfb_format.specs.Path.{names_of_path}
 use Rattle.cfb_format.specs.Reading.{IsOutline, Outline}
 use Rattle.cfb_format.specs.Siblings.{entry_at}
 use Rattle.cfb_compound_file.specs.cfb_outline.Outlines.{IsReachedStorage}
-use Rattle.cfb_compound_file.specs.cfb_trees.Reached.{IsReached}
-use Rattle.cfb_compound_file.proofs.cfb_trees.Members.{reached-is-within}
-use Rattle.cfb_compound_file.proofs.cfb_trees.PathReached.{found-is-reached}
+use Rattle.cfb_compound_file.specs.cfb_siblings.Reached.{IsReached}
+use Rattle.cfb_compound_file.proofs.cfb_siblings.Members.{reached-is-within}
+use Rattle.cfb_compound_file.proofs.cfb_siblings.PathReached.{found-is-reached}
 use Rattle.cfb_compound_file.specs.cfb_rules.Calls.{Call, EntryInfo}
 use Rattle.cfb_listing.specs.Listings.{ListsStorage}
 use Rattle.cfb_compound_file.specs.cfb_outline.Families.{is_stream_kind}
 use Rattle.cfb_listing.specs.Told.{entry_info}
 use Rattle.cfb_compound_file.specs.cfb_rules.Steps.{asking, kind_of}
 use Rattle.cfb_compound_file.specs.cfb_entries.EntryList.{AreInOrder}
-use Rattle.cfb_compound_file.specs.cfb_mini_sectors.State.{cases_of, entries_of}
+use Rattle.cfb_compound_file.specs.cfb_mini.State.{cases_of, entries_of}
 use Rattle.cfb_agreement.specs.Files.{FileState}
 use Rattle.cfb_path_changes.specs.Answers.{AnswersNot}
 use Rattle.cfb_path_changes.specs.Finding.{IsObjectOf, IsStorageOf, kind_found}

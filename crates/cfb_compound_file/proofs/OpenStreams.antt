@@ -9,7 +9,7 @@ use Rattle.cfb_compound_file.specs.cfb_rules.CallChanges.{content_changed_at}
 use Rattle.cfb_compound_file.specs.cfb_rules.Runs.{Causes, StreamRun, StreamCallRuns, is_never_refused, is_served}
 use Rattle.cfb_compound_file.specs.cfb_rules.StreamCalls.{StreamCall, StreamReply, StreamSetting, StreamStep}
 use Rattle.cfb_compound_file.specs.cfb_siblings.Paths.{number_from}
-use Rattle.cfb_compound_file.specs.cfb_mini_sectors.State.{bytes_of, cases_of, entries_of}
+use Rattle.cfb_compound_file.specs.cfb_mini.State.{bytes_of, cases_of, entries_of}
 use Rattle.cfb_compound_file.specs.cfb_content.Contents.{IsStreamOf}
 use Rattle.cfb_compound_file.proofs.cfb_content.FixedHeader.{header-then}
 use Rattle.cfb_compound_file.proofs.cfb_content.Kept.{others-kept-then}

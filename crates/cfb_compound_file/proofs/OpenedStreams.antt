@@ -11,7 +11,7 @@ use Rattle.cfb_compound_file.specs.cfb_rules.Calls.{Call, Reply, done, open_stre
 use Rattle.cfb_compound_file.specs.cfb_rules.Refusal.{Refusal, failed_earlier, invalid_input, not_found, out_of_memory}
 use Rattle.cfb_compound_file.specs.cfb_rules.Runs.{Causes, MayBreak, OnFailed, TreeState, may_stay}
 use Rattle.cfb_compound_file.specs.cfb_rules.Steps.{Step, kind_of, kind_on}
-use Rattle.cfb_compound_file.specs.cfb_mini_sectors.State.{bytes_of, cases_of, root_len_of}
+use Rattle.cfb_compound_file.specs.cfb_mini.State.{bytes_of, cases_of, root_len_of}
 use Rattle.cfb_agreement.specs.Files.{Agrees, FileState, is_failed}
 use Rattle.cfb_path_changes.specs.Answers.{Answers, AnswersNot, MeansTree, RunsOn, causes_of_call, setting_of, state_with}
 use Rattle.cfb_compound_file.specs.OpenedStreams.{IsNotFound, IsStreamAt}

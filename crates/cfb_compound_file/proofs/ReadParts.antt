@@ -3,7 +3,7 @@ use Rattle.std.proofs.Common.{◌≡◌, ◌<◌, ◌≤◌, ◌+◌, ◌-◌, �
 use Rattle.std.specs.Prelude.{IfOk, Result, Ok, Err, min}
 use Rattle.cfb_format.specs.declared.error.Error.{Error}
 use Rattle.cfb_format.specs.Medium.{part}
-use Rattle.cfb_stream_buffer.specs.Contents.{ReadsPart}
+use Rattle.cfb_stream_window.specs.Contents.{ReadsPart}
 
 -- before the end of what can be read, and where there is room, some of it
 pub part-read : (content into : List ℕ) (at room size : ℕ) (r : Result ℕ Error) → length content ≤ size → at < length content → 0 < room

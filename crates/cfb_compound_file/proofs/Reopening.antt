@@ -6,9 +6,9 @@ use Rattle.cfb_format.specs.declared.version.Version.{Version}
 use Rattle.cfb_format.specs.Full.{max_mini_sectors}
 use Rattle.cfb_format.specs.Header.{IfStrict}
 use Rattle.cfb_format.specs.Reading.{IsStrict, Reading}
-use Rattle.cfb_compound_file.proofs.cfb_objects.Balance.{balanced-is-red-apart}
-use Rattle.cfb_compound_file.specs.cfb_mini_sectors.State.{HoldsMini, bytes_of, cases_of, entries_of, reading_of, version_of}
-use Rattle.cfb_compound_file.proofs.cfb_mini_sectors.HeldMini.{held-mini-is-strict}
+use Rattle.cfb_compound_file.proofs.cfb_listing.Balance.{balanced-is-red-apart}
+use Rattle.cfb_compound_file.specs.cfb_mini.State.{HoldsMini, bytes_of, cases_of, entries_of, reading_of, version_of}
+use Rattle.cfb_compound_file.proofs.cfb_mini.HeldMini.{held-mini-is-strict}
 use Rattle.cfb_agreement.specs.Files.{FileState, Holds, IsAsMade}
 use Rattle.cfb_agreement.proofs.Reopened.{made-is-exact}
 use Rattle.cfb_compound_file.specs.Opening.{CanBeReopened, IsAcceptedAs}

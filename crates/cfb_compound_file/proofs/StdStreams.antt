@@ -5,7 +5,7 @@ use Rattle.std.specs.declared.io.Error.{Error as StdError}
 use Rattle.std.specs.declared.io.ErrorKind.TheVariants.{StorageFull}
 use Rattle.cfb_format.specs.declared.error.Error.{Error}
 use Rattle.cfb_format.specs.declared.error.Error.TheVariants.{NotFound, AlreadyExists, InvalidInput, InvalidData, Medium, Memory, Full, Unsound, Failed}
-use Rattle.cfb_std_streams.specs.Kinds.{std_kind}
+use Rattle.cfb_stream_window.specs.Kinds.{std_kind}
 use Rattle.cfb_agreement.specs.Files.{FileState, is_failed}
 use Rattle.cfb_compound_file.specs.StdStreams.{FullOnlyWhere}
 use Rattle.cfb_compound_file.specs.Stored.{kept_of}

@@ -20,7 +20,7 @@ use Rattle.cfb_compound_file.specs.cfb_tables.Owners.{tally}
 use Rattle.cfb_compound_file.proofs.cfb_tables.Counts.{in-tally, tally-in}
 use Rattle.cfb_compound_file.specs.cfb_rules.StreamCalls.{resized}
 use Rattle.cfb_compound_file.specs.cfb_entries.EntryList.{AreInOrder}
-use Rattle.cfb_compound_file.specs.cfb_mini_sectors.State.{MiniState, bytes_of, cases_of, entries_of, table_of, tables_in}
+use Rattle.cfb_compound_file.specs.cfb_mini.State.{MiniState, bytes_of, cases_of, entries_of, table_of, tables_in}
 use Rattle.cfb_compound_file.specs.cfb_content.Contents.{IsStreamOf, IsTooLongFor, len_of}
 use Rattle.cfb_compound_file.proofs.cfb_content.Apart.{same-reached}
 use Rattle.cfb_compound_file.proofs.cfb_content.Readable.{whole-of}
@@ -32,7 +32,7 @@ use Rattle.cfb_agreement.proofs.Flags.{as-before-same, flags-not-read}
 use Rattle.cfb_agreement.proofs.InTurn.{one-change-keeps-rest, rest-then, same-content-is-none}
 use Rattle.cfb_compound_file.specs.cfb_volume.Answers.{content_at}
 use Rattle.cfb_format.specs.Refused.{IsBreak}
-use Rattle.cfb_stream_buffer.specs.Contents.{CanHave, Fails, KeptOrFailed, Stored, TakesLen, WritesPart, laid, stored_after_resize, stored_after_write}
+use Rattle.cfb_stream_window.specs.Contents.{CanHave, Fails, KeptOrFailed, Stored, TakesLen, WritesPart, laid, stored_after_resize, stored_after_write}
 use Rattle.cfb_compound_file.specs.Flags.{flags_are_tight, flags_change_nothing, reads_are_tight, reads_keep, still_is_tight}
 use Rattle.cfb_compound_file.specs.Stored.{ChangesStream, IsTight, KeepsAllButStream, kept_of, stored_of}
 

@@ -14,10 +14,10 @@ use Rattle.cfb_format.specs.Siblings.{entry_at}
 use Rattle.cfb_format.specs.Tree.{Found, Object}
 use Rattle.cfb_compound_file.specs.cfb_outline.Outlines.{HasInside}
 use Rattle.cfb_compound_file.specs.cfb_siblings.Paths.{LeadsOn, number_at_path, number_from}
-use Rattle.cfb_compound_file.specs.cfb_trees.Reached.{IsObject}
-use Rattle.cfb_compound_file.proofs.cfb_trees.Members.{reached-is-used}
-use Rattle.cfb_compound_file.proofs.cfb_trees.PathReached.{found-is-reached}
-use Rattle.cfb_compound_file.proofs.cfb_trees.Standing.{reached-is-parent}
+use Rattle.cfb_compound_file.specs.cfb_siblings.Reached.{IsObject}
+use Rattle.cfb_compound_file.proofs.cfb_siblings.Members.{reached-is-used}
+use Rattle.cfb_compound_file.proofs.cfb_siblings.PathReached.{found-is-reached}
+use Rattle.cfb_compound_file.proofs.cfb_siblings.Standing.{reached-is-parent}
 use Rattle.cfb_compound_file.specs.cfb_rules.Calls.{EntryInfo, Reply, entries, entry, exists, flag, is_storage, is_stream, one_entry, read_root_storage, read_storage, refused, root_entry, walk, walk_storage}
 use Rattle.cfb_compound_file.specs.cfb_rules.CallRefusals.{always, is_a_storage, is_a_stream, object_refusal, unless}
 use Rattle.cfb_compound_file.specs.cfb_rules.CallReplies.{entry_reply, has_object, listed_object, object_entry, read_reply, walk_reply, walked_object}
@@ -27,10 +27,10 @@ use Rattle.cfb_listing.specs.Listings.{ListsStorage, Walks}
 use Rattle.cfb_compound_file.specs.cfb_outline.Families.{is_stream_kind}
 use Rattle.cfb_listing.specs.Told.{entry_info}
 use Rattle.cfb_listing.proofs.Telling.{root-told, storage-told, stream-told}
-use Rattle.cfb_compound_file.specs.cfb_objects.Objects.{found_of, inside_of, object_of}
-use Rattle.cfb_compound_file.proofs.cfb_objects.Found.{found-is-at-its-entry, inside-is-below, object-is-at-its-entry, object-is-at-its-path, storage-by-kind, stream-by-kind}
-use Rattle.cfb_compound_file.proofs.cfb_objects.Leading.{found-has-parent, last-name-leads-on}
-use Rattle.cfb_compound_file.specs.cfb_mini_sectors.State.{cases_of, content_of, entries_of, root_len_of}
+use Rattle.cfb_compound_file.specs.cfb_listing.Objects.{found_of, inside_of, object_of}
+use Rattle.cfb_compound_file.proofs.cfb_listing.Found.{found-is-at-its-entry, inside-is-below, object-is-at-its-entry, object-is-at-its-path, storage-by-kind, stream-by-kind}
+use Rattle.cfb_compound_file.proofs.cfb_listing.Leading.{found-has-parent, last-name-leads-on}
+use Rattle.cfb_compound_file.specs.cfb_mini.State.{cases_of, content_of, entries_of, root_len_of}
 use Rattle.cfb_agreement.specs.Files.{Agrees, FileState}
 use Rattle.cfb_path_changes.specs.Answers.{Answers, AnswersNot}
 use Rattle.cfb_path_changes.specs.Finding.{LeadTo, is_storage_or_root, kind_found}

@@ -9,7 +9,7 @@ use Rattle.cfb_format.specs.Refused.{CountsFailure, IsMediumAnd}
 use Rattle.cfb_compound_file.specs.cfb_rules.Calls.{done, flush, refused}
 use Rattle.cfb_compound_file.specs.cfb_rules.Refusal.{failed_earlier, medium_failed}
 use Rattle.cfb_compound_file.specs.cfb_rules.Steps.{creating, flushing}
-use Rattle.cfb_compound_file.specs.cfb_mini_sectors.State.{bytes_of}
+use Rattle.cfb_compound_file.specs.cfb_mini.State.{bytes_of}
 use Rattle.cfb_compound_file.proofs.cfb_content.FixedHeader.{bytes-keep-header, header-stays}
 use Rattle.cfb_agreement.specs.Files.{FileState, SameSetting, failures_of, is_failed}
 use Rattle.cfb_agreement.specs.Laws.{with_flags}

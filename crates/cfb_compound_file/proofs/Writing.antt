@@ -10,7 +10,7 @@ use Rattle.cfb_compound_file.specs.cfb_rules.StreamCalls.{Moves, StreamReply, St
 use Rattle.cfb_agreement.specs.Files.{SameSetting, is_failed}
 use Rattle.cfb_compound_file.proofs.cfb_agreement.InTurn.{setting-then}
 use Rattle.cfb_compound_file.proofs.cfb_volume.InMemory.{same-in-memory}
-use Rattle.cfb_stream_buffer.specs.Contents.{stream_setting_of}
+use Rattle.cfb_stream_window.specs.Contents.{stream_setting_of}
 use Rattle.cfb_stream_window.specs.Windows.{Runs}
 use Rattle.cfb_path_changes.specs.Answers.{causes_of}
 use Rattle.cfb_compound_file.specs.StreamAnswers.{IsFailed, OpenStream, StreamRunsOn, run_in, stored_in}

@@ -2,7 +2,7 @@
 use Rattle.std.specs.Prelude.{ℕ, ◌≡◌, ◌≢◌, Bool, true, false, Contains}
 use Rattle.std.proofs.Common.{arith, sym, subst}
 use Rattle.cfb_format.specs.Reading.{IsOutline, Outline, stream_numbers}
-use Rattle.cfb_compound_file.specs.cfb_mini_sectors.State.{cases_of, entries_of}
+use Rattle.cfb_compound_file.specs.cfb_mini.State.{cases_of, entries_of}
 use Rattle.cfb_compound_file.specs.cfb_content.Contents.{KeepsFixedHeader, KeepsOthers, MovesContent}
 use Rattle.cfb_agreement.specs.Changes.{KeepsAllButContent}
 use Rattle.cfb_agreement.specs.Files.{FileState, SameSetting, failures_of, is_failed}

@@ -9,7 +9,7 @@ use Rattle.cfb_flaws.specs.declared.owner.Owner.{Owner}
 use Rattle.cfb_flaws.specs.Each.{AnswersEach}
 use Rattle.cfb_flaws.specs.Flaws.{Holds}
 use Rattle.cfb_flaws.specs.Owners.{AreOwners}
-use Rattle.cfb_compound_file.specs.cfb_mini_sectors.State.{bytes_of, cases_of}
+use Rattle.cfb_compound_file.specs.cfb_mini.State.{bytes_of, cases_of}
 use Rattle.cfb_agreement.specs.Files.{FileState}
 
 -- there is none exactly if the file's bytes are sound, each is true of them, and each clause of soundness that they break has one

@@ -1,15 +1,13 @@
 pub use Rattle.cfb_copies.specs as cfb_copies
 pub use Rattle.cfb_copies.specs.cfb_outline
 pub use Rattle.cfb_copies.specs.cfb_siblings
-pub use Rattle.cfb_listing.specs.cfb_trees
 pub use Rattle.cfb_opening.specs.cfb_entries
 pub use Rattle.cfb_copies.specs.cfb_tables
 pub use Rattle.cfb_copies.specs.cfb_directory
-pub use Rattle.cfb_copies.specs.cfb_mini_sectors
+pub use Rattle.cfb_copies.specs.cfb_mini
 pub use Rattle.cfb_listing.specs.cfb_rules
-pub use Rattle.cfb_stream_buffer.specs as cfb_stream_buffer
 pub use Rattle.cfb_stream_window.specs as cfb_stream_window
-pub use Rattle.cfb_agreement.specs.cfb_objects
+pub use Rattle.cfb_agreement.specs.cfb_listing
 pub use Rattle.cfb_agreement.specs.cfb_content
 pub use Rattle.cfb_agreement.specs as cfb_agreement
 pub use Rattle.cfb_path_changes.specs.cfb_volume

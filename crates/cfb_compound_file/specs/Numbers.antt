@@ -1,7 +1,7 @@
 -- Objects by the numbers of their entries.
 use Rattle.std.specs.Prelude.{ℕ, ◌≡◌, List, Some}
 use Rattle.cfb_format.specs.Path.{names_of_path}
-use Rattle.cfb_compound_file.specs.cfb_mini_sectors.State.{cases_of, entries_of}
+use Rattle.cfb_compound_file.specs.cfb_mini.State.{cases_of, entries_of}
 use Rattle.cfb_agreement.specs.Files.{FileState, is_failed}
 use Rattle.cfb_path_changes.specs.Finding.{IsObjectOf, LeadTo}
 

@@ -7,7 +7,7 @@ use Rattle.cfb_format.specs.Reading.{IsOutline, Outline}
 use Rattle.cfb_format.specs.Refused.{HasReason, Reasons, no_error}
 use Rattle.cfb_format.specs.Siblings.{entry_at}
 use Rattle.cfb_compound_file.specs.cfb_siblings.Paths.{number_at_path}
-use Rattle.cfb_compound_file.specs.cfb_mini_sectors.State.{cases_of, entries_of}
+use Rattle.cfb_compound_file.specs.cfb_mini.State.{cases_of, entries_of}
 use Rattle.cfb_compound_file.specs.cfb_content.Contents.{IsStreamOf, len_of}
 use Rattle.cfb_agreement.specs.Files.{FileState, is_failed}
 use Rattle.cfb_stream_window.specs.Windows.{window_opened}

@@ -11,7 +11,7 @@ use Rattle.cfb_format.specs.Names.{Cases, default_cases}
 use Rattle.cfb_format.specs.Reading.{Reading}
 use Rattle.cfb_format.specs.Refused.{HasReason, no_error}
 use Rattle.cfb_format.specs.Soundness.{IsSoundFile}
-use Rattle.cfb_compound_file.specs.cfb_mini_sectors.State.{bytes_of, cases_of, tables_in, version_of}
+use Rattle.cfb_compound_file.specs.cfb_mini.State.{bytes_of, cases_of, tables_in, version_of}
 use Rattle.cfb_agreement.specs.Files.{FileState, Holds, IsAsMade, IsMadeFile, failures_of, is_failed}
 use Rattle.cfb_opening.specs.Acceptable.{IsAcceptable}
 use Rattle.cfb_opening.specs.Opened.{IsOpened, OpeningRefused}

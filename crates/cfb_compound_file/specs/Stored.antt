@@ -4,13 +4,13 @@ use Rattle.cfb_format.specs.declared.version.Version.{Version}
 use Rattle.cfb_format.specs.Bytes.{max_stream_len}
 use Rattle.cfb_format.specs.Names.{Cases}
 use Rattle.cfb_format.specs.Siblings.{entry_at}
-use Rattle.cfb_compound_file.specs.cfb_mini_sectors.Held.{with_table}
-use Rattle.cfb_compound_file.specs.cfb_mini_sectors.State.{bytes_of, cases_of, content_of, entries_of, table_of, tables_in, version_of}
+use Rattle.cfb_compound_file.specs.cfb_mini.Held.{with_table}
+use Rattle.cfb_compound_file.specs.cfb_mini.State.{bytes_of, cases_of, content_of, entries_of, table_of, tables_in, version_of}
 use Rattle.cfb_compound_file.specs.cfb_content.Contents.{IsStreamOf, KeepsFixedHeader, KeepsOthers, MovesContent, len_of}
 use Rattle.cfb_agreement.specs.Changes.{ChangesOneContent, KeepsAllButContent}
 use Rattle.cfb_agreement.specs.Files.{Agrees, FileState, GrowsTightly, SameSetting, is_failed}
 use Rattle.cfb_agreement.specs.Laws.{with_flags}
-use Rattle.cfb_stream_buffer.specs.Contents.{Stored}
+use Rattle.cfb_stream_window.specs.Contents.{Stored}
 
 -- what is stored of the stream of that entry. Of a file that has failed nothing counts as readable
 abbrev pub stored_of : FileState → ℕ → Stored

@@ -1,7 +1,7 @@
 -- What a file keeps of the options that it was opened or made with, whatever its medium tells.
 use Rattle.std.specs.Prelude.{◌≡◌, min}
 use Rattle.cfb_format.specs.Bytes.{max_regular_sector}
-use Rattle.cfb_compound_file.specs.cfb_mini_sectors.State.{cases_of, tables_in}
+use Rattle.cfb_compound_file.specs.cfb_mini.State.{cases_of, tables_in}
 use Rattle.cfb_agreement.specs.Files.{FileState}
 use Rattle.cfb_compound_file.specs.Opening.{Options}
 

@@ -15,7 +15,7 @@ use cfb_codecs::timestamp::Timestamp;
 use cfb_format::error::Error;
 use cfb_format::medium::{Medium, ReadMedium};
 use cfb_path_changes::placing::{Creation, fill_place, place_at};
-use cfb_stream_buffer::buffer::StreamBuffer;
+use cfb_stream_window::buffer::StreamBuffer;
 use cfb_stream_window::window::Window;
 use std::alloc::Allocator as Heap;
 

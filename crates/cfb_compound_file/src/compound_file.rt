@@ -1,6 +1,6 @@
 //! Compound files.
 ghost use Rattle.std.specs.Prelude.{◌≡◌, false, true, IsTrue};
-ghost use Rattle.cfb_compound_file.specs.cfb_mini_sectors.State.{bytes_of, version_of};
+ghost use Rattle.cfb_compound_file.specs.cfb_mini.State.{bytes_of, version_of};
 ghost use Rattle.cfb_agreement.specs.Files.{Agrees, failures_of, is_failed};
 ghost use Rattle.cfb_compound_file.specs.Opening.{CanBeReopened};
 

@@ -8,7 +8,7 @@ ghost use Rattle.cfb_compound_file.specs.Stored.{IsTight, KeepsAllButStream, kep
 use crate::compound_file::CompoundFile;
 use cfb_format::error::{Detail, Error};
 use cfb_format::medium::{Medium, ReadMedium};
-use cfb_stream_buffer::content::{Contents, ReadContents};
+use cfb_stream_window::content::{Contents, ReadContents};
 use std::alloc::Allocator as Heap;
 
 impl<F: ReadMedium, A: Heap + Clone> ReadContents for CompoundFile<F, A> {

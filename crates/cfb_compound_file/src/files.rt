@@ -2,7 +2,7 @@
 //! mean.
 ghost use Rattle.std.specs.Prelude.{IfErr, IfOk, ◌≡◌, false};
 ghost use Rattle.cfb_format.specs.declared.version.Version.TheVariants.{V4};
-ghost use Rattle.cfb_compound_file.specs.cfb_mini_sectors.State.{version_of};
+ghost use Rattle.cfb_compound_file.specs.cfb_mini.State.{version_of};
 ghost use Rattle.cfb_agreement.specs.Files.{is_failed};
 ghost use Rattle.cfb_opening.specs.Opened.{IsOfOpening};
 ghost use Rattle.cfb_compound_file.specs.Opening.{IsOfCreating};

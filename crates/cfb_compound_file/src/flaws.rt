@@ -6,7 +6,7 @@ ghost use Rattle.cfb_format.specs.Reading.{IsOutline, Outline, stream_numbers as
 ghost use Rattle.cfb_format.specs.Refused.{IsMemory};
 ghost use Rattle.cfb_agreement.specs.Files.{is_failed};
 ghost use Rattle.cfb_copies.specs.Steps.{IsReadOnly};
-ghost use Rattle.cfb_compound_file.specs.cfb_mini_sectors.State.{entries_of, table_of};
+ghost use Rattle.cfb_compound_file.specs.cfb_mini.State.{entries_of, table_of};
 ghost use Rattle.cfb_compound_file.specs.Flaws.{AreFlawsOf, AreMiniOwnersOf, AreSectorOwnersOf, IsReadFault};
 
 use crate::compound_file::CompoundFile;

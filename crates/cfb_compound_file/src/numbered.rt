@@ -5,12 +5,12 @@ ghost use Rattle.std.specs.Prelude.{◌≡◌, ◌<◌, ◌≤◌, false, length
 ghost use Rattle.cfb_codecs.specs.EntryModel.{entries_of as entries_in};
 ghost use Rattle.cfb_format.specs.Refused.{CountsFailure, IsBreak, IsMemory};
 ghost use Rattle.cfb_compound_file.specs.cfb_entries.EntryList.{AreInOrder};
-ghost use Rattle.cfb_compound_file.specs.cfb_mini_sectors.State.{cases_of, entries_of};
+ghost use Rattle.cfb_compound_file.specs.cfb_mini.State.{cases_of, entries_of};
 ghost use Rattle.cfb_compound_file.specs.cfb_rules.Calls.{walk_storage};
 ghost use Rattle.cfb_compound_file.specs.cfb_volume.Answers.{content_at};
 ghost use Rattle.cfb_agreement.specs.Files.{Agrees, IsAsBefore, failures_of, is_failed};
 ghost use Rattle.cfb_path_changes.specs.Answers.{AnswersNot};
-ghost use Rattle.cfb_stream_buffer.specs.Contents.{ReadsPart};
+ghost use Rattle.cfb_stream_window.specs.Contents.{ReadsPart};
 ghost use Rattle.cfb_compound_file.specs.Numbers.{IsNumberAt, KeepsEntries};
 
 use crate::compound_file::CompoundFile;

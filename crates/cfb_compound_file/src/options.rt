@@ -5,7 +5,7 @@ ghost use Rattle.cfb_format.specs.declared.validate.Validation.TheVariants.{Stri
 ghost use Rattle.cfb_format.specs.declared.version.Version.TheVariants.{V4};
 ghost use Rattle.cfb_format.specs.Names.{default_cases};
 ghost use Rattle.cfb_format.specs.Refused.{IsMemory};
-ghost use Rattle.cfb_compound_file.specs.cfb_mini_sectors.State.{version_of};
+ghost use Rattle.cfb_compound_file.specs.cfb_mini.State.{version_of};
 ghost use Rattle.cfb_agreement.specs.Files.{is_failed};
 ghost use Rattle.cfb_opening.specs.Opened.{IsOfOpening};
 ghost use Rattle.cfb_compound_file.specs.Opening.{CreatingRefused, IsCreatedWith, IsOfCreating, IsOpenedWith, OpeningWithRefused, permissive_options, strict_options};

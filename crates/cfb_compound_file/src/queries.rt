@@ -13,7 +13,7 @@ ghost use Rattle.cfb_compound_file.specs.cfb_outline.Families.{is_stream_kind};
 ghost use Rattle.cfb_listing.specs.Told.{entry_info};
 ghost use Rattle.cfb_listing.specs.Left.{entries_left};
 ghost use Rattle.cfb_listing.specs.Listings.{ListsStorage, Walks};
-ghost use Rattle.cfb_compound_file.specs.cfb_mini_sectors.State.{cases_of, entries_of};
+ghost use Rattle.cfb_compound_file.specs.cfb_mini.State.{cases_of, entries_of};
 ghost use Rattle.cfb_path_changes.specs.Answers.{Answers, AnswersNot};
 ghost use Rattle.cfb_compound_file.specs.Asking.{IsOfAsking};
 ghost use Rattle.cfb_path_changes.specs.Finding.{FindingRefused, IsObjectOf, IsStorageOf, LeadTo, is_storage_or_root, kind_found};

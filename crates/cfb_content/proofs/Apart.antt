@@ -26,11 +26,11 @@ use Rattle.cfb_tables.proofs.CleanLemmas.{regular-goes_on}
 use Rattle.cfb_tables.proofs.ClosedLemmas.{chains-closed, closed-together, marks-closed, owned-unnamed}
 use Rattle.cfb_tables.proofs.Counts.{distinct-tally, in-tally, tally-distinct, tally-in}
 use Rattle.cfb_content.specs.cfb_alloc.Frame.{table_sectors}
-use Rattle.cfb_content.specs.cfb_mini_sectors.State.{HoldsMini, IsChangeable, MiniState, bytes_of, cases_of, content_of, entries_of, header_of_version, mini_stream_of, parts_of, reading_of, tables_in, version_of}
-use Rattle.cfb_content.specs.cfb_mini_sectors.Steps.{system_sectors}
+use Rattle.cfb_content.specs.cfb_mini.State.{HoldsMini, IsChangeable, MiniState, bytes_of, cases_of, content_of, entries_of, header_of_version, mini_stream_of, parts_of, reading_of, tables_in, version_of}
+use Rattle.cfb_content.specs.cfb_mini.Steps.{system_sectors}
 use Rattle.cfb_content.specs.Contents.{IsStreamOf, mini_sectors_owned, parts_with, sectors_owned}
 use Rattle.cfb_content.specs.Uses.{mini_sectors_by_owners, other_streams, sectors_by_owners}
-use Rattle.cfb_content.proofs.cfb_mini_sectors.MiniStreams.{chain-is-stream, stream-chain}
+use Rattle.cfb_content.proofs.cfb_mini.MiniStreams.{chain-is-stream, stream-chain}
 use Rattle.cfb_content.specs.Laws.{ChangeableStartsAreUnnamed, OwnIsApart, StreamStartIsUnnamed}
 use Rattle.cfb_content.proofs.Owned.{in-others, used-by-owners}
 use Rattle.cfb_format.proofs.Walks.{regular-le, value-at}

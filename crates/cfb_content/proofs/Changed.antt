@@ -1,8 +1,8 @@
 -- How the promises of a change of one stream's content come together.
 use Rattle.std.proofs.Common.{◌≡◌, ℕ, true, false, refl, sym, ◌∙◌, ap, subst}
 use Rattle.cfb_format.specs.declared.validate.Validation.{Validation}
-use Rattle.cfb_content.specs.cfb_mini_sectors.State.{IsChangeable, MiniState, table_of}
-use Rattle.cfb_content.specs.cfb_mini_sectors.Steps.{KeepsLimits}
+use Rattle.cfb_content.specs.cfb_mini.State.{IsChangeable, MiniState, table_of}
+use Rattle.cfb_content.specs.cfb_mini.Steps.{KeepsLimits}
 use Rattle.cfb_content.specs.Changed.{MovesAlone, SparesOthers, StaysTidy, WasChanged}
 use Rattle.cfb_content.specs.Contents.{IsStreamOf, KeepsFixedHeader, KeepsOthers}
 use Rattle.cfb_content.proofs.FixedHeader.{bytes-keep-header, header-then}

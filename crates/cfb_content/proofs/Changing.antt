@@ -12,15 +12,15 @@ use Rattle.cfb_tables.proofs.UseLemmas.{use-changes-follow, uses-kept}
 use Rattle.cfb_content.specs.cfb_soundness.Streams.{own_mini_sectors, own_sectors}
 use Rattle.cfb_content.specs.cfb_alloc.ListedChain.{Lengthens, Shortens}
 use Rattle.cfb_content.specs.cfb_mini_table.MiniTable.{MiniGivesBack, TakesMini}
-use Rattle.cfb_content.specs.cfb_mini_sectors.State.{MiniState, cases_of, entries_of, mini_stream_of, parts_of, tables_in}
-use Rattle.cfb_content.specs.cfb_mini_sectors.Steps.{SettlesRoom, mini_stream_lacks, mini_stream_needs, minifat_lacks, minifat_needs}
+use Rattle.cfb_content.specs.cfb_mini.State.{MiniState, cases_of, entries_of, mini_stream_of, parts_of, tables_in}
+use Rattle.cfb_content.specs.cfb_mini.Steps.{SettlesRoom, mini_stream_lacks, mini_stream_needs, minifat_lacks, minifat_needs}
 use Rattle.cfb_content.specs.Contents.{mini_sectors_owned, parts_with, sectors_owned}
 use Rattle.cfb_content.specs.Uses.{ChangesContent, GrowthStays, LargeBecomesSmall, LargeGoesOn, LargeIsCut, SameUse, SmallBecomesLarge, SmallGoesOn, SmallIsCut, mini_sectors_by_owners, other_streams, sectors_by_owners}
 use Rattle.cfb_content.proofs.Apart.{owners-use, same-reached}
 use Rattle.cfb_content.proofs.InUse.{in_use, mini-goes-on, mini-is-cut, minifat-goes-on, minifat-is-cut, own-goes-on, own-is-cut, same-use, stream-goes-on, stream-is-cut, use-by-count}
 use Rattle.cfb_content.proofs.Outlines.{moved-is-outline, no-root-stream}
 use Rattle.cfb_content.proofs.Owned.{others-in, used-by-owners}
-use Rattle.cfb_content.proofs.cfb_mini_sectors.MiniFrames.{same-stream}
+use Rattle.cfb_content.proofs.cfb_mini.MiniFrames.{same-stream}
 use Rattle.cfb_format.proofs.Members.{same_flat}
 
 -- what a chain is, told by the chain of the content

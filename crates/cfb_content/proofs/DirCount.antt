@@ -9,13 +9,13 @@ use Rattle.cfb_sectors.proofs.WordLemmas.{word_same}
 use Rattle.cfb_content.specs.cfb_alloc.Alloc.{AllocatorState, IsOtherHeaderByte}
 use Rattle.cfb_chains.specs.ChainPlaces.{place_along}
 use Rattle.cfb_content.proofs.cfb_directory.Placed.{header_there}
-use Rattle.cfb_content.specs.cfb_mini_sectors.Growing.{KeepsOutsideMini}
-use Rattle.cfb_content.specs.cfb_mini_sectors.Held.{with_table}
-use Rattle.cfb_content.specs.cfb_mini_sectors.State.{HoldsMini, MiniState, bytes_of, table_of, version_of}
-use Rattle.cfb_content.specs.cfb_mini_sectors.Steps.{KeepsHeader}
+use Rattle.cfb_content.specs.cfb_mini.Growing.{KeepsOutsideMini}
+use Rattle.cfb_content.specs.cfb_mini.Held.{with_table}
+use Rattle.cfb_content.specs.cfb_mini.State.{HoldsMini, MiniState, bytes_of, table_of, version_of}
+use Rattle.cfb_content.specs.cfb_mini.Steps.{KeepsHeader}
 use Rattle.cfb_content.specs.Contents.{dir_count_of, mini_place_along}
 use Rattle.cfb_content.specs.Parts.{ChangesOnlyPlaces}
-use Rattle.cfb_content.proofs.cfb_mini_sectors.MinifatGrown.{below_words}
+use Rattle.cfb_content.proofs.cfb_mini.MinifatGrown.{below_words}
 
 -- ---- of bytes
 

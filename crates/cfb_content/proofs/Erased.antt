@@ -13,10 +13,10 @@ use Rattle.cfb_tables.specs.Tables.{first_or_end}
 use Rattle.cfb_tables.proofs.ChainLemmas.{members-busy}
 use Rattle.cfb_content.specs.cfb_alloc.Frame.{table_sectors}
 use Rattle.cfb_content.specs.cfb_directory.Steps.{KeepsOtherSectors}
-use Rattle.cfb_content.specs.cfb_mini_sectors.Pieces.{AreZeros}
-use Rattle.cfb_content.specs.cfb_mini_sectors.State.{HoldsMini, MiniState, bytes_of, mini_place, mini_stream_of, table_of, tables_in, version_of}
-use Rattle.cfb_mini.proofs.cfb_mini_changes.MiniGrown.{held-chain}
-use Rattle.cfb_content.proofs.cfb_mini_sectors.HeldMini.{no-tables}
+use Rattle.cfb_content.specs.cfb_mini.Pieces.{AreZeros}
+use Rattle.cfb_content.specs.cfb_mini.State.{HoldsMini, MiniState, bytes_of, mini_place, mini_stream_of, table_of, tables_in, version_of}
+use Rattle.cfb_mini.proofs.MiniGrown.{held-chain}
+use Rattle.cfb_content.proofs.cfb_mini.HeldMini.{no-tables}
 use Rattle.cfb_content.specs.Contents.{ErasesMinis, LeavesZeros, len_of, mini_sectors_owned, sector_of_mini}
 use Rattle.cfb_content.proofs.Apart.{minis-busy}
 use Rattle.cfb_content.proofs.Owned.{empty-owns-nothing}

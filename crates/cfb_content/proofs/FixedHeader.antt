@@ -4,8 +4,8 @@ use Rattle.std.specs.Prelude.{slice_index}
 use Rattle.cfb_format.specs.declared.version.Version.{Version}
 use Rattle.cfb_content.specs.cfb_alloc.Alloc.{AllocatorState}
 use Rattle.cfb_content.specs.cfb_alloc.Frame.{IsFixedHeaderByte, Spares}
-use Rattle.cfb_content.specs.cfb_mini_sectors.Held.{with_table}
-use Rattle.cfb_content.specs.cfb_mini_sectors.State.{MiniState, bytes_of, table_of, version_of}
+use Rattle.cfb_content.specs.cfb_mini.Held.{with_table}
+use Rattle.cfb_content.specs.cfb_mini.State.{MiniState, bytes_of, table_of, version_of}
 use Rattle.cfb_content.specs.Contents.{KeepsFixedHeader}
 
 -- where no byte has changed

@@ -4,7 +4,7 @@ use Rattle.std.specs.Prelude.{Contains}
 use Rattle.cfb_format.specs.Bytes.{free_sector, end_of_chain, max_regular_sector}
 use Rattle.cfb_format.specs.Chain.{value}
 use Rattle.cfb_content.specs.cfb_mini_table.MiniTable.{TakesMini}
-use Rattle.cfb_content.specs.cfb_mini_sectors.State.{MiniState}
+use Rattle.cfb_content.specs.cfb_mini.State.{MiniState}
 use Rattle.cfb_content.specs.Changed.{FreesMini}
 
 -- none does where the MiniFAT stays

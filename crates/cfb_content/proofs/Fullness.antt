@@ -12,8 +12,8 @@ use Rattle.cfb_format.specs.Siblings.{entry_at}
 use Rattle.cfb_format.specs.Soundness.{mini_sectors_of, mini_stream_sectors, sectors_of}
 use Rattle.cfb_tables.specs.Room.{IsTooFewAfter}
 use Rattle.cfb_tables.proofs.RoomLemmas.{enough-is-room-after, too-few-is-no-room-after}
-use Rattle.cfb_content.specs.cfb_mini_sectors.State.{HoldsMini, MiniState, entries_of, mini_stream_of, parts_of, tables_in, version_of}
-use Rattle.cfb_content.specs.cfb_mini_sectors.Steps.{IsTooFewAfterFor, minifat_lacks, mini_stream_lacks}
+use Rattle.cfb_content.specs.cfb_mini.State.{HoldsMini, MiniState, entries_of, mini_stream_of, parts_of, tables_in, version_of}
+use Rattle.cfb_content.specs.cfb_mini.Steps.{IsTooFewAfterFor, minifat_lacks, mini_stream_lacks}
 use Rattle.cfb_content.specs.Contents.{IsTooLongFor, mini_sectors_owned, sectors_owned}
 use Rattle.cfb_content.specs.Laws.{EnoughIsNotTooLong, LackIsTooLong}
 use Rattle.cfb_content.specs.Room.{room_given}

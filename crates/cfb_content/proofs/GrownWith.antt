@@ -12,8 +12,8 @@ use Rattle.cfb_format.specs.Bytes.{sector_len, sector_start}
 use Rattle.cfb_format.specs.Chain.{IsChain}
 use Rattle.cfb_sectors.specs.Sectors.{init_bytes}
 use Rattle.cfb_sectors.specs.declared.sector.SectorInit.TheVariants.{Zero}
-use Rattle.cfb_content.specs.cfb_table_words.Along.{AreFilledFrom}
-use Rattle.cfb_content.proofs.cfb_table_words.FilledSectors.{given_first, given_fresh, init_zero}
+use Rattle.cfb_content.specs.cfb_alloc.Along.{AreFilledFrom}
+use Rattle.cfb_content.proofs.cfb_alloc.FilledSectors.{given_first, given_fresh, init_zero}
 use Rattle.cfb_tables.specs.Listed.{gained}
 use Rattle.cfb_tables.specs.Tables.{first_or_end}
 use Rattle.cfb_tables.proofs.ChainLemmas.{members-busy}
@@ -24,7 +24,7 @@ use Rattle.cfb_content.proofs.cfb_alloc.Spared.{start_past}
 use Rattle.cfb_chains.specs.ChainPlaces.{place_along}
 use Rattle.cfb_chains.proofs.ChainContent.{rest_short}
 use Rattle.cfb_chains.proofs.PlacedBytes.{gained_place, grown_len, grown_place, kept_there, no_shorter_chain}
-use Rattle.cfb_content.proofs.cfb_mini_sectors.HeldMini.{no-tables}
+use Rattle.cfb_content.proofs.cfb_mini.HeldMini.{no-tables}
 use Rattle.cfb_content.specs.Parts.{AreZerosAlong, ChangesOnlyPlaces, StandAlong, StaysAlong}
 use Rattle.cfb_content.proofs.PlacedOnce.{placed-once}
 use Rattle.cfb_format.proofs.Members.{Contains-nil}

@@ -15,8 +15,8 @@ use Rattle.cfb_sectors.specs.Words.{RangeStays}
 use Rattle.cfb_tables.proofs.ChainLemmas.{chain-stays}
 use Rattle.cfb_content.specs.cfb_alloc.Frame.{IsForeign, Spares}
 use Rattle.cfb_content.specs.cfb_soundness.Places.{mini_start}
-use Rattle.cfb_content.specs.cfb_mini_sectors.State.{HoldsMini, IsChangeable, MiniState, bytes_of, entries_of, mini_place, mini_stream_of, parts_of, table_of, tables_in, version_of}
-use Rattle.cfb_content.specs.cfb_mini_sectors.Steps.{system_sectors}
+use Rattle.cfb_content.specs.cfb_mini.State.{HoldsMini, IsChangeable, MiniState, bytes_of, entries_of, mini_place, mini_stream_of, parts_of, table_of, tables_in, version_of}
+use Rattle.cfb_content.specs.cfb_mini.Steps.{system_sectors}
 use Rattle.cfb_content.specs.Contents.{IsStreamOf, KeepsContent, mini_sectors_owned, sectors_owned}
 use Rattle.cfb_content.specs.Laws.{IsApart, KeptMiniIsSpared, NothingIsMoved, OthersAreKeptInTurn, SparedIsKept, SparedSectorsAreKept}
 use Rattle.cfb_content.proofs.Apart.{minis-busy, own-is-apart, sectors-busy, sound-at, stream-busy, system-no-table}

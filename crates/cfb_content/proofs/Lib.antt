@@ -1,18 +1,13 @@
 pub use Rattle.cfb_sectors.proofs as cfb_sectors
-pub use Rattle.cfb_mini.proofs.cfb_mini_changes
+pub use Rattle.cfb_mini.proofs as cfb_mini
 pub use Rattle.cfb_mini.proofs.cfb_siblings
-pub use Rattle.cfb_mini.proofs.cfb_trees
 pub use Rattle.cfb_mini.proofs.cfb_entries
-pub use Rattle.cfb_sound_changes.proofs.cfb_soundness
+pub use Rattle.cfb_soundness.proofs as cfb_soundness
 pub use Rattle.cfb_tables.proofs as cfb_tables
 pub use Rattle.cfb_mini.proofs.cfb_mini_table
-pub use Rattle.cfb_sound_changes.proofs.cfb_table_words
-pub use Rattle.cfb_sound_changes.proofs.cfb_alloc
+pub use Rattle.cfb_soundness.proofs.cfb_alloc
 pub use Rattle.cfb_chains.proofs as cfb_chains
-pub use Rattle.cfb_sound_changes.proofs as cfb_sound_changes
 pub use Rattle.cfb_mini.proofs.cfb_directory
-pub use Rattle.cfb_mini.proofs.cfb_mini_sectors
-pub use Rattle.cfb_mini.proofs as cfb_mini
 pub use Rattle.cfb_rules.proofs as cfb_rules
 pub mod Outlines
 pub mod Owned
@@ -46,3 +41,4 @@ pub mod ReadablePlaces
 pub mod FixedHeader
 pub mod DirCount
 pub mod Changed
+pub mod Written

@@ -3,7 +3,7 @@ use Rattle.std.proofs.Common.{inl, inr, ℕ, List, ◌∙◌}
 use Rattle.cfb_format.specs.Soundness.{used_mini_sectors, used_sectors}
 use Rattle.cfb_format.proofs.Members.{Contains-or}
 use Rattle.cfb_tables.specs.Owners.{AllUsed, UseChanges}
-use Rattle.cfb_content.specs.cfb_mini_sectors.State.{MiniState, tables_in}
+use Rattle.cfb_content.specs.cfb_mini.State.{MiniState, tables_in}
 use Rattle.cfb_content.specs.Contents.{LosesNone, LosesNoneOf, parts_with}
 use Rattle.cfb_content.specs.Laws.{AllUsedIsKept, NoneIsLostInTurn}
 

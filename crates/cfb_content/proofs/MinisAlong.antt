@@ -4,12 +4,12 @@ use Rattle.std.specs.Prelude.{Contains, slice_index}
 use Rattle.std.proofs.lemmas.List.Elements.{Contains-get_or}
 use Rattle.cfb_format.specs.Medium.{ChangesOnlyBytes, part, written}
 use Rattle.cfb_format.proofs.ByteLemmas.{length-written, part_at, written_at}
-use Rattle.cfb_content.specs.cfb_mini_sectors.State.{MiniState, bytes_of, mini_place, table_of}
+use Rattle.cfb_content.specs.cfb_mini.State.{MiniState, bytes_of, mini_place, table_of}
 use Rattle.cfb_mini.specs.MiniRuns.{HasTheMinis, IsMiniRun, IsMiniStretch}
 use Rattle.cfb_mini.specs.MiniSectors.{HasMiniSector}
 use Rattle.cfb_content.specs.Contents.{mini_place_along}
 use Rattle.cfb_content.specs.Parts.{ChangesOnlyPlaces, IsThereInMinis}
-use Rattle.cfb_content.proofs.cfb_table_words.Along.{StandsTo, only_range}
+use Rattle.cfb_content.proofs.cfb_alloc.Along.{StandsTo, only_range}
 
 module _ (s : MiniState) (ids : List ℕ) (p index offset n : ℕ) (is : index * 64 + offset ≡ p) (run : IsMiniRun ids index offset n)
     (stretch : IsMiniStretch s (slice_index ids index) offset n) where

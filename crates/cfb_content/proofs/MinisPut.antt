@@ -9,9 +9,9 @@ use Rattle.cfb_format.proofs.ByteLemmas.{ChangesOnly_after}
 use Rattle.cfb_content.specs.cfb_alloc.Frame.{Spares}
 use Rattle.cfb_content.proofs.cfb_alloc.Frames as frames
 use Rattle.cfb_content.specs.cfb_soundness.Places.{mini_start}
-use Rattle.cfb_content.specs.cfb_mini_sectors.State.{HoldsMini, MiniState, bytes_of, mini_place, mini_stream_of, table_of, version_of}
-use Rattle.cfb_content.specs.cfb_mini_sectors.Steps.{SparesMini}
-use Rattle.cfb_content.proofs.cfb_mini_sectors.MiniFrames.{held-places, spares-then}
+use Rattle.cfb_content.specs.cfb_mini.State.{HoldsMini, MiniState, bytes_of, mini_place, mini_stream_of, table_of, version_of}
+use Rattle.cfb_content.specs.cfb_mini.Steps.{SparesMini}
+use Rattle.cfb_content.proofs.cfb_mini.MiniFrames.{held-places, spares-then}
 use Rattle.cfb_mini.specs.MiniRuns.{ChangesMiniStretch, IsMiniRun, IsMiniStretch}
 use Rattle.cfb_mini.specs.MiniSectors.{ChangesFileOnly, HasMiniSector}
 use Rattle.cfb_content.specs.Contents.{mini_place_along}
@@ -19,7 +19,7 @@ use Rattle.cfb_content.specs.Parts.{ChangesOnlyPlaces}
 use Rattle.cfb_content.proofs.PlacedOnce.{minis-placed-once}
 use Rattle.cfb_content.proofs.MinisAlong.{shorter-run, stretch-places, stretch-stands}
 use Rattle.cfb_format.proofs.Members.{distinct-right}
-use Rattle.cfb_content.proofs.cfb_table_words.Along.{StandsTo}
+use Rattle.cfb_content.proofs.cfb_alloc.Along.{StandsTo}
 
 -- the list has a mini sector for that byte, which the mini stream has
 abbrev pub IsPlacedInMinis : MiniState → List ℕ → ℕ → Type 0

@@ -7,12 +7,12 @@ use Rattle.cfb_format.specs.DirectoryEntry.{Entry, ButContent}
 use Rattle.cfb_format.specs.Siblings.{entry_at}
 use Rattle.cfb_format.specs.Reading.{IsOutline, Outline, stream_numbers}
 use Rattle.cfb_content.proofs.cfb_siblings.Tallies.{counted, once-distinct}
-use Rattle.cfb_content.proofs.cfb_trees.Members.{below-once, no-root, stream-reached}
-use Rattle.cfb_content.proofs.cfb_trees.Same.{outline-kept}
-use Rattle.cfb_content.specs.cfb_mini_sectors.State.{MiniState, cases_of, entries_of, root_len_of}
+use Rattle.cfb_content.proofs.cfb_siblings.Members.{below-once, no-root, stream-reached}
+use Rattle.cfb_content.proofs.cfb_siblings.Same.{outline-kept}
+use Rattle.cfb_content.specs.cfb_mini.State.{MiniState, cases_of, entries_of, root_len_of}
 use Rattle.cfb_content.specs.Contents.{MovesContent}
 use Rattle.cfb_content.specs.Laws.{ContentMovesInTurn, MovedIsOutline, MovedRootIsMoved, SameEntriesAreMoved, StreamIsNoRoot, StreamStays}
-use Rattle.cfb_content.proofs.cfb_trees.Kept.{but-fields}
+use Rattle.cfb_content.proofs.cfb_siblings.TreesKept.{but-fields}
 
 -- ---- entries but for start and length
 

@@ -13,7 +13,7 @@ use Rattle.cfb_format.proofs.Chains.{chain_from-IsChain}
 use Rattle.cfb_tables.specs.Owners.{tally}
 use Rattle.cfb_tables.proofs.Counts.{tally-append}
 use Rattle.cfb_content.specs.cfb_soundness.Streams.{own_mini_sectors, own_sectors}
-use Rattle.cfb_content.specs.cfb_mini_sectors.State.{MiniState, entries_of, mini_stream_of, parts_of, tables_in}
+use Rattle.cfb_content.specs.cfb_mini.State.{MiniState, entries_of, mini_stream_of, parts_of, tables_in}
 use Rattle.cfb_content.specs.Contents.{mini_sectors_owned, parts_with, sectors_owned}
 use Rattle.cfb_content.specs.Uses.{UsedByOwners, other_streams}
 use Rattle.cfb_content.specs.Laws.{EmptyOwnsNothing, LargeOwnsItsChain, OwnStays, SmallOwnsItsChain}

@@ -10,7 +10,7 @@ use Rattle.cfb_content.proofs.cfb_alloc.Listed.{place_once}
 use Rattle.cfb_chains.specs.ChainPlaces.{place_along}
 use Rattle.cfb_chains.proofs.ChainContent.{beside, rest_short}
 use Rattle.cfb_content.specs.cfb_soundness.Places.{mini_start}
-use Rattle.cfb_content.proofs.cfb_mini_sectors.MiniPlaces.{minis_apart}
+use Rattle.cfb_content.proofs.cfb_mini.MiniPlaces.{minis_apart}
 
 pub placed-once : (v : Version) (ids : List ℕ) (i k : ℕ) → IsDistinct nat_eq ids → i < length ids * sector_len v → k < length ids * sector_len v → i ≢ k
     → place_along v ids i ≢ place_along v ids k

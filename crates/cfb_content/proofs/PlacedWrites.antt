@@ -1,7 +1,7 @@
 -- Pieces of a list of bytes, which are put one after the other.
 use Rattle.std.proofs.Common.{◌≡◌, ◌≤◌, ◌<◌, ◌+◌, ◌-◌, ℕ, List, ◌∙◌, length, drop, arith, length-take, length-drop, get_or-take, get_or-drop}
 use Rattle.std.specs.Prelude.{slice_index, slice_range}
-pub use Rattle.cfb_runs.proofs.Along.{only_refl, only_then}
+pub use Rattle.cfb_chains.proofs.Along.{only_refl, only_then}
 
 pub piece_long : (xs : List ℕ) (done count : ℕ) → done + count ≤ length xs → length (slice_range xs done (done + count)) ≡ count
 piece_long xs done count few = let long = length-take (done + count - done) (drop done xs) in let rest = length-drop done xs in omega (arith, long, rest, few)

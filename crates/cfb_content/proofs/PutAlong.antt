@@ -3,7 +3,7 @@ use Rattle.std.proofs.Common.{◌≡◌, ◌≢◌, ◌≤◌, ◌<◌, ◌+◌,
 use Rattle.std.specs.Prelude.{slice_index}
 use Rattle.std.proofs.lemmas.List.{get_or-replicate, length-replicate}
 use Rattle.cfb_content.specs.Parts.{ChangesOnlyPlaces, StandAlong}
-use Rattle.cfb_content.proofs.cfb_table_words.Along.{StandsTo, stands_on}
+use Rattle.cfb_content.proofs.cfb_alloc.Along.{StandsTo, stands_on}
 
 -- ---- zeros
 

@@ -20,7 +20,7 @@ use Rattle.cfb_content.specs.cfb_soundness.Layout.{LiesInPieces}
 use Rattle.cfb_content.specs.cfb_soundness.Places.{SamePiece, Stand, mini_start, place_by}
 use Rattle.cfb_content.proofs.cfb_soundness.Layouts.{content-stands, content-stays, large-lies, small-lies}
 use Rattle.cfb_content.proofs.cfb_soundness.Placed.{in_file-some, lies-place_by}
-use Rattle.cfb_content.specs.cfb_mini_sectors.State.{HoldsMiniStream, IsChangeable, MiniState, bytes_of, content_of, entries_of, mini_place, mini_stream_of, parts_of, tables_in, version_of}
+use Rattle.cfb_content.specs.cfb_mini.State.{HoldsMiniStream, IsChangeable, MiniState, bytes_of, content_of, entries_of, mini_place, mini_stream_of, parts_of, tables_in, version_of}
 use Rattle.cfb_content.specs.Contents.{IsStreamOf, KeepsContent, len_of, mini_sectors_owned, sectors_owned}
 use Rattle.cfb_content.specs.Laws.{KeptIsReadable, LargeIsReadByPlaces, LargeIsThere, OthersAreReadable, SmallIsReadByPlaces, SmallIsThere, StreamOwnsItsOwn}
 use Rattle.cfb_content.proofs.Apart.{content-is, maybe-chain, sound-at}

@@ -21,7 +21,7 @@ use Rattle.cfb_content.specs.cfb_soundness.Places.{mini_start}
 use Rattle.cfb_content.proofs.cfb_soundness.Placed.{in_file-some, slice_get-Contains}
 use Rattle.cfb_content.specs.cfb_alloc.Alloc.{AllocatorState}
 use Rattle.cfb_chains.specs.ChainPlaces.{place_along}
-use Rattle.cfb_content.specs.cfb_mini_sectors.State.{MiniState, bytes_of, content_of, mini_place, parts_of, table_of, tables_in, version_of}
+use Rattle.cfb_content.specs.cfb_mini.State.{MiniState, bytes_of, content_of, mini_place, parts_of, table_of, tables_in, version_of}
 use Rattle.cfb_mini.specs.MiniSectors.{HasMiniByte, place_in_mini_sectors}
 use Rattle.cfb_content.specs.Along.{IsByteAlong, IsCutBy, IsMiniByteAlong, IsThereAlong, IsThereAlongMinis}
 use Rattle.cfb_content.specs.Contents.{TellsPlaces, mini_place_along}

@@ -9,7 +9,7 @@ use Rattle.cfb_format.specs.Siblings.{entry_at}
 use Rattle.cfb_format.proofs.ByteLemmas.{length-written, written_above, written_at, written_below, written_from_bytes}
 use Rattle.cfb_rules.specs.StreamCalls.{resized}
 use Rattle.cfb_chains.specs.ChainPlaces.{place_along}
-use Rattle.cfb_content.specs.cfb_mini_sectors.State.{MiniState, bytes_of, content_of, entries_of, version_of}
+use Rattle.cfb_content.specs.cfb_mini.State.{MiniState, bytes_of, content_of, entries_of, version_of}
 use Rattle.cfb_content.specs.Contents.{len_of, mini_place_along}
 use Rattle.cfb_content.specs.Laws.{LargeIsResized, LargeIsWritten, SmallIsResized, SmallIsWritten, StandsResized, StandsWritten}
 use Rattle.cfb_content.proofs.Readable.{large-read-by-places, small-read-by-places, whole-of}

@@ -18,10 +18,10 @@ use Rattle.cfb_content.specs.cfb_alloc.ListedChain.{Shortens}
 use Rattle.cfb_content.proofs.cfb_alloc.ListedLemmas.{can_shorten}
 use Rattle.cfb_content.specs.cfb_mini_table.MiniTable.{MiniGivesBack, SameValues, trimmed}
 use Rattle.cfb_content.proofs.cfb_mini_table.EndLemmas.{busy-same, trimmed-busy, trimmed-values}
-use Rattle.cfb_content.specs.cfb_mini_sectors.State.{MiniState, mini_stream_of, tables_in, version_of}
-use Rattle.cfb_content.specs.cfb_mini_sectors.Steps.{CanGiveRoomBack, GivesRoomBack, KeepsSizes, minifat_needs, mini_stream_needs}
-use Rattle.cfb_content.proofs.cfb_mini_sectors.BothGrown.{of_ends, some_end}
-use Rattle.cfb_content.proofs.cfb_mini_sectors.ListedChains.{given-busy, given-among}
+use Rattle.cfb_content.specs.cfb_mini.State.{MiniState, mini_stream_of, tables_in, version_of}
+use Rattle.cfb_content.specs.cfb_mini.Steps.{CanGiveRoomBack, GivesRoomBack, KeepsSizes, minifat_needs, mini_stream_needs}
+use Rattle.cfb_content.proofs.cfb_mini.BothGrown.{of_ends, some_end}
+use Rattle.cfb_content.proofs.cfb_mini.ListedChains.{given-busy, given-among}
 use Rattle.cfb_content.specs.Room.{ComesFree, minifat_len_left, room_given}
 use Rattle.cfb_content.proofs.FreeCounts.{given-count}
 use Rattle.cfb_content.proofs.Freed.{freed-free, freed-other}

@@ -13,7 +13,7 @@ use Rattle.cfb_format.specs.Reading.{Outline, stream_numbers}
 use Rattle.cfb_format.specs.Siblings.{entry_at}
 use Rattle.cfb_format.proofs.Unique.{IsOutline-unique}
 use Rattle.cfb_content.specs.cfb_soundness.Streams.{own_mini_sectors, own_sectors}
-use Rattle.cfb_content.specs.cfb_mini_sectors.State.{MiniState, cases_of, entries_of, parts_of, tables_in, version_of}
+use Rattle.cfb_content.specs.cfb_mini.State.{MiniState, cases_of, entries_of, parts_of, tables_in, version_of}
 use Rattle.cfb_content.specs.Contents.{IsSnug, IsStreamOf, KeepsContent, len_of, mini_sectors_owned, sectors_owned}
 use Rattle.cfb_content.specs.Laws.{EmptyIsSnug, KeptIsSnug, SameIsSized, SizedIsSnug, SizedStaysSnug}
 use Rattle.cfb_content.proofs.Outlines.{moved-is-outline, stream-is-no-root}

@@ -12,9 +12,9 @@ use Rattle.cfb_format.specs.Siblings.{entry_at}
 use Rattle.cfb_tables.specs.Listed.{gained}
 use Rattle.cfb_tables.specs.Tables.{TableState, first_or_end}
 use Rattle.cfb_content.specs.cfb_alloc.ListedChain.{Lengthens}
-use Rattle.cfb_content.specs.cfb_mini_sectors.State.{entries_of, mini_stream_of, tables_in, version_of}
-use Rattle.cfb_content.specs.cfb_mini_sectors.Steps.{mini_stream_needs, minifat_len_with, minifat_needs}
-use Rattle.cfb_content.proofs.cfb_mini_sectors.MiniStreams.{begins, chain-is-stream}
+use Rattle.cfb_content.specs.cfb_mini.State.{entries_of, mini_stream_of, tables_in, version_of}
+use Rattle.cfb_content.specs.cfb_mini.Steps.{mini_stream_needs, minifat_len_with, minifat_needs}
+use Rattle.cfb_content.proofs.cfb_mini.MiniStreams.{begins, chain-is-stream}
 use Rattle.cfb_content.specs.Laws.{GrowthIsSnugMini, KeptIsSnugMini}
 use Rattle.cfb_tables.proofs.TableCounts.{fats-rise}
 

@@ -15,9 +15,9 @@ use Rattle.cfb_format.proofs.Unique.{IsOutline-unique}
 use Rattle.cfb_tables.specs.Owners.{Uses}
 use Rattle.cfb_tables.proofs.UseLemmas.{uses-kept}
 use Rattle.cfb_content.specs.cfb_alloc.Agreement.{WordsAgree}
-use Rattle.cfb_sound_changes.specs.Kept.{ShowsSoundness}
-use Rattle.cfb_sound_changes.proofs.Kept.{used-sound}
-use Rattle.cfb_content.specs.cfb_mini_sectors.State.{MiniState, bytes_of, cases_of, content_of, entries_of, parts_of, reading_of, tables_in}
+use Rattle.cfb_soundness.specs.Kept.{ShowsSoundness}
+use Rattle.cfb_soundness.proofs.Kept.{used-sound}
+use Rattle.cfb_content.specs.cfb_mini.State.{MiniState, bytes_of, cases_of, content_of, entries_of, parts_of, reading_of, tables_in}
 use Rattle.cfb_content.specs.Contents.{LosesNoneUnder, len_of, parts_with}
 use Rattle.cfb_content.specs.Uses.{ChangesContent, ChangesUse, mini_sectors_by_owners, sectors_by_owners}
 use Rattle.cfb_content.specs.Laws.{ChangedIsChangeable, ChangedLosesNone}

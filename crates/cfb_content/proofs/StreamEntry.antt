@@ -4,8 +4,8 @@ use Rattle.cfb_format.specs.declared.objtype.ObjType.TheVariants.{Stream, Unallo
 use Rattle.cfb_format.specs.Reading.{stream_numbers}
 use Rattle.cfb_format.specs.Siblings.{entry_at}
 use Rattle.cfb_content.proofs.cfb_siblings.Tallies.{counted}
-use Rattle.cfb_content.proofs.cfb_trees.Members.{stream-kind, used-is-within}
-use Rattle.cfb_content.specs.cfb_mini_sectors.State.{MiniState, cases_of, entries_of}
+use Rattle.cfb_content.proofs.cfb_siblings.Members.{stream-kind, used-is-within}
+use Rattle.cfb_content.specs.cfb_mini.State.{MiniState, cases_of, entries_of}
 use Rattle.cfb_content.specs.Contents.{IsStreamOf}
 
 pub stream-is-stream : (s : MiniState) (i : ℕ) → IsStreamOf s i → (entry_at (entries_of s) i).obj_type ≡ Stream

@@ -10,7 +10,7 @@ use Rattle.cfb_format.specs.Content.{is_large, mini_chain}
 use Rattle.cfb_format.specs.Siblings.{entry_at}
 use Rattle.cfb_tables.proofs.ChainLemmas.{members-busy}
 use Rattle.cfb_content.specs.cfb_alloc.Alloc.{AllocatorState}
-use Rattle.cfb_content.specs.cfb_mini_sectors.State.{HoldsMini, IsChangeable, MiniState, bytes_of, entries_of, parts_of, table_of, tables_in, version_of}
+use Rattle.cfb_content.specs.cfb_mini.State.{HoldsMini, IsChangeable, MiniState, bytes_of, entries_of, parts_of, table_of, tables_in, version_of}
 use Rattle.cfb_mini.specs.MiniSectors.{HasMiniSector}
 use Rattle.cfb_mini.proofs.MiniWritten.{busy-mini}
 use Rattle.cfb_content.specs.Contents.{IsNotChangeable, IsStreamOf, len_of, mini_sectors_owned, sectors_owned}

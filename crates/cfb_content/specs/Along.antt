@@ -3,7 +3,7 @@ use Rattle.std.specs.Prelude.{ℕ, ◌≡◌, ◌≤◌, List, slice_index}
 use Rattle.cfb_format.specs.Chain.{IsChain}
 use Rattle.cfb_content.specs.cfb_alloc.Alloc.{AllocatorState}
 use Rattle.cfb_chains.specs.ChainPlaces.{place_along}
-use Rattle.cfb_content.specs.cfb_mini_sectors.State.{MiniState, bytes_of}
+use Rattle.cfb_content.specs.cfb_mini.State.{MiniState, bytes_of}
 use Rattle.cfb_content.specs.Contents.{mini_place_along}
 use Rattle.cfb_content.specs.Parts.{IsThereInMinis, IsThereInSectors}
 

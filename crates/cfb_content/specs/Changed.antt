@@ -3,8 +3,8 @@ use Rattle.std.specs.Prelude.{ℕ, ◌≡◌, ◌≢◌, false}
 use Rattle.cfb_format.specs.Bytes.{free_sector}
 use Rattle.cfb_format.specs.Chain.{value}
 use Rattle.cfb_format.specs.declared.validate.Validation.{Validation}
-use Rattle.cfb_content.specs.cfb_mini_sectors.State.{IsChangeable, MiniState, bytes_of, table_of}
-use Rattle.cfb_content.specs.cfb_mini_sectors.Steps.{IsSnugMini, KeepsLimits}
+use Rattle.cfb_content.specs.cfb_mini.State.{IsChangeable, MiniState, bytes_of, table_of}
+use Rattle.cfb_content.specs.cfb_mini.Steps.{IsSnugMini, KeepsLimits}
 use Rattle.cfb_mini.specs.MiniSectors.{IsOfWholeSectors}
 use Rattle.cfb_content.specs.Contents.{KeepsFixedHeader, KeepsOthers, LosesNone, MovesContent, SizesChain, dir_count_of}
 

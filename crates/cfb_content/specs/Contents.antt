@@ -17,9 +17,9 @@ use Rattle.cfb_content.specs.cfb_soundness.Streams.{own_sectors, own_mini_sector
 use Rattle.cfb_tables.specs.Owners.{AllUsed}
 use Rattle.cfb_content.specs.cfb_alloc.Alloc.{IsMeasured}
 use Rattle.cfb_content.specs.cfb_alloc.Frame.{IsFixedHeaderByte}
-use Rattle.cfb_content.specs.cfb_mini_sectors.Pieces.{AreZeros}
-use Rattle.cfb_content.specs.cfb_mini_sectors.State.{IsChangeable, MiniState, bytes_of, cases_of, entries_of, mini_place, mini_stream_of, parts_of, root_len_of, table_of, tables_in, version_of}
-use Rattle.cfb_content.specs.cfb_mini_sectors.Steps.{IsInMiniStream, IsZeroMini}
+use Rattle.cfb_content.specs.cfb_mini.Pieces.{AreZeros}
+use Rattle.cfb_content.specs.cfb_mini.State.{IsChangeable, MiniState, bytes_of, cases_of, entries_of, mini_place, mini_stream_of, parts_of, root_len_of, table_of, tables_in, version_of}
+use Rattle.cfb_content.specs.cfb_mini.Steps.{IsInMiniStream, IsZeroMini}
 use Rattle.cfb_mini.specs.MiniSectors.{IsStill}
 
 -- ---- which stream

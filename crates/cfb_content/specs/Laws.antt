@@ -16,8 +16,8 @@ use Rattle.cfb_tables.specs.Room.{IsTooFewAfter}
 use Rattle.cfb_content.specs.cfb_alloc.Frame.{Spares, table_sectors}
 use Rattle.cfb_chains.specs.ChainPlaces.{place_along}
 use Rattle.cfb_content.specs.cfb_mini_table.MiniTable.{MiniGivesBack, TakesMini}
-use Rattle.cfb_content.specs.cfb_mini_sectors.State.{HoldsMini, HoldsMiniStream, IsChangeable, MiniState, bytes_of, cases_of, content_of, entries_of, parts_of, root_len_of, table_of, tables_in, version_of}
-use Rattle.cfb_content.specs.cfb_mini_sectors.Steps.{AreStartsUnnamed, CanGiveRoomBack, GivesRoomBack, GrowsFor, IsMeasuredMini, IsSnugMini, IsTooFewAfterFor, KeepsLimits, KeepsMini, MovesRoot, SparesMini, system_sectors}
+use Rattle.cfb_content.specs.cfb_mini.State.{HoldsMini, HoldsMiniStream, IsChangeable, MiniState, bytes_of, cases_of, content_of, entries_of, parts_of, root_len_of, table_of, tables_in, version_of}
+use Rattle.cfb_content.specs.cfb_mini.Steps.{AreStartsUnnamed, CanGiveRoomBack, GivesRoomBack, GrowsFor, IsMeasuredMini, IsSnugMini, IsTooFewAfterFor, KeepsLimits, KeepsMini, MovesRoot, SparesMini, system_sectors}
 use Rattle.cfb_content.specs.Contents.{AreAllUsed, AreSnug, IsSnug, IsStreamOf, IsTooLongFor, KeepsContent, KeepsOthers, LosesNone, MovesContent, SizesChain, len_of, mini_place_along, mini_sectors_owned, sectors_owned}
 use Rattle.cfb_content.specs.Room.{room_given}
 use Rattle.cfb_content.specs.Uses.{ChangesContent, ChangesUse, Owns}

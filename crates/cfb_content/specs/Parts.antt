@@ -4,9 +4,9 @@ use Rattle.std.specs.Prelude.{ℕ, ◌≡◌, ◌+◌, ◌/◌, ◌%◌, ◌<◌
 use Rattle.cfb_format.specs.declared.version.Version.{Version}
 use Rattle.cfb_format.specs.Chain.{IsChain}
 use Rattle.cfb_format.specs.Content.{mini_sector_len}
-use Rattle.cfb_content.specs.cfb_mini_sectors.State.{MiniState}
+use Rattle.cfb_content.specs.cfb_mini.State.{MiniState}
 use Rattle.cfb_mini.specs.MiniSectors.{HasMiniByte}
-pub use Rattle.cfb_runs.specs.Along.{ChangesOnlyPlaces, IsThereInSectors, StandAlong}
+pub use Rattle.cfb_chains.specs.Along.{ChangesOnlyPlaces, IsThereInSectors, StandAlong}
 
 -- ---- what is there
 

@@ -4,8 +4,8 @@ use Rattle.cfb_format.specs.Bytes.{free_sector, sector_len, words_per_sector}
 use Rattle.cfb_format.specs.Content.{mini_sector_len}
 use Rattle.cfb_format.specs.Fat.{without_end}
 use Rattle.cfb_format.specs.Full.{freed, rounded_up}
-use Rattle.cfb_content.specs.cfb_mini_sectors.State.{MiniState, mini_stream_of, version_of}
-use Rattle.cfb_content.specs.cfb_mini_sectors.Steps.{CanGiveRoomBack}
+use Rattle.cfb_content.specs.cfb_mini.State.{MiniState, mini_stream_of, version_of}
+use Rattle.cfb_content.specs.cfb_mini.Steps.{CanGiveRoomBack}
 
 -- how many values the MiniFAT has once these are free
 abbrev pub minifat_len_left : MiniState → List ℕ → ℕ

@@ -10,8 +10,8 @@ use Rattle.cfb_tables.specs.Owners.{UseChanges, tally}
 use Rattle.cfb_content.specs.cfb_alloc.Frame.{table_sectors}
 use Rattle.cfb_content.specs.cfb_alloc.ListedChain.{Lengthens, Shortens}
 use Rattle.cfb_content.specs.cfb_mini_table.MiniTable.{MiniGivesBack, TakesMini}
-use Rattle.cfb_content.specs.cfb_mini_sectors.State.{HoldsMini, HoldsMiniStream, IsChangeable, MiniState, cases_of, entries_of, parts_of, tables_in}
-use Rattle.cfb_content.specs.cfb_mini_sectors.Steps.{GrowsFor, KeepsLimits, KeepsMini, KeepsSystem, SettlesRoom, system_sectors}
+use Rattle.cfb_content.specs.cfb_mini.State.{HoldsMini, HoldsMiniStream, IsChangeable, MiniState, cases_of, entries_of, parts_of, tables_in}
+use Rattle.cfb_content.specs.cfb_mini.Steps.{GrowsFor, KeepsLimits, KeepsMini, KeepsSystem, SettlesRoom, system_sectors}
 use Rattle.cfb_content.specs.Contents.{IsStreamOf, KeepsOthers, MovesContent, mini_sectors_owned, parts_with, sectors_owned}
 
 -- ---- owners

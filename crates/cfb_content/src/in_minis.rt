@@ -7,19 +7,19 @@ ghost use Rattle.cfb_format.specs.Refused.{CountsFailure};
 ghost use Rattle.cfb_sectors.specs.Sectors.{IsMediumError};
 ghost use Rattle.cfb_tables.specs.Refused.{ChangeRefused};
 ghost use Rattle.cfb_content.specs.cfb_alloc.Frame.{Spares};
-ghost use Rattle.cfb_content.specs.cfb_mini_sectors.State.{HoldsMini, bytes_of, mini_stream_of, table_of};
-ghost use Rattle.cfb_content.specs.cfb_mini_sectors.Steps.{SparesMini};
+ghost use Rattle.cfb_content.specs.cfb_mini.State.{HoldsMini, bytes_of, mini_stream_of, table_of};
+ghost use Rattle.cfb_content.specs.cfb_mini.Steps.{SparesMini};
 ghost use Rattle.cfb_mini.specs.MiniSectors.{ChangesFileOnly, HasMiniByte, HasMiniSector, IsStill};
 ghost use Rattle.cfb_content.specs.Contents.{mini_place_along};
 ghost use Rattle.cfb_content.specs.Parts.{ChangesOnlyPlaces, HasFirst, IsThereInMinis, IsWholeMiniChain, StandAlong};
 
 use crate::in_sectors::cut_short;
+use cfb_chains::writing::zeros;
 use cfb_format::consts::MINI_SECTOR_LEN;
 use cfb_format::error::Error;
 use cfb_format::medium::{Medium, ReadMedium};
 use cfb_mini::mini_allocator::MiniAllocator;
 use cfb_mini::mini_runs::mini_run;
-use cfb_runs::writing::zeros;
 use std::alloc::Allocator as Heap;
 
 /// How many bytes of a mini sector the file has.
@@ -47,7 +47,7 @@ fn there_in_mini<F: ReadMedium, A: Heap>(mini: &MiniAllocator<F, A>, number: u32
 }
 
 /// How many of the first `len` bytes of these mini sectors, one after the other, the file has, up to the first that it has not.
-pub fn there_in_minis<F: ReadMedium, A: Heap>(
+pub(crate) fn there_in_minis<F: ReadMedium, A: Heap>(
     mini: &MiniAllocator<F, A>,
     ids: &[u32],
     len: u64,
@@ -118,7 +118,7 @@ fn read_in_minis<F: ReadMedium, A: Heap>(
 }
 
 /// Reads the bytes of these mini sectors from byte `at` on, as many as `into` has room for, all of which the file has.
-pub fn fill_from_minis<F: ReadMedium, A: Heap>(
+pub(crate) fn fill_from_minis<F: ReadMedium, A: Heap>(
     mini: &mut MiniAllocator<F, A>,
     ids: &[u32],
     at: u64,

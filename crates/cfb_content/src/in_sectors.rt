@@ -17,17 +17,17 @@ ghost use Rattle.cfb_chains.specs.ChainPlaces.{place_along};
 ghost use Rattle.cfb_mini.specs.MiniSectors.{IsOfWholeSectors};
 ghost use Rattle.cfb_content.specs.Parts.{AreZerosAlong, ChangesOnlyPlaces, HasFirst, IsThereInSectors, IsWholeChain, StandAlong, StaysAlong};
 
+use cfb_chains::reading::read_along;
+use cfb_chains::writing::{write_along, zero_along};
 use cfb_format::consts::MAX_REGULAR_SECTOR;
 use cfb_format::error::{Detail, Error};
 use cfb_format::medium::{Medium, ReadMedium};
-use cfb_runs::reading::read_along;
-use cfb_runs::writing::{write_along, zero_along};
 use cfb_sectors::sector::SectorInit;
-use cfb_sound_changes::Allocator;
+use cfb_soundness::Allocator;
 use std::alloc::Allocator as Heap;
 
 /// A refusal of a stream whose chain has not all of its bytes in the file.
-pub fn cut_short(len: u64, there: u64) -> Error
+pub(crate) fn cut_short(len: u64, there: u64) -> Error
     ensures { IsInvalidData result }
 {
     Error::InvalidData(Detail::numbers(
@@ -83,7 +83,7 @@ fn counted_in_sectors<F: ReadMedium, A: Heap>(
 
 /// How many of the first `len` bytes of the sectors of a chain the file has, up to the first that it has not. Where each sector that another
 /// one comes after is whole, only the chain's last is looked at.
-pub fn there_in_chain<F: ReadMedium, A: Heap>(
+pub(crate) fn there_in_chain<F: ReadMedium, A: Heap>(
     allocator: &Allocator<F, A>,
     ids: &[u32],
     len: u64,
@@ -123,7 +123,7 @@ fn goes_on_in_whole<F: ReadMedium, A: Heap>(allocator: &Allocator<F, A>) -> bool
 }
 
 /// Reads the bytes of these sectors from byte `at` on, as many as `into` has room for, all of which the file has.
-pub fn fill_from_sectors<F: ReadMedium, A: Heap>(
+pub(crate) fn fill_from_sectors<F: ReadMedium, A: Heap>(
     allocator: &mut Allocator<F, A>,
     ids: &[u32],
     at: u64,
@@ -177,7 +177,7 @@ pub fn get_from_sectors<F: ReadMedium, A: Heap>(
 }
 
 /// Writes all of these bytes into these sectors, from byte `at` of them on. `Medium` where the medium fails.
-pub fn put_in_sectors<F: Medium, A: Heap>(
+pub(crate) fn put_in_sectors<F: Medium, A: Heap>(
     allocator: &mut Allocator<F, A>,
     ids: &[u32],
     at: u64,

@@ -3,7 +3,7 @@
 ghost use Rattle.std.specs.Prelude.{◌≡◌, ◌<◌, ℕ, List, length, IfOk, IfErr};
 ghost use Rattle.cfb_format.specs.Siblings.{entry_at};
 ghost use Rattle.cfb_tables.specs.Refused.{ChangeRefused};
-ghost use Rattle.cfb_content.specs.cfb_mini_sectors.State.{entries_of};
+ghost use Rattle.cfb_content.specs.cfb_mini.State.{entries_of};
 ghost use Rattle.cfb_content.specs.Contents.{len_of};
 ghost use Rattle.cfb_content.specs.Parts.{IsWholeChain, IsWholeMiniChain};
 
@@ -12,7 +12,7 @@ use crate::in_sectors::{cut_short, there_in_chain};
 use cfb_format::error::Error;
 use cfb_format::medium::ReadMedium;
 use cfb_mini::mini_allocator::MiniAllocator;
-use cfb_sound_changes::Allocator;
+use cfb_soundness::Allocator;
 use cfb_tables::walk::walk;
 use std::alloc::Allocator as Heap;
 
@@ -95,7 +95,7 @@ pub fn open_whole_chain<F: ReadMedium, A: Heap + Clone>(
 }
 
 /// The same, walked in the list that is given, whatever it held: it asks for memory only where that has too little room.
-pub fn open_whole_chain_in<F: ReadMedium, A: Heap>(
+pub(crate) fn open_whole_chain_in<F: ReadMedium, A: Heap>(
     allocator: &mut Allocator<F, A>,
     list: Vec<u32, A>,
     start: u32,
@@ -118,7 +118,7 @@ pub fn open_whole_chain_in<F: ReadMedium, A: Heap>(
 
 /// The mini sectors of a stream of so many bytes that starts there, in the list that is given; an empty one has none. `InvalidData` where
 /// there is no such mini chain or the file has not all of these bytes, and `Memory`.
-pub fn whole_mini_chain_in<F: ReadMedium, A: Heap>(
+pub(crate) fn whole_mini_chain_in<F: ReadMedium, A: Heap>(
     mut list: Vec<u32, A>,
     mini: &MiniAllocator<F, A>,
     start: u32,

@@ -15,23 +15,23 @@ use Rattle.cfb_copies.specs.cfb_rules.CallChanges.{fields_changed_at, same_stora
 use Rattle.cfb_siblings.specs.Children.{HasChildren, IsAbsent, IsChildNamed}
 use Rattle.cfb_siblings.specs.Paths.{HasOutline}
 use Rattle.cfb_siblings.proofs.Tallies.{all-at, counted, present}
-use Rattle.cfb_copies.specs.cfb_trees.Changes.{ButFields}
-use Rattle.cfb_copies.specs.cfb_trees.Reached.{IsObject}
-use Rattle.cfb_copies.proofs.cfb_trees.Members.{of-stream-kind, reached-is-within}
-use Rattle.cfb_copies.proofs.cfb_trees.Same.{set-at, set-fields}
-use Rattle.cfb_copies.proofs.cfb_trees.Standing.{reached-is-parent}
+use Rattle.cfb_copies.specs.cfb_siblings.Changes.{ButFields}
+use Rattle.cfb_copies.specs.cfb_siblings.Reached.{IsObject}
+use Rattle.cfb_copies.proofs.cfb_siblings.Members.{of-stream-kind, reached-is-within}
+use Rattle.cfb_copies.proofs.cfb_siblings.Same.{set-at, set-fields}
+use Rattle.cfb_copies.proofs.cfb_siblings.Standing.{reached-is-parent}
 use Rattle.cfb_copies.specs.cfb_entries.declared.fields.Fields.{Fields}
 use Rattle.cfb_copies.specs.cfb_entries.Fields.{entries_with_fields, entry_with_fields, fields_in}
 use Rattle.cfb_copies.specs.cfb_entries.EntryList.{AreInOrder}
-use Rattle.cfb_copies.specs.cfb_entry_changes.Marking.{GivesFields}
-use Rattle.cfb_copies.specs.cfb_objects.Laws.{BecomesTree}
-use Rattle.cfb_copies.specs.cfb_mini_sectors.State.{bytes_of, cases_of, entries_of}
+use Rattle.cfb_copies.specs.cfb_agreement.Marking.{GivesFields}
+use Rattle.cfb_copies.specs.cfb_listing.ObjectLaws.{BecomesTree}
+use Rattle.cfb_copies.specs.cfb_mini.State.{bytes_of, cases_of, entries_of}
 use Rattle.cfb_copies.specs.cfb_content.Contents.{IsStreamOf, len_of}
 use Rattle.cfb_copies.specs.cfb_agreement.Changes.{object_added_at}
 use Rattle.cfb_copies.specs.cfb_agreement.Files.{FileState, SameSetting}
 use Rattle.cfb_copies.specs.Steps.{IsLikeIn, IsReachedIn, TakesName, fields_like, like_added}
 use Rattle.cfb_copies.proofs.Likes.{gives_all, gives_bits, like_becomes, like_len}
-use Rattle.cfb_copies.proofs.cfb_trees.Reached.{inside}
+use Rattle.cfb_copies.proofs.cfb_siblings.Reached.{inside}
 
 -- ---- whether the name stands there
 

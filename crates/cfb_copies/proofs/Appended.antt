@@ -5,7 +5,7 @@ use Rattle.cfb_format.specs.Content.{place_in_stream}
 use Rattle.cfb_format.specs.Medium.{part, written}
 use Rattle.cfb_format.specs.Siblings.{entry_at}
 use Rattle.cfb_format.proofs.ByteLemmas.{part_more, written_inside}
-use Rattle.cfb_copies.specs.cfb_mini_sectors.State.{bytes_of, entries_of, parts_of}
+use Rattle.cfb_copies.specs.cfb_mini.State.{bytes_of, entries_of, parts_of}
 use Rattle.cfb_copies.specs.cfb_content.Contents.{len_of}
 use Rattle.cfb_copies.specs.cfb_agreement.Files.{FileState}
 use Rattle.cfb_volume.specs.Answers.{content_at}

@@ -5,8 +5,8 @@ use Rattle.std.specs.declared.cmp.Ordering.TheVariants.{Less}
 use Rattle.std.proofs.lemmas.List.{map-append}
 use Rattle.cfb_format.specs.Names.{Cases, name_cmp}
 use Rattle.cfb_format.specs.Tree.{AreWhole, IsOrdered, Objects, StorageInfo, Tree, names_in, nothing, storage, stream}
-use Rattle.cfb_copy_sizes.specs.Cut.{cut_objects, cut_stream, cut_tree}
-use Rattle.cfb_built.specs.Copied.{CanAllBeCopied, CopyIsTheTree, Part, WalkCanBeCopied, part_copied, parts_copied, parts_in, storage_part, stream_part}
+use Rattle.cfb_places.specs.Cut.{cut_objects, cut_stream, cut_tree}
+use Rattle.cfb_places.specs.Copied.{CanAllBeCopied, CopyIsTheTree, Part, WalkCanBeCopied, part_copied, parts_copied, parts_in, storage_part, stream_part}
 
 -- ---- the parts
 

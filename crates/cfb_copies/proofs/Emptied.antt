@@ -13,9 +13,9 @@ use Rattle.cfb_format.specs.Tree.{Tree}
 use Rattle.cfb_format.proofs.CreatedFacts.{reads}
 use Rattle.cfb_format.proofs.Unique.{Means-unique, Reads-unique}
 use Rattle.cfb_copies.specs.cfb_tables.Changes.{NoneFree}
-use Rattle.cfb_copies.specs.cfb_mini_sectors.State.{bytes_of, cases_of, entries_of, reading_of, tables_in, version_of}
+use Rattle.cfb_copies.specs.cfb_mini.State.{bytes_of, cases_of, entries_of, reading_of, tables_in, version_of}
 use Rattle.cfb_copies.specs.cfb_agreement.Files.{FileState, Holds}
-use Rattle.cfb_creating.specs.State.{created_fat}
+use Rattle.cfb_opening.specs.State.{created_fat}
 use Rattle.cfb_volume.specs.Slots.{used_count}
 use Rattle.cfb_copies.specs.Copies.{HasNoObjects}
 use Rattle.cfb_copies.specs.Steps.{IsTight}

@@ -16,14 +16,14 @@ use Rattle.cfb_format.specs.Siblings.{entry_at}
 use Rattle.cfb_format.specs.Soundness.{mini_sectors_of, sectors_of}
 use Rattle.cfb_format.specs.Tree.{Objects, StreamInfo, Tree, nothing, storage, stream}
 use Rattle.cfb_format.proofs.Unique.{Means-unique}
-use Rattle.cfb_built.specs.Copied.{CanAllBeCopied, HasFreePlace, Part, names_of, part_copied, parts_copied, storage_part, stream_part}
-use Rattle.cfb_built.proofs.Counted.{own_of, part_counts, parts_count, total}
-use Rattle.cfb_copy_sizes.proofs.Growth.{less-is-not-too-much}
-use Rattle.cfb_copy_sizes.proofs.Having.{content-can-be-had, entry-can-be-had}
+use Rattle.cfb_places.specs.Copied.{CanAllBeCopied, HasFreePlace, Part, names_of, part_copied, parts_copied, storage_part, stream_part}
+use Rattle.cfb_places.proofs.Counted.{own_of, part_counts, parts_count, total}
+use Rattle.cfb_places.proofs.Growth.{less-is-not-too-much}
+use Rattle.cfb_places.proofs.Having.{content-can-be-had, entry-can-be-had}
 use Rattle.cfb_copies.proofs.cfb_tables.FullLemmas.{too-few-is-no-room}
 use Rattle.cfb_copies.specs.cfb_directory.State.{IsFullForEntry}
-use Rattle.cfb_copies.specs.cfb_objects.Laws.{BecomesTree}
-use Rattle.cfb_copies.specs.cfb_mini_sectors.State.{MiniState, bytes_of, cases_of, entries_of, parts_of, tables_in, version_of}
+use Rattle.cfb_copies.specs.cfb_listing.ObjectLaws.{BecomesTree}
+use Rattle.cfb_copies.specs.cfb_mini.State.{MiniState, bytes_of, cases_of, entries_of, parts_of, tables_in, version_of}
 use Rattle.cfb_copies.specs.cfb_content.Contents.{IsStreamOf, IsTooLongFor, len_of}
 use Rattle.cfb_copies.proofs.cfb_content.Readable.{whole-of}
 use Rattle.cfb_copies.specs.cfb_agreement.Files.{FileState, Holds}

@@ -13,12 +13,12 @@ use Rattle.cfb_format.specs.Names.{Cases}
 use Rattle.cfb_format.specs.Reading.{HasContents, Outline, no_more, storage_at, stream_at, numbers}
 use Rattle.cfb_format.specs.Siblings.{entry_at}
 use Rattle.cfb_format.specs.Tree.{Tree}
-use Rattle.cfb_copy_sizes.specs.Cut.{AreTooLargeCut, HaveRoomCut, cut_tree, extents_in}
-use Rattle.cfb_copy_sizes.specs.declared.cut.Extent.{Extent}
-use Rattle.cfb_copy_sizes.proofs.Counts.{counts-are-the-trees}
+use Rattle.cfb_places.specs.Cut.{AreTooLargeCut, HaveRoomCut, cut_tree, extents_in}
+use Rattle.cfb_places.specs.declared.cut.Extent.{Extent}
+use Rattle.cfb_places.proofs.Counts.{counts-are-the-trees}
 use Rattle.cfb_places.specs.declared.walk.Place.{Place}
 use Rattle.cfb_places.specs.Laws.{PlacesAreTheWalk}
-use Rattle.cfb_copies.specs.cfb_mini_sectors.State.{bytes_of, cases_of, content_of, entries_of, version_of}
+use Rattle.cfb_copies.specs.cfb_mini.State.{bytes_of, cases_of, content_of, entries_of, version_of}
 use Rattle.cfb_copies.specs.cfb_agreement.Files.{FileState, Holds}
 use Rattle.cfb_copies.specs.Copies.{ListsObjects}
 use Rattle.cfb_copies.specs.Salvaged.{FitsCut, HasNoRoomCut, TellsExtents, extents_at}

@@ -7,13 +7,13 @@ use Rattle.cfb_format.specs.Names.{Cases}
 use Rattle.cfb_format.specs.Reading.{IsOutline, Outline}
 use Rattle.cfb_format.specs.Siblings.{entry_at}
 use Rattle.cfb_format.specs.Tree.{IsOrdered, Objects, Tree, nothing}
-use Rattle.cfb_copy_sizes.specs.Cut.{cut_tree}
+use Rattle.cfb_places.specs.Cut.{cut_tree}
 use Rattle.cfb_copies.specs.cfb_rules.CallChanges.{fields_changed_at, same_stream}
-use Rattle.cfb_built.specs.Copied.{CanAllBeCopied, CopyIsTheTree, WalkCanBeCopied, parts_copied}
-use Rattle.cfb_copies.specs.cfb_objects.Laws.{BecomesTree}
-use Rattle.cfb_copies.specs.cfb_objects.Objects.{tree_from}
+use Rattle.cfb_places.specs.Copied.{CanAllBeCopied, CopyIsTheTree, WalkCanBeCopied, parts_copied}
+use Rattle.cfb_copies.specs.cfb_listing.ObjectLaws.{BecomesTree}
+use Rattle.cfb_copies.specs.cfb_listing.Objects.{tree_from}
 use Rattle.cfb_places.specs.Laws.{TreeIsOrdered}
-use Rattle.cfb_copies.specs.cfb_mini_sectors.State.{bytes_of, cases_of, content_of, entries_of, version_of}
+use Rattle.cfb_copies.specs.cfb_mini.State.{bytes_of, cases_of, content_of, entries_of, version_of}
 use Rattle.cfb_copies.specs.cfb_agreement.Files.{FileState, Holds}
 use Rattle.cfb_copies.specs.Copies.{CanBeCopied, HasNoObjects, MeansCut, MeansTheSame, parts_in_file}
 use Rattle.cfb_copies.specs.Salvaged.{FitsCut}

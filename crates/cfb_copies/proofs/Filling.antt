@@ -6,13 +6,13 @@ use Rattle.cfb_format.specs.Names.{Cases}
 use Rattle.cfb_format.specs.Reading.{IsOutline, Outline}
 use Rattle.cfb_format.proofs.Unique.{IsOutline-unique}
 use Rattle.cfb_siblings.specs.Paths.{number_from}
-use Rattle.cfb_copies.proofs.cfb_trees.PathNames.{same-from}
-use Rattle.cfb_copies.specs.cfb_mini_sectors.State.{cases_of, entries_of}
+use Rattle.cfb_copies.proofs.cfb_siblings.PathNames.{same-from}
+use Rattle.cfb_copies.specs.cfb_mini.State.{cases_of, entries_of}
 use Rattle.cfb_copies.specs.cfb_content.Contents.{IsStreamOf, MovesContent}
 use Rattle.cfb_copies.proofs.cfb_content.FixedHeader.{header-stays, header-then}
 use Rattle.cfb_copies.proofs.cfb_content.Kept.{nothing-is-moved, others-kept-then}
 use Rattle.cfb_copies.proofs.cfb_content.Outlines.{content-moves-then, moved-at, moved-is-outline, same-entries-moved}
-use Rattle.cfb_copies.specs.cfb_entry_changes.Kept.{KeepsFound}
+use Rattle.cfb_copies.specs.cfb_agreement.Kept.{KeepsFound}
 use Rattle.cfb_copies.specs.cfb_agreement.Changes.{ChangesOneContent}
 use Rattle.cfb_copies.specs.cfb_agreement.Files.{Agrees, FileState, Holds, SameSetting, failures_of, is_failed}
 use Rattle.cfb_copies.specs.Steps.{FillsStream, GrowsTree, IsTight, StaysWithoutFree}

@@ -4,14 +4,14 @@ use Rattle.std.specs.Prelude.{IsTrue, Some}
 use Rattle.cfb_format.specs.Reading.{IsOutline, Outline}
 use Rattle.cfb_format.proofs.Unique.{IsOutline-unique}
 use Rattle.cfb_siblings.specs.Paths.{HasOutline, number_from}
-use Rattle.cfb_copies.proofs.cfb_trees.PathReached.{found-is-reached, reached-is-found}
+use Rattle.cfb_copies.proofs.cfb_siblings.PathReached.{found-is-reached, reached-is-found}
 use Rattle.cfb_copies.specs.cfb_entries.EntryList.{AreInOrder}
 use Rattle.cfb_copies.specs.cfb_tables.Changes.{NoneFree}
 use Rattle.cfb_copies.specs.cfb_tables.Tables.{TableState}
-use Rattle.cfb_copies.specs.cfb_mini_sectors.State.{cases_of, entries_of, tables_in}
+use Rattle.cfb_copies.specs.cfb_mini.State.{cases_of, entries_of, tables_in}
 use Rattle.cfb_copies.specs.cfb_content.Contents.{KeepsFixedHeader}
 use Rattle.cfb_copies.proofs.cfb_content.FixedHeader.{header-stays, header-then}
-use Rattle.cfb_copies.specs.cfb_entry_changes.Kept.{KeepsFound}
+use Rattle.cfb_copies.specs.cfb_agreement.Kept.{KeepsFound}
 use Rattle.cfb_copies.specs.cfb_agreement.Files.{Agrees, FileState, Holds, IsAsMade, SameSetting, failures_of, is_failed}
 use Rattle.cfb_copies.specs.Steps.{GrowsTree, IsReachedIn, IsTight, LeadToEntry, StaysWithoutFree}
 use Rattle.cfb_volume.proofs.Settings.{setting-same}

@@ -6,7 +6,7 @@ use Rattle.cfb_format.specs.declared.version.Version.TheVariants.{V3, V4}
 use Rattle.cfb_format.specs.Bytes.{sector_len}
 use Rattle.cfb_format.specs.Created.{created_bytes}
 use Rattle.cfb_copies.specs.cfb_alloc.Frame.{IsFixedHeaderByte}
-use Rattle.cfb_copies.specs.cfb_mini_sectors.State.{bytes_of, version_of}
+use Rattle.cfb_copies.specs.cfb_mini.State.{bytes_of, version_of}
 use Rattle.cfb_copies.specs.cfb_content.Contents.{KeepsFixedHeader}
 use Rattle.cfb_copies.specs.cfb_agreement.Files.{FileState, Holds}
 use Rattle.cfb_copies.specs.Copies.{HasCreatedHeader}

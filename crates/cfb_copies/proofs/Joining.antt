@@ -8,10 +8,10 @@ use Rattle.cfb_format.specs.Names.{Cases}
 use Rattle.cfb_format.specs.Tree.{Tree}
 use Rattle.cfb_copies.specs.cfb_rules.CallChanges.{content_changed_at}
 use Rattle.cfb_copies.specs.cfb_rules.Finding.{last_name, parent_names}
-use Rattle.cfb_built.specs.Copied.{Part, names_of, part_copied}
-use Rattle.cfb_copies.specs.cfb_trees.Reached.{IsObject}
-use Rattle.cfb_copies.specs.cfb_objects.Laws.{BecomesTree}
-use Rattle.cfb_copies.specs.cfb_mini_sectors.State.{bytes_of, cases_of}
+use Rattle.cfb_places.specs.Copied.{Part, names_of, part_copied}
+use Rattle.cfb_copies.specs.cfb_siblings.Reached.{IsObject}
+use Rattle.cfb_copies.specs.cfb_listing.ObjectLaws.{BecomesTree}
+use Rattle.cfb_copies.specs.cfb_mini.State.{bytes_of, cases_of}
 use Rattle.cfb_copies.specs.cfb_content.Contents.{IsStreamOf}
 use Rattle.cfb_copies.specs.cfb_agreement.Files.{FileState, Holds}
 use Rattle.cfb_copies.proofs.cfb_agreement.ContentChanges.{content-becomes-tree}

@@ -1,9 +1,8 @@
 pub use Rattle.cfb_volume.proofs as cfb_volume
 pub use Rattle.cfb_siblings.proofs as cfb_siblings
-pub use Rattle.cfb_copy_sizes.proofs.cfb_trees
-pub use Rattle.cfb_copy_sizes.proofs.cfb_tables
-pub use Rattle.cfb_creating.proofs.cfb_mini_sectors
-pub use Rattle.cfb_copy_sizes.proofs.cfb_objects
+pub use Rattle.cfb_places.proofs.cfb_tables
+pub use Rattle.cfb_opening.proofs.cfb_mini
+pub use Rattle.cfb_places.proofs.cfb_listing
 pub use Rattle.cfb_volume.proofs.cfb_content
 pub use Rattle.cfb_volume.proofs.cfb_agreement
 pub mod Settled

@@ -8,12 +8,12 @@ use Rattle.cfb_format.specs.Meaning.{Means, storage_info}
 use Rattle.cfb_format.specs.Names.{Cases}
 use Rattle.cfb_format.specs.Tree.{StreamInfo, Tree}
 use Rattle.cfb_copies.specs.cfb_rules.CallChanges.{content_changed_at, fields_changed_at, same_storage, same_stream, storage_added_at, stream_added_at}
-use Rattle.cfb_built.specs.Copied.{Part, names_of, part_copied}
-use Rattle.cfb_copies.specs.cfb_trees.Reached.{IsObject}
+use Rattle.cfb_places.specs.Copied.{Part, names_of, part_copied}
+use Rattle.cfb_copies.specs.cfb_siblings.Reached.{IsObject}
 use Rattle.cfb_copies.specs.cfb_entries.declared.fields.Fields.{Fields}
 use Rattle.cfb_copies.specs.cfb_entries.Fields.{entry_with_fields, fields_in}
-use Rattle.cfb_copies.specs.cfb_entry_changes.Marking.{GivesFields}
-use Rattle.cfb_copies.specs.cfb_objects.Laws.{BecomesTree}
+use Rattle.cfb_copies.specs.cfb_agreement.Marking.{GivesFields}
+use Rattle.cfb_copies.specs.cfb_listing.ObjectLaws.{BecomesTree}
 use Rattle.cfb_copies.specs.cfb_agreement.Changes.{object_added_at}
 use Rattle.cfb_copies.specs.Steps.{IsPart, fields_like, like_added}
 

@@ -14,17 +14,17 @@ use Rattle.cfb_format.specs.Siblings.{entry_at}
 use Rattle.cfb_format.specs.Tree.{Tree, a_storage, a_stream}
 use Rattle.cfb_format.proofs.Unique.{Means-unique}
 use Rattle.cfb_copies.specs.cfb_rules.Finding.{last_name, object_at, parent_names}
-use Rattle.cfb_built.specs.Copied.{CanAllBeCopied, HasFreePlace, Part, names_of, part_copied, parts_copied}
+use Rattle.cfb_places.specs.Copied.{CanAllBeCopied, HasFreePlace, Part, names_of, part_copied, parts_copied}
 use Rattle.cfb_siblings.specs.Children.{HasChildren, IsAbsent}
 use Rattle.cfb_siblings.specs.Paths.{HasOutline, LeadsOn, number_from}
-use Rattle.cfb_copies.specs.cfb_trees.Reached.{IsObject}
-use Rattle.cfb_copies.specs.cfb_objects.Laws.{BecomesTree}
-use Rattle.cfb_copies.specs.cfb_objects.Objects.{object_of, tree_from}
-use Rattle.cfb_copies.proofs.cfb_objects.Found.{object-is-at-its-entry, stream-by-kind}
-use Rattle.cfb_copies.proofs.cfb_objects.Leading.{last-name-leads-on}
+use Rattle.cfb_copies.specs.cfb_siblings.Reached.{IsObject}
+use Rattle.cfb_copies.specs.cfb_listing.ObjectLaws.{BecomesTree}
+use Rattle.cfb_copies.specs.cfb_listing.Objects.{object_of, tree_from}
+use Rattle.cfb_copies.proofs.cfb_listing.Found.{object-is-at-its-entry, stream-by-kind}
+use Rattle.cfb_copies.proofs.cfb_listing.Leading.{last-name-leads-on}
 use Rattle.cfb_places.specs.Parts.{IsPartOf, no_part, part_at}
-use Rattle.cfb_copies.specs.cfb_mini_sectors.State.{bytes_of, cases_of, content_of, entries_of}
-use Rattle.cfb_copies.specs.cfb_entry_changes.Kept.{KeepsFound}
+use Rattle.cfb_copies.specs.cfb_mini.State.{bytes_of, cases_of, content_of, entries_of}
+use Rattle.cfb_copies.specs.cfb_agreement.Kept.{KeepsFound}
 use Rattle.cfb_copies.specs.cfb_agreement.Files.{FileState, Holds}
 use Rattle.cfb_copies.proofs.cfb_agreement.HeldBytes.{held-means-its-tree}
 use Rattle.cfb_copies.specs.Copies.{AreNumbered, IsOnTheWay}

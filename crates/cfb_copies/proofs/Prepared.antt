@@ -12,16 +12,16 @@ use Rattle.cfb_format.specs.Full.{IsTooLarge}
 use Rattle.cfb_format.specs.Meaning.{Means}
 use Rattle.cfb_format.specs.Reading.{IsOutline, Outline, numbers}
 use Rattle.cfb_outline.specs.Outlines.{HasInside}
-use Rattle.cfb_copy_sizes.specs.Needs.{AreTooLarge, HaveRoom}
+use Rattle.cfb_places.specs.Needs.{AreTooLarge, HaveRoom}
 use Rattle.cfb_format.specs.Refused.{IsInvalidOrMemory}
 use Rattle.cfb_format.specs.Tree.{AreWhole, Tree}
 use Rattle.cfb_format.proofs.Unique.{Means-unique}
-use Rattle.cfb_copies.specs.cfb_objects.Objects.{tree_from}
+use Rattle.cfb_copies.specs.cfb_listing.Objects.{tree_from}
 use Rattle.cfb_places.specs.declared.walk.Place.{Place}
 use Rattle.cfb_places.specs.Laws.{IsWholeAt, PartsStandAtPlaces, StreamsAreWhole}
 use Rattle.cfb_places.specs.Parts.{IsPartOf}
 use Rattle.cfb_places.specs.Places.{number_at, places_of}
-use Rattle.cfb_copies.specs.cfb_mini_sectors.State.{bytes_of, cases_of, content_of, entries_of, version_of}
+use Rattle.cfb_copies.specs.cfb_mini.State.{bytes_of, cases_of, content_of, entries_of, version_of}
 use Rattle.cfb_copies.specs.cfb_agreement.Files.{FileState, Holds}
 use Rattle.cfb_copies.proofs.cfb_agreement.HeldBytes.{held-means-its-tree}
 use Rattle.cfb_copies.specs.Copies.{AreReadable, CanBeCopied, HasNoRoom, IsKindOrMemory, IsNotPrepared, IsNotWhole, ListsObjects, parts_in_file}

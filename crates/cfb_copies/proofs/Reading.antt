@@ -1,7 +1,7 @@
 -- A file that is only read.
 use Rattle.std.proofs.Common.{◌≡◌, ℕ, List, Bool, refl, sym, ◌∙◌, ap, subst}
 use Rattle.std.specs.Prelude.{IsTrue}
-use Rattle.cfb_copies.specs.cfb_mini_sectors.State.{MiniState, bytes_of, table_of}
+use Rattle.cfb_copies.specs.cfb_mini.State.{MiniState, bytes_of, table_of}
 use Rattle.cfb_copies.specs.cfb_agreement.Files.{FileState, Holds, IsAsBefore, failures_of, is_failed}
 use Rattle.cfb_copies.proofs.cfb_agreement.Flags.{as-before-same, flags-not-read}
 use Rattle.cfb_volume.specs.Answers.{content_at}

@@ -9,8 +9,8 @@ use Rattle.cfb_format.specs.Siblings.{entry_at}
 use Rattle.cfb_copies.specs.cfb_entries.declared.fields.Fields.{Fields}
 use Rattle.cfb_copies.specs.cfb_entries.EntryList.{has_free}
 use Rattle.cfb_copies.specs.cfb_entries.Fields.{entries_with_fields, entry_with_fields}
-use Rattle.cfb_copies.proofs.cfb_trees.Same.{set-fields}
-use Rattle.cfb_copies.specs.cfb_mini_sectors.State.{MiniState, entries_of, version_of}
+use Rattle.cfb_copies.proofs.cfb_siblings.Same.{set-fields}
+use Rattle.cfb_copies.specs.cfb_mini.State.{MiniState, entries_of, version_of}
 use Rattle.cfb_copies.specs.cfb_content.Contents.{MovesContent}
 use Rattle.cfb_copies.proofs.cfb_content.Outlines.{moved-at}
 use Rattle.cfb_volume.specs.Slots.{TakesSlot, used_count}

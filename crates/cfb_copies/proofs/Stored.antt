@@ -9,8 +9,8 @@ use Rattle.cfb_format.specs.Bytes.{max_stream_len}
 use Rattle.cfb_format.specs.DirectoryEntry.{Entry, IsEntry, stored_len, stored_name}
 use Rattle.cfb_format.specs.Names.{is_forbidden_character, is_valid_name, max_name_len, utf16_units}
 use Rattle.cfb_format.specs.Siblings.{entry_at}
-use Rattle.cfb_copies.specs.cfb_trees.Reached.{IsObject}
-use Rattle.cfb_copies.specs.cfb_mini_sectors.State.{entries_of, version_of}
+use Rattle.cfb_copies.specs.cfb_siblings.Reached.{IsObject}
+use Rattle.cfb_copies.specs.cfb_mini.State.{entries_of, version_of}
 use Rattle.cfb_copies.specs.cfb_content.Contents.{len_of}
 use Rattle.cfb_copies.specs.cfb_agreement.Files.{FileState, Holds}
 use Rattle.cfb_format.proofs.Slots.{stored_short, read_short, stored_free}

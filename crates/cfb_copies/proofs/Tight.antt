@@ -15,9 +15,9 @@ use Rattle.cfb_format.specs.Siblings.{entry_at}
 use Rattle.cfb_format.specs.Soundness.{mini_sectors_of, mini_stream_sectors, sectors_of, used_mini_sectors}
 use Rattle.cfb_format.specs.Tree.{Tree}
 use Rattle.cfb_format.proofs.Members.{Contains-here, Contains-there}
-use Rattle.cfb_copy_sizes.specs.Growth.{HasNothingToSpare}
-use Rattle.cfb_copy_sizes.proofs.Growth.{counted}
-use Rattle.cfb_copies.specs.cfb_mini_sectors.State.{MiniState, bytes_of, cases_of, content_of, entries_of, mini_stream_of, parts_of, version_of}
+use Rattle.cfb_places.specs.Growth.{HasNothingToSpare}
+use Rattle.cfb_places.proofs.Growth.{counted}
+use Rattle.cfb_copies.specs.cfb_mini.State.{MiniState, bytes_of, cases_of, content_of, entries_of, mini_stream_of, parts_of, version_of}
 use Rattle.cfb_copies.specs.cfb_content.Contents.{IsSnug, parts_with}
 use Rattle.cfb_copies.specs.cfb_agreement.Files.{FileState, Holds}
 use Rattle.cfb_volume.specs.Slots.{used_count}

@@ -10,16 +10,16 @@ use Rattle.cfb_format.specs.Reading.{IsOutline, Outline}
 use Rattle.cfb_format.specs.Siblings.{entry_at}
 use Rattle.cfb_format.specs.Tree.{Tree}
 use Rattle.cfb_copies.specs.cfb_rules.Finding.{parent_names}
-use Rattle.cfb_built.specs.Copied.{Part, names_of, part_copied}
+use Rattle.cfb_places.specs.Copied.{Part, names_of, part_copied}
 use Rattle.cfb_siblings.specs.Paths.{HasOutline}
-use Rattle.cfb_copies.specs.cfb_objects.Laws.{BecomesTree}
+use Rattle.cfb_copies.specs.cfb_listing.ObjectLaws.{BecomesTree}
 use Rattle.cfb_places.specs.declared.walk.Place.{Place}
 use Rattle.cfb_places.specs.Laws.{PartsStandAtPlaces}
 use Rattle.cfb_places.specs.Parts.{IsPartOf, part_at}
 use Rattle.cfb_places.specs.Places.{number_at, parent_at, placed_in, places_of}
-use Rattle.cfb_copies.specs.cfb_mini_sectors.State.{bytes_of, cases_of, content_of, entries_of, version_of}
+use Rattle.cfb_copies.specs.cfb_mini.State.{bytes_of, cases_of, content_of, entries_of, version_of}
 use Rattle.cfb_copies.specs.cfb_content.Contents.{len_of}
-use Rattle.cfb_copies.specs.cfb_entry_changes.Kept.{KeepsFound}
+use Rattle.cfb_copies.specs.cfb_agreement.Kept.{KeepsFound}
 use Rattle.cfb_copies.specs.cfb_agreement.Files.{FileState, Holds}
 use Rattle.cfb_copies.proofs.cfb_agreement.Flags.{as-before-same}
 use Rattle.cfb_copies.specs.declared.keeping.Keep.{Keep}

@@ -8,15 +8,15 @@ use Rattle.cfb_format.specs.Meaning.{Means}
 use Rattle.cfb_format.specs.Reading.{IsOutline, Outline}
 use Rattle.cfb_format.specs.Refused.{HasReason, no_error, number_of, IsBreak}
 use Rattle.cfb_format.specs.Tree.{AreWhole, Tree, nothing}
-use Rattle.cfb_copy_sizes.specs.Cut.{cut_tree}
-use Rattle.cfb_built.specs.Copied.{CanAllBeCopied, Part, names_of, parts_copied}
+use Rattle.cfb_places.specs.Cut.{cut_tree}
+use Rattle.cfb_places.specs.Copied.{CanAllBeCopied, Part, names_of, parts_copied}
 use Rattle.cfb_places.specs.declared.walk.Place.{Place}
 use Rattle.cfb_places.specs.Laws.{IsWholeAt}
 use Rattle.cfb_places.specs.Parts.{part_at, tree_parts}
 use Rattle.cfb_places.specs.Places.{places_of}
 use Rattle.cfb_copies.specs.cfb_tables.Changes.{NoneFree}
 use Rattle.cfb_copies.specs.cfb_alloc.Frame.{IsFixedHeaderByte}
-use Rattle.cfb_copies.specs.cfb_mini_sectors.State.{bytes_of, cases_of, content_of, entries_of, tables_in, version_of}
+use Rattle.cfb_copies.specs.cfb_mini.State.{bytes_of, cases_of, content_of, entries_of, tables_in, version_of}
 use Rattle.cfb_copies.specs.cfb_agreement.Files.{FileState, Holds, IsAsMade, failures_of, is_failed}
 use Rattle.cfb_copies.specs.declared.keeping.Keep.{Keep}
 use Rattle.cfb_volume.specs.Slots.{used_count}

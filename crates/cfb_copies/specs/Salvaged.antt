@@ -7,9 +7,9 @@ use Rattle.cfb_format.specs.Full.{IsTooLarge}
 use Rattle.cfb_format.specs.Meaning.{Means}
 use Rattle.cfb_format.specs.Refused.{HasReason, no_error}
 use Rattle.cfb_format.specs.Tree.{Tree}
-use Rattle.cfb_copy_sizes.specs.Cut.{cut_tree, extents_in}
-use Rattle.cfb_copy_sizes.specs.declared.cut.Extent.{Extent}
-use Rattle.cfb_copies.specs.cfb_mini_sectors.State.{bytes_of, cases_of, version_of}
+use Rattle.cfb_places.specs.Cut.{cut_tree, extents_in}
+use Rattle.cfb_places.specs.declared.cut.Extent.{Extent}
+use Rattle.cfb_copies.specs.cfb_mini.State.{bytes_of, cases_of, version_of}
 use Rattle.cfb_copies.specs.cfb_agreement.Files.{FileState, is_failed}
 use Rattle.cfb_copies.specs.Copies.{IsKindOrMemory, MeansCut}
 

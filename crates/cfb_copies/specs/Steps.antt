@@ -17,17 +17,17 @@ use Rattle.cfb_format.specs.Siblings.{entry_at}
 use Rattle.cfb_format.specs.Tree.{Tree}
 use Rattle.cfb_copies.specs.cfb_rules.CallChanges.{fields_changed_at, same_storage, same_stream, storage_added_at, stream_added_at}
 use Rattle.cfb_copies.specs.cfb_rules.Finding.{last_name, parent_names}
-use Rattle.cfb_built.specs.Copied.{HasFreePlace, Part, names_of, part_copied, storage_part, stream_part}
+use Rattle.cfb_places.specs.Copied.{HasFreePlace, Part, names_of, part_copied, storage_part, stream_part}
 use Rattle.cfb_siblings.specs.Children.{HasChildren, IsAbsent}
 use Rattle.cfb_siblings.specs.Paths.{HasOutline, number_from}
 use Rattle.cfb_copies.specs.cfb_tables.Changes.{NoneFree}
-use Rattle.cfb_copies.specs.cfb_trees.Reached.{IsObject, IsReached}
+use Rattle.cfb_copies.specs.cfb_siblings.Reached.{IsObject, IsReached}
 use Rattle.cfb_copies.specs.cfb_entries.declared.fields.Fields.{Fields}
-use Rattle.cfb_copies.specs.cfb_mini_sectors.State.{MiniState, bytes_of, cases_of, entries_of, tables_in, version_of, content_of}
+use Rattle.cfb_copies.specs.cfb_mini.State.{MiniState, bytes_of, cases_of, entries_of, tables_in, version_of, content_of}
 use Rattle.cfb_copies.specs.cfb_content.Contents.{IsStreamOf, IsTooLongFor, KeepsFixedHeader, KeepsOthers, MovesContent, len_of}
 use Rattle.cfb_copies.specs.cfb_resizing.Turning.{LeavesNoMinis}
 use Rattle.cfb_volume.specs.Slots.{used_count}
-use Rattle.cfb_copies.specs.cfb_entry_changes.Kept.{KeepsFound}
+use Rattle.cfb_copies.specs.cfb_agreement.Kept.{KeepsFound}
 use Rattle.cfb_places.specs.Laws.{IsWholeAt}
 use Rattle.cfb_copies.specs.declared.keeping.Keep.{Keep}
 use Rattle.cfb_copies.specs.declared.keeping.Keep.TheVariants.{Readable, Whole}

@@ -3,7 +3,7 @@ ghost use Rattle.std.specs.Prelude.{◌≡◌, ◌<◌, ◌≤◌, true, length,
 ghost use Rattle.cfb_format.specs.Refused.{IsMemory};
 ghost use Rattle.cfb_format.specs.Siblings.{entry_at};
 ghost use Rattle.cfb_format.specs.declared.objtype.ObjType.TheVariants.{Stream};
-ghost use Rattle.cfb_copies.specs.cfb_mini_sectors.State.{content_of, entries_of};
+ghost use Rattle.cfb_copies.specs.cfb_mini.State.{content_of, entries_of};
 ghost use Rattle.cfb_copies.specs.cfb_content.Contents.{len_of};
 ghost use Rattle.cfb_copies.specs.cfb_agreement.Files.{Holds};
 ghost use Rattle.cfb_volume.specs.Answers.{content_at};

@@ -10,5 +10,5 @@ mod pieces;
 pub mod salvaging;
 
 // What crates above name of those below.
-pub use cfb_creating::creating::create_file;
+pub use cfb_opening::creating::create_file;
 pub use cfb_volume::volume::Volume;

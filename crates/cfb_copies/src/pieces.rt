@@ -5,7 +5,7 @@ ghost use Rattle.cfb_format.specs.Bytes.{max_stream_len};
 ghost use Rattle.cfb_format.specs.Content.{mini_stream_cutoff};
 ghost use Rattle.cfb_format.specs.Medium.{part};
 ghost use Rattle.cfb_format.specs.Refused.{CountsFailure, IsBreak};
-ghost use Rattle.cfb_copies.specs.cfb_mini_sectors.State.{entries_of, version_of};
+ghost use Rattle.cfb_copies.specs.cfb_mini.State.{entries_of, version_of};
 ghost use Rattle.cfb_copies.specs.cfb_content.Contents.{IsStreamOf, len_of};
 ghost use Rattle.cfb_copies.specs.cfb_agreement.Files.{Holds, failures_of, is_failed};
 ghost use Rattle.cfb_volume.specs.Answers.{content_at};

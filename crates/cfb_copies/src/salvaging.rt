@@ -3,7 +3,7 @@ ghost use Rattle.std.specs.Prelude.{◌≡◌, ◌<◌, ◌||◌, ◌++◌, [], 
 ghost use Rattle.cfb_format.specs.declared.error.Error.TheVariants.{Failed};
 ghost use Rattle.cfb_format.specs.Refused.{IsMemory};
 ghost use Rattle.cfb_format.specs.Siblings.{entry_at};
-ghost use Rattle.cfb_copies.specs.cfb_mini_sectors.State.{content_of, entries_of};
+ghost use Rattle.cfb_copies.specs.cfb_mini.State.{content_of, entries_of};
 ghost use Rattle.cfb_copies.specs.cfb_agreement.Files.{Agrees, Holds, failures_of, is_failed};
 ghost use Rattle.cfb_copies.specs.Copies.{AreCopyable, IsMadeCopy, ListsObjects, TakesAfter};
 ghost use Rattle.cfb_copies.specs.Salvaged.{FitsCut, IsFullOrMemory, IsSalvaged, RefusesCut, SalvageRefused, TellsExtents, extents_at};
@@ -12,11 +12,11 @@ ghost use Rattle.cfb_copies.specs.Steps.{CountsEither, IsNoFault, IsReadOnly, Re
 use crate::checking::{is_allowed, kind_of, not_copied};
 use crate::copying::{fill, make_empty};
 use crate::keeping::{Keep, kept_len};
-pub use cfb_copy_sizes::cut::Extent;
-use cfb_copy_sizes::cut::check_room_cut;
 use cfb_format::error::Error;
 use cfb_format::medium::{Medium, ReadMedium};
 use cfb_format::objtype::ObjType;
+pub use cfb_places::cut::Extent;
+use cfb_places::cut::check_room_cut;
 use cfb_places::laws::{parts_stand_at_places, places_are_the_walk};
 use cfb_places::walk::{Place, places};
 use cfb_volume::volume::Volume;

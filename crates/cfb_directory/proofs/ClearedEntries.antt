@@ -10,7 +10,7 @@ use Rattle.cfb_format.specs.Names.{Cases}
 use Rattle.cfb_format.specs.Reading.{Outline, numbers}
 use Rattle.cfb_format.specs.Siblings.{entry_at}
 use Rattle.cfb_directory.specs.cfb_outline.Outlines.{HasInside, IsReachedStorage}
-use Rattle.cfb_directory.proofs.cfb_trees.Members.{reached-is-within}
+use Rattle.cfb_directory.proofs.cfb_siblings.Members.{reached-is-within}
 use Rattle.cfb_entries.specs.Clearing.{HasCleared}
 use Rattle.cfb_entries.proofs.Cleared.{inside-within, stands-inside}
 use Rattle.cfb_directory.specs.State.{AreWritable}

@@ -1,10 +1,8 @@
 pub use Rattle.cfb_slots.proofs as cfb_slots
 pub use Rattle.cfb_entries.proofs.cfb_outline
 pub use Rattle.cfb_entries.proofs.cfb_siblings
-pub use Rattle.cfb_entries.proofs.cfb_trees
 pub use Rattle.cfb_entries.proofs as cfb_entries
 pub use Rattle.cfb_alloc.proofs.cfb_tables
-pub use Rattle.cfb_alloc.proofs.cfb_table_words
 pub use Rattle.cfb_alloc.proofs as cfb_alloc
 pub mod DirectoryRefusals
 pub mod Placed

@@ -4,10 +4,10 @@ use Rattle.cfb_format.specs.Bytes.{entries_per_sector}
 use Rattle.cfb_format.specs.DirectoryEntry.{Entry}
 use Rattle.cfb_format.specs.Reading.{Outline, IsOutline}
 use Rattle.cfb_directory.specs.cfb_siblings.Paths.{number_from}
-use Rattle.cfb_directory.proofs.cfb_trees.PathInserted.{insertion-adds-a-name}
-use Rattle.cfb_directory.proofs.cfb_trees.PathRemoved.{removal-takes-a-name}
-use Rattle.cfb_directory.proofs.cfb_trees.PathNames.{growth-keeps-names}
-use Rattle.cfb_directory.proofs.cfb_trees.Same.{growth-keeps-outline}
+use Rattle.cfb_directory.proofs.cfb_siblings.PathInserted.{insertion-adds-a-name}
+use Rattle.cfb_directory.proofs.cfb_siblings.PathRemoved.{removal-takes-a-name}
+use Rattle.cfb_directory.proofs.cfb_siblings.PathNames.{growth-keeps-names}
+use Rattle.cfb_directory.proofs.cfb_siblings.Same.{growth-keeps-outline}
 use Rattle.cfb_entries.specs.EntryList.{has_free}
 use Rattle.cfb_directory.specs.NameLaws.{InsertedIsFound, RemovedIsFoundNoMore}
 use Rattle.cfb_directory.specs.State.{DirectoryState, directory_version, with_room}

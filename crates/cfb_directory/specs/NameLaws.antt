@@ -7,7 +7,7 @@ use Rattle.cfb_format.specs.DirectoryEntry.{Entry}
 use Rattle.cfb_format.specs.Siblings.{entry_at}
 use Rattle.cfb_format.specs.Reading.{Outline, IsOutline, numbers}
 use Rattle.cfb_directory.specs.cfb_siblings.Paths.{number_from}
-use Rattle.cfb_directory.specs.cfb_trees.Paths.{FindsAlso, number_after}
+use Rattle.cfb_directory.specs.cfb_siblings.TreePaths.{FindsAlso, number_after}
 use Rattle.cfb_entries.specs.EntryList.{InsertsEntry, RemovesEntry}
 use Rattle.cfb_directory.specs.State.{DirectoryState, with_room}
 

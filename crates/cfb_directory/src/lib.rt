@@ -9,7 +9,7 @@ pub mod laws;
 
 // What crates above name of those below.
 pub use cfb_alloc::alloc::{Allocator, HeaderWord};
-pub use cfb_alloc::stretch_at;
+pub use cfb_alloc::stretch::stretch_at;
 pub use cfb_entries::fields::Fields;
 pub use cfb_entries::fresh::fresh_entries;
 pub use cfb_slots::bounds::least_above;

@@ -7,13 +7,13 @@ use Rattle.std.proofs.lemmas.List.Elements.{Contains-append_cases, Contains-appe
 use Rattle.cfb_format.specs.Names.{Cases}
 use Rattle.cfb_format.specs.DirectoryEntry.{Entry}
 use Rattle.cfb_format.specs.Reading.{Outline}
-use Rattle.cfb_entries.specs.cfb_keys.declared.key.IndexKey.{IndexKey}
-use Rattle.cfb_entries.specs.cfb_keys.Keys.{is_same_key, key_in}
-use Rattle.cfb_entries.specs.cfb_keys.Equal.{key-equal}
-use Rattle.cfb_entries.proofs.cfb_keys.Padded.{keys-tell-names}
+use Rattle.cfb_entries.specs.cfb_index.declared.key.IndexKey.{IndexKey}
+use Rattle.cfb_entries.specs.cfb_index.Keys.{is_same_key, key_in}
+use Rattle.cfb_entries.specs.cfb_index.Equal.{key-equal}
+use Rattle.cfb_entries.proofs.cfb_index.Padded.{keys-tell-names}
 use Rattle.cfb_index.specs.Index.{Lists}
 use Rattle.cfb_index.proofs.Lists.{keys-differ, lists-less, lists-more, lists-same, none-some}
-use Rattle.cfb_trees.specs.Children.{IsChildIn}
+use Rattle.cfb_siblings.specs.TreeChildren.{IsChildIn}
 use Rattle.cfb_entries.specs.declared.indexing.Child.{Child}
 use Rattle.cfb_entries.specs.Covering.{child_at, key_of, entry_names, without_all}
 use Rattle.cfb_entries.specs.EntryList.{HaveShortNames}

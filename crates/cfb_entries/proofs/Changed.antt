@@ -11,7 +11,7 @@ use Rattle.cfb_format.proofs.Unique.{Below-unique}
 use Rattle.cfb_outline.specs.Outlines.{IsReachedStorage}
 use Rattle.cfb_siblings.specs.Children.{HasChildren, Inserts, Removes, IsAbsent}
 use Rattle.cfb_siblings.proofs.Tallies.{all-at, counted, present}
-use Rattle.cfb_trees.specs.Reached.{IsObject}
+use Rattle.cfb_siblings.specs.Reached.{IsObject}
 use Rattle.cfb_entries.specs.EntryList.{AreInOrder, ListsFreeSlots, InsertsEntry, RemovesEntry, IsChildless}
 use Rattle.cfb_entries.proofs.FreeSlots.{last-free}
 use Rattle.cfb_siblings.proofs.Alone.{one-named}

@@ -15,13 +15,13 @@ use Rattle.cfb_siblings.specs.Children.{ButChild}
 use Rattle.cfb_siblings.specs.Painted.{times_in}
 use Rattle.cfb_siblings.proofs.Outlines.{siblings-numbers}
 use Rattle.cfb_siblings.proofs.Tallies.{counted, distinct-once, hit-same, once-distinct, outside, present, tally-append, uncounted}
-use Rattle.cfb_trees.specs.Reached.{IsReached}
-use Rattle.cfb_trees.proofs.Kept.{SameNode, children-kept, contents-kept, same-node}
-use Rattle.cfb_trees.proofs.Members.{below-once, reached-is-used, reached-is-within, reached-once}
-use Rattle.cfb_trees.proofs.Parents.{parent-kind, parent-links, root-len}
-use Rattle.cfb_trees.proofs.Reached.{below-reached}
-use Rattle.cfb_trees.proofs.Replaced.{Becomes, becomes}
-use Rattle.cfb_trees.proofs.Standing.{StandsAt, at-held, at-inner, at-within, stands-at}
+use Rattle.cfb_siblings.specs.Reached.{IsReached}
+use Rattle.cfb_siblings.proofs.TreesKept.{SameNode, children-kept, contents-kept, same-node}
+use Rattle.cfb_siblings.proofs.Members.{below-once, reached-is-used, reached-is-within, reached-once}
+use Rattle.cfb_siblings.proofs.Parents.{parent-kind, parent-links, root-len}
+use Rattle.cfb_siblings.proofs.Reached.{below-reached}
+use Rattle.cfb_siblings.proofs.Replaced.{Becomes, becomes}
+use Rattle.cfb_siblings.proofs.Standing.{StandsAt, at-held, at-inner, at-within, stands-at}
 use Rattle.cfb_entries.specs.Clearing.{HasCleared}
 use Rattle.cfb_entries.specs.EntryList.{AreInOrder, ListsFreeSlots}
 use Rattle.cfb_entries.proofs.Contents.{IsShortAt, short-as}

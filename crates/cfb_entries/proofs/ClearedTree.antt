@@ -11,17 +11,17 @@ use Rattle.cfb_format.proofs.Unique.{Below-unique}
 use Rattle.cfb_siblings.specs.Laws.{SameLinks}
 use Rattle.cfb_siblings.specs.Painted.{times_in}
 use Rattle.cfb_siblings.proofs.Tallies.{counted, hit-same, outside, present}
-use Rattle.cfb_trees.specs.Children.{IsChildIn}
-use Rattle.cfb_trees.specs.Reached.{IsReached}
-use Rattle.cfb_trees.proofs.InStorages.{none-in, one-storage}
-use Rattle.cfb_trees.proofs.Kept.{children-kept}
-use Rattle.cfb_trees.proofs.Parents.{parent-links}
-use Rattle.cfb_trees.proofs.PathInserted.{same-links}
-use Rattle.cfb_trees.proofs.Standing.{Stands, StandsAt, at-children, at-inner, at-kind, owned, reached-is-parent, stands-inner}
+use Rattle.cfb_siblings.specs.TreeChildren.{IsChildIn}
+use Rattle.cfb_siblings.specs.Reached.{IsReached}
+use Rattle.cfb_siblings.proofs.InStorages.{none-in, one-storage}
+use Rattle.cfb_siblings.proofs.TreesKept.{children-kept}
+use Rattle.cfb_siblings.proofs.Parents.{parent-links}
+use Rattle.cfb_siblings.proofs.PathInserted.{same-links}
+use Rattle.cfb_siblings.proofs.Standing.{Stands, StandsAt, at-children, at-inner, at-kind, owned, reached-is-parent, stands-inner}
 use Rattle.cfb_entries.specs.Clearing.{HasCleared}
 use Rattle.cfb_index.specs.Index.{Lists}
 use Rattle.cfb_index.proofs.Lists.{lists-same}
-use Rattle.cfb_entries.specs.cfb_keys.declared.key.IndexKey.{IndexKey}
+use Rattle.cfb_entries.specs.cfb_index.declared.key.IndexKey.{IndexKey}
 use Rattle.cfb_entries.specs.Covering.{entry_names}
 use Rattle.cfb_entries.proofs.Cleared.{after, after-counts, apart-now}
 

@@ -19,17 +19,17 @@ use Rattle.cfb_siblings.specs.Order.{steps_of}
 use Rattle.cfb_siblings.proofs.Grown.{entry-stays, length-grows, place-same}
 use Rattle.cfb_entries.specs.declared.insertion.Insertion.{Insertion}
 use Rattle.cfb_entries.specs.Insertions.{IsInsertionOf}
-use Rattle.cfb_trees.specs.Reached.{IsObject}
-use Rattle.cfb_trees.proofs.Members.{object-is-used, reached-is-used, used-is-within}
-use Rattle.cfb_trees.proofs.Standing.{reached-is-parent}
-use Rattle.cfb_trees.proofs.Joined.{insertion-keeps-outline}
-use Rattle.cfb_trees.proofs.Taken.{freed-counted, moved, removal-keeps-outline}
-use Rattle.cfb_trees.proofs.Same.{grown-at, growth-keeps-outline, set-fields, fields-keep-outline}
+use Rattle.cfb_siblings.specs.Reached.{IsObject}
+use Rattle.cfb_siblings.proofs.Members.{object-is-used, reached-is-used, used-is-within}
+use Rattle.cfb_siblings.proofs.Standing.{reached-is-parent}
+use Rattle.cfb_siblings.proofs.TreesJoined.{insertion-keeps-outline}
+use Rattle.cfb_siblings.proofs.Taken.{freed-counted, moved, removal-keeps-outline}
+use Rattle.cfb_siblings.proofs.Same.{grown-at, growth-keeps-outline, set-fields, fields-keep-outline}
 use Rattle.cfb_format.specs.Full.{max_entries}
 use Rattle.cfb_entries.specs.EntryList.{AreInOrder, HaveShortNames, ListsFreeSlots}
 use Rattle.cfb_entries.specs.declared.fields.Fields.{Fields}
 use Rattle.cfb_entries.specs.Fields.{entry_with_fields, entries_with_fields}
-use Rattle.cfb_trees.specs.Changes.{ButFields}
+use Rattle.cfb_siblings.specs.Changes.{ButFields}
 use Rattle.cfb_entries.proofs.FreeSlots.{same-kind, free-kept, free-taken, free-freed}
 
 -- the name of the slot k has its place

@@ -8,21 +8,21 @@ use Rattle.cfb_format.specs.DirectoryEntry.{Entry, unallocated_entry}
 use Rattle.cfb_format.specs.Siblings.{entry_at}
 use Rattle.cfb_format.specs.Reading.{Outline, IsOutline, numbers}
 use Rattle.cfb_format.proofs.Unique.{Below-unique, IsOutline-unique}
-use Rattle.cfb_entries.specs.cfb_keys.Keys.{key_in}
-use Rattle.cfb_entries.proofs.cfb_keys.Padded.{keys-tell-names}
+use Rattle.cfb_entries.specs.cfb_index.Keys.{key_in}
+use Rattle.cfb_entries.proofs.cfb_index.Padded.{keys-tell-names}
 use Rattle.cfb_index.specs.Index.{HasSame, Index, Lists, Updates, number_under}
 use Rattle.cfb_index.proofs.Lists.{lists-more, lists-same}
 use Rattle.cfb_outline.specs.Outlines.{IsReachedStorage}
 use Rattle.cfb_siblings.specs.Children.{HasInserted}
 use Rattle.cfb_siblings.proofs.NameFacts.{same-itself}
 use Rattle.cfb_siblings.proofs.Tallies.{counted}
-use Rattle.cfb_trees.specs.Changes.{ButFields}
-use Rattle.cfb_trees.specs.Children.{IsChildIn}
-use Rattle.cfb_trees.specs.Reached.{IsObject}
-use Rattle.cfb_trees.proofs.InStorages.{child-reached, insertion-adds-a-child, other-fields-keep-children}
-use Rattle.cfb_trees.proofs.PathInserted as put
-use Rattle.cfb_trees.proofs.PathReached.{Reached, reached-number}
-use Rattle.cfb_trees.proofs.Same.{fields-keep-outline, grown-at, growth-keeps-outline, same-fields, set-fields}
+use Rattle.cfb_siblings.specs.Changes.{ButFields}
+use Rattle.cfb_siblings.specs.TreeChildren.{IsChildIn}
+use Rattle.cfb_siblings.specs.Reached.{IsObject}
+use Rattle.cfb_siblings.proofs.InStorages.{child-reached, insertion-adds-a-child, other-fields-keep-children}
+use Rattle.cfb_siblings.proofs.PathInserted as put
+use Rattle.cfb_siblings.proofs.PathReached.{Reached, reached-number}
+use Rattle.cfb_siblings.proofs.Same.{fields-keep-outline, grown-at, growth-keeps-outline, same-fields, set-fields}
 use Rattle.cfb_siblings.specs.Laws.{grown_by}
 use Rattle.cfb_entries.specs.Covering.{Covers, entry_names}
 use Rattle.cfb_entries.specs.EntryList.{AreInOrder, HaveShortNames}

@@ -12,12 +12,12 @@ use Rattle.cfb_outline.specs.Outlines.{HasInside, IsReachedStorage}
 use Rattle.cfb_siblings.specs.Children.{IsParent}
 use Rattle.cfb_siblings.specs.Painted.{times_in}
 use Rattle.cfb_siblings.proofs.Tallies.{outside, uncounted}
-use Rattle.cfb_trees.specs.Children.{IsChildIn}
-use Rattle.cfb_trees.specs.Reached.{IsReached}
-use Rattle.cfb_trees.proofs.InStorages.{child-below}
-use Rattle.cfb_trees.proofs.Members.{reached-is-within}
-use Rattle.cfb_trees.proofs.Reached.{below-reached}
-use Rattle.cfb_trees.proofs.Standing.{reached-is-parent}
+use Rattle.cfb_siblings.specs.TreeChildren.{IsChildIn}
+use Rattle.cfb_siblings.specs.Reached.{IsReached}
+use Rattle.cfb_siblings.proofs.InStorages.{child-below}
+use Rattle.cfb_siblings.proofs.Members.{reached-is-within}
+use Rattle.cfb_siblings.proofs.Reached.{below-reached}
+use Rattle.cfb_siblings.proofs.Standing.{reached-is-parent}
 use Rattle.cfb_entries.specs.declared.indexing.Child.{Child}
 use Rattle.cfb_entries.specs.Clearing.{HasCleared}
 use Rattle.cfb_entries.specs.Covering.{AreTaken, Covers, IsChildOf, child_at, entry_names}

@@ -10,19 +10,19 @@ use Rattle.cfb_format.specs.Reading.{Outline, IsOutline, numbers}
 use Rattle.cfb_format.proofs.NameOrder.{name_cmp-equal}
 use Rattle.cfb_format.proofs.TreeMap.{equal_by_test}
 use Rattle.cfb_format.proofs.Unique.{Below-unique}
-use Rattle.cfb_entries.specs.cfb_keys.Keys.{IsShort, key_in}
-use Rattle.cfb_entries.proofs.cfb_keys.Padded.{keys-tell-names}
+use Rattle.cfb_entries.specs.cfb_index.Keys.{IsShort, key_in}
+use Rattle.cfb_entries.proofs.cfb_index.Padded.{keys-tell-names}
 use Rattle.cfb_index.specs.Index.{CountsSteps, Index, number_down, number_in}
 use Rattle.cfb_index.proofs.Lists.{found-under, in-short, none-some, same-some}
 use Rattle.cfb_siblings.specs.Children.{HasChildren, IsAbsent, IsChildNamed}
 use Rattle.cfb_siblings.specs.Paths.{number_from}
 use Rattle.cfb_siblings.proofs.Tallies.{counted, present}
-use Rattle.cfb_trees.specs.Children.{IsChildIn}
-use Rattle.cfb_trees.specs.Reached.{IsReached}
-use Rattle.cfb_trees.proofs.InStorages.{child-below, child-reached, step-child}
-use Rattle.cfb_trees.proofs.PathDown.{Down, Step, down-number, look, number-down}
-use Rattle.cfb_trees.proofs.PathReached.{found-is-reached}
-use Rattle.cfb_trees.proofs.Reached.{root-is-reached}
+use Rattle.cfb_siblings.specs.TreeChildren.{IsChildIn}
+use Rattle.cfb_siblings.specs.Reached.{IsReached}
+use Rattle.cfb_siblings.proofs.InStorages.{child-below, child-reached, step-child}
+use Rattle.cfb_siblings.proofs.PathDown.{Down, Step, down-number, look, number-down}
+use Rattle.cfb_siblings.proofs.PathReached.{found-is-reached}
+use Rattle.cfb_siblings.proofs.Reached.{root-is-reached}
 use Rattle.cfb_entries.specs.Covering.{Covers}
 use Rattle.cfb_entries.specs.EntryList.{HaveShortNames}
 use Rattle.cfb_entries.proofs.Contents.{short-at}

@@ -12,7 +12,7 @@ use Rattle.cfb_format.specs.declared.objtype.ObjType.TheVariants.{Unallocated, S
 use Rattle.cfb_format.specs.DirectoryEntry.{Entry, unallocated_entry}
 use Rattle.cfb_format.specs.Siblings.{entry_at}
 use Rattle.cfb_siblings.specs.Laws.{grown_by}
-use Rattle.cfb_trees.proofs.Same.{grown-at}
+use Rattle.cfb_siblings.proofs.Same.{grown-at}
 use Rattle.cfb_format.specs.Full.{is_unallocated}
 use Rattle.cfb_entries.specs.EntryList.{ListsFreeSlots, has_free}
 use Rattle.cfb_entries.specs.Slots.{with_numbers}

@@ -10,14 +10,14 @@ use Rattle.cfb_format.specs.Names.{Cases}
 use Rattle.cfb_format.specs.DirectoryEntry.{Entry}
 use Rattle.cfb_format.specs.Siblings.{entry_at}
 use Rattle.cfb_format.specs.Reading.{Outline}
-use Rattle.cfb_entries.specs.cfb_keys.declared.key.IndexKey.{IndexKey}
-use Rattle.cfb_entries.specs.cfb_keys.Keys.{is_same_key, key_in}
+use Rattle.cfb_entries.specs.cfb_index.declared.key.IndexKey.{IndexKey}
+use Rattle.cfb_entries.specs.cfb_index.Keys.{is_same_key, key_in}
 use Rattle.cfb_index.specs.Index.{HasSame, Index, Updates, number_under}
 use Rattle.cfb_siblings.specs.Children.{IsParent}
 use Rattle.cfb_siblings.specs.Painted.{times_in}
 use Rattle.cfb_siblings.proofs.Tallies.{counted, present, tally-append}
-use Rattle.cfb_trees.specs.Children.{IsChildIn}
-use Rattle.cfb_trees.specs.Reached.{IsReached}
+use Rattle.cfb_siblings.specs.TreeChildren.{IsChildIn}
+use Rattle.cfb_siblings.specs.Reached.{IsReached}
 use Rattle.cfb_entries.specs.declared.indexing.Child.{Child}
 use Rattle.cfb_entries.specs.Covering.{AreMoved, ArePut, AreTaken, IsChildOf, ListsChildren, child_at, key_of, moved_all, entry_names, without_all}
 use Rattle.cfb_siblings.proofs.PathWalk.{is-stream-or}

@@ -1,7 +1,6 @@
-pub use Rattle.cfb_index.proofs.cfb_keys
+pub use Rattle.cfb_index.proofs as cfb_index
 pub use Rattle.cfb_outline.proofs as cfb_outline
 pub use Rattle.cfb_siblings.proofs as cfb_siblings
-pub use Rattle.cfb_trees.proofs as cfb_trees
 pub mod Distinct
 pub mod FreeSlots
 pub mod Lent

@@ -5,9 +5,9 @@ use Rattle.std.specs.Map.{update}
 use Rattle.cfb_format.specs.Names.{Cases}
 use Rattle.cfb_format.specs.Tree.{is_same_name}
 use Rattle.cfb_format.proofs.TreeMap.{alike}
-use Rattle.cfb_entries.specs.cfb_keys.declared.key.IndexKey.{IndexKey}
-use Rattle.cfb_entries.specs.cfb_keys.Keys.{IsShort, is_same_key, key_in}
-use Rattle.cfb_entries.proofs.cfb_keys.Padded.{keys-tell-names}
+use Rattle.cfb_entries.specs.cfb_index.declared.key.IndexKey.{IndexKey}
+use Rattle.cfb_entries.specs.cfb_index.Keys.{IsShort, is_same_key, key_in}
+use Rattle.cfb_entries.proofs.cfb_index.Padded.{keys-tell-names}
 use Rattle.cfb_index.specs.Index.{Lists}
 use Rattle.cfb_index.proofs.Lists.{lists-less, lists-more, lists-same}
 use Rattle.cfb_entries.specs.Covering.{moved_all}

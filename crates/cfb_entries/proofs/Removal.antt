@@ -9,19 +9,19 @@ use Rattle.cfb_format.specs.DirectoryEntry.{Entry}
 use Rattle.cfb_format.specs.Siblings.{entry_at}
 use Rattle.cfb_format.specs.Reading.{Outline, IsOutline}
 use Rattle.cfb_format.proofs.Unique.{Below-unique}
-use Rattle.cfb_entries.specs.cfb_keys.Keys.{IsShort}
+use Rattle.cfb_entries.specs.cfb_index.Keys.{IsShort}
 use Rattle.cfb_index.specs.Index.{Index, number_in, number_under}
 use Rattle.cfb_outline.specs.Outlines.{IsReachedStorage}
 use Rattle.cfb_siblings.specs.Children.{HasChildren, IsChildNamed, IsParent, IsThin, Removes}
 use Rattle.cfb_siblings.specs.Painted.{times_in}
 use Rattle.cfb_siblings.proofs.Tallies.{counted, distinct-once, hit-cases, present, tally-append}
-use Rattle.cfb_trees.specs.Children.{IsChildIn}
-use Rattle.cfb_trees.specs.Reached.{IsReached}
-use Rattle.cfb_trees.proofs.InStorages.{child-below}
-use Rattle.cfb_trees.proofs.Members.{reached-is-within}
-use Rattle.cfb_trees.proofs.Reached.{below-reached}
-use Rattle.cfb_trees.proofs.Standing.{reached-is-parent}
-use Rattle.cfb_trees.proofs.Taken.{freed-counted}
+use Rattle.cfb_siblings.specs.TreeChildren.{IsChildIn}
+use Rattle.cfb_siblings.specs.Reached.{IsReached}
+use Rattle.cfb_siblings.proofs.InStorages.{child-below}
+use Rattle.cfb_siblings.proofs.Members.{reached-is-within}
+use Rattle.cfb_siblings.proofs.Reached.{below-reached}
+use Rattle.cfb_siblings.proofs.Standing.{reached-is-parent}
+use Rattle.cfb_siblings.proofs.Taken.{freed-counted}
 use Rattle.cfb_entries.specs.Covering.{Covers, IsIndexedRemoval, IsReachedChild, ListsChildren, ListsMoved, entry_names}
 use Rattle.cfb_entries.specs.EntryList.{HaveShortNames, IsChildless, RemovesEntry}
 use Rattle.cfb_siblings.proofs.Alone.{one-named}

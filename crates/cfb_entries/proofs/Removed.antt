@@ -10,20 +10,20 @@ use Rattle.cfb_format.specs.DirectoryEntry.{Entry}
 use Rattle.cfb_format.specs.Siblings.{entry_at}
 use Rattle.cfb_format.specs.Reading.{Outline, IsOutline}
 use Rattle.cfb_format.proofs.Unique.{Below-unique}
-use Rattle.cfb_entries.specs.cfb_keys.declared.key.IndexKey.{IndexKey}
-use Rattle.cfb_entries.specs.cfb_keys.Keys.{IsShort, key_in}
-use Rattle.cfb_entries.proofs.cfb_keys.Padded.{keys-tell-names}
+use Rattle.cfb_entries.specs.cfb_index.declared.key.IndexKey.{IndexKey}
+use Rattle.cfb_entries.specs.cfb_index.Keys.{IsShort, key_in}
+use Rattle.cfb_entries.proofs.cfb_index.Padded.{keys-tell-names}
 use Rattle.cfb_index.specs.Index.{IsUpdate, Lists}
 use Rattle.cfb_index.proofs.Lists.{lists-less, lists-more, lists-same}
 use Rattle.cfb_siblings.specs.Children.{HasRemoved}
 use Rattle.cfb_siblings.specs.Painted.{times_in}
 use Rattle.cfb_siblings.proofs.NameFacts.{same-itself}
 use Rattle.cfb_siblings.proofs.Tallies.{present}
-use Rattle.cfb_trees.specs.Children.{IsChildIn, WasChildIn, place_after}
-use Rattle.cfb_trees.specs.Reached.{IsReached}
-use Rattle.cfb_trees.proofs.InStorages.{none-in, one-storage, removal-takes-a-child}
-use Rattle.cfb_trees.proofs.PathRemoved.{moved-freed, moved-other}
-use Rattle.cfb_trees.proofs.Taken.{freed-counted}
+use Rattle.cfb_siblings.specs.TreeChildren.{IsChildIn, WasChildIn, place_after}
+use Rattle.cfb_siblings.specs.Reached.{IsReached}
+use Rattle.cfb_siblings.proofs.InStorages.{none-in, one-storage, removal-takes-a-child}
+use Rattle.cfb_siblings.proofs.PathRemoved.{moved-freed, moved-other}
+use Rattle.cfb_siblings.proofs.Taken.{freed-counted}
 use Rattle.cfb_entries.specs.Covering.{moved_all, entry_names}
 use Rattle.cfb_entries.specs.EntryList.{HaveShortNames}
 use Rattle.cfb_siblings.proofs.Alone.{one-named}

@@ -6,12 +6,12 @@ use Rattle.cfb_format.specs.Names.{Cases}
 use Rattle.cfb_format.specs.DirectoryEntry.{Entry}
 use Rattle.cfb_format.specs.Reading.{Outline, IsOutline}
 use Rattle.cfb_format.specs.Siblings.{Below, entry_at}
-use Rattle.cfb_entries.specs.cfb_keys.declared.key.IndexKey.{IndexKey}
-use Rattle.cfb_entries.specs.cfb_keys.Keys.{is_same_key, key_in}
+use Rattle.cfb_entries.specs.cfb_index.declared.key.IndexKey.{IndexKey}
+use Rattle.cfb_entries.specs.cfb_index.Keys.{is_same_key, key_in}
 use Rattle.cfb_index.specs.Index.{HasSame, Index, Lists, Updates, number_under}
 use Rattle.cfb_outline.specs.Outlines.{IsReachedStorage}
 use Rattle.cfb_siblings.specs.Children.{HasChildren, IsThin}
-use Rattle.cfb_trees.specs.Children.{IsChildIn}
+use Rattle.cfb_siblings.specs.TreeChildren.{IsChildIn}
 use Rattle.cfb_entries.specs.declared.indexing.Child.{Child}
 
 -- the names of the entries, by their numbers

@@ -1,8 +1,6 @@
-pub use Rattle.cfb_index.specs.cfb_keys
 pub use Rattle.cfb_index.specs as cfb_index
 pub use Rattle.cfb_outline.specs as cfb_outline
 pub use Rattle.cfb_siblings.specs as cfb_siblings
-pub use Rattle.cfb_trees.specs as cfb_trees
 pub mod Clearing
 pub mod Covering
 pub mod EntryList

@@ -2,7 +2,7 @@
 ghost use Rattle.std.specs.Prelude.{◌≡◌, ℕ, ◌+◌, ◌<◌, ◌≤◌, ◌++◌, ◌∷◌, [], List, Contains, length, chars, vec_len, vec_capacity, IfOk, OnOk, OnErr};
 ghost use Rattle.cfb_codecs.specs.EntryModel.{entries_of};
 ghost use Rattle.cfb_index.specs.Index.{HasSame};
-ghost use Rattle.cfb_entries.specs.cfb_keys.Keys.{IsShort};
+ghost use Rattle.cfb_entries.specs.cfb_index.Keys.{IsShort};
 ghost use Rattle.cfb_outline.specs.Outlines.{IsReachedStorage};
 ghost use Rattle.cfb_siblings.specs.Children.{HasChildren, HasRedApart, KeepsBalance};
 ghost use Rattle.cfb_siblings.specs.Touched.{Touches, TouchesFew, TouchesOnly};

@@ -7,9 +7,9 @@ ghost use Rattle.cfb_format.specs.Refused.{IsMemory};
 ghost use Rattle.cfb_format.specs.Siblings.{entry_at};
 ghost use Rattle.cfb_codecs.specs.EntryModel.{entries_of};
 ghost use Rattle.cfb_index.specs.Index.{Updates};
-ghost use Rattle.cfb_entries.specs.cfb_keys.Keys.{key_in};
+ghost use Rattle.cfb_entries.specs.cfb_index.Keys.{key_in};
 ghost use Rattle.cfb_siblings.specs.Children.{IsParent};
-ghost use Rattle.cfb_trees.specs.Reached.{IsReached};
+ghost use Rattle.cfb_siblings.specs.Reached.{IsReached};
 ghost use Rattle.cfb_entries.specs.Covering.{AreMoved, ArePut, AreTaken, Covers, IsChildOf, ListsChildren, child_at, entry_names};
 ghost use Rattle.cfb_entries.specs.EntryList.{HaveShortNames};
 

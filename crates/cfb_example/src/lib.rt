@@ -1,16 +1,26 @@
 //! The example of README.md: a file with one stream is made in memory and read back.
+//!
+//! The code of docs/TUTORIAL.md: each block of the document stands here word for word.
 #![tactic(auto)]
 
+pub mod cases;
 #[cfg(test)]
 mod changes;
+pub mod changing;
+pub mod damaged;
+pub mod errors;
+pub mod medium;
+pub mod memory;
 #[cfg(test)]
 mod opening;
+pub mod reading;
 #[cfg(test)]
 mod refusals;
 #[cfg(test)]
 mod tests;
 #[cfg(test)]
 mod tutorial;
+pub mod writing;
 
 use cfb::{CompoundFile, Error, MemoryMedium};
 use std::alloc::Global;

@@ -8,12 +8,12 @@ use cfb::{
     CompoundFile, Error, FileMedium, FileReadMedium, Medium, MediumFault, OpenOptions, ReadMedium,
     Timestamp, Version, read_stream, write_stream,
 };
-use cfb_media::bytes::numbered;
 use std::alloc::Global;
 use std::os::unix::fs::MetadataExt;
 use std::test::Fail;
 use std::time::UNIX_EPOCH;
 use std::{fs, io};
+use test_rows::bytes::numbered;
 
 /// What comes of a compound file in a file of the system, or what is done with that file.
 enum Step<'a> {

@@ -1,8 +1,8 @@
 //! The example of README.md, with bytes of its own.
 use crate::{packed, unpacked};
-use cfb_media::bytes::numbered;
 use std::alloc::Global;
 use std::test::Fail;
+use test_rows::bytes::numbered;
 
 /// Whether what is packed is unpacked again.
 fn comes_back(alloc: Global, bytes: &[u8]) -> Result<bool, Fail> {

@@ -1,13 +1,13 @@
 //! Each function of the tutorial once.
+use crate::cases::open_greek;
+use crate::changing::tidy;
+use crate::damaged::{explain, mail_body, salvage};
+use crate::errors::{check, read_if_there, write_and_ask};
+use crate::medium::Counted;
+use crate::memory::{packed, unpacked};
+use crate::reading::{first_bytes, list, today};
+use crate::writing::{append, copy_data, greet};
 use cfb::{CompoundFile, Error, MediumFault, MemoryMedium, SliceMedium, Timestamp};
-use cfb_tutorial::cases::open_greek;
-use cfb_tutorial::changing::tidy;
-use cfb_tutorial::damaged::{explain, mail_body, salvage};
-use cfb_tutorial::errors::{check, read_if_there, write_and_ask};
-use cfb_tutorial::medium::Counted;
-use cfb_tutorial::memory::{packed, unpacked};
-use cfb_tutorial::reading::{first_bytes, list, today};
-use cfb_tutorial::writing::{append, copy_data, greet};
 use std::test::Fail;
 
 #[test]

@@ -12,8 +12,8 @@ use Rattle.cfb_format.specs.Reading.{Outline, no_more, storage_at, stream_at, si
 use Rattle.cfb_format.specs.Siblings.{entry_at}
 use Rattle.cfb_format.specs.Tree.{Objects}
 use Rattle.cfb_outline.specs.Families.{is_stream_kind}
-use Rattle.cfb_walks.specs.declared.walk.Walked.{Walked}
-use Rattle.cfb_walks.specs.Walks.{lies_at, walked_from}
+use Rattle.cfb_outline.specs.declared.walk.Walked.{Walked}
+use Rattle.cfb_outline.specs.Walks.{lies_at, walked_from}
 use Rattle.cfb_extract.specs.Items.{Item, a_file, a_folder}
 use Rattle.cfb_extract.specs.Extracted.{CutInfo, cuts_at, cuts_of, items_of, place_of}
 use Rattle.cfb_extract.specs.Steps.{cuts_along, cuts_by, item_at, items_along, names_next}

@@ -1,4 +1,4 @@
-pub use Rattle.cfb_compound_file.proofs.cfb_objects
+pub use Rattle.cfb_compound_file.proofs.cfb_listing
 pub use Rattle.cfb_compound_file.proofs.cfb_agreement
 pub use Rattle.cfb_compound_file.proofs.cfb_path_changes
 mod Longer

@@ -13,10 +13,10 @@ use Rattle.cfb_format.proofs.Unique.{Means-unique}
 use Rattle.cfb_outline.specs.Families.{is_stream_kind}
 use Rattle.cfb_outline.specs.Outlines.{HasInside}
 use Rattle.cfb_extract.specs.cfb_rules.Finding.{found_at}
-use Rattle.cfb_extract.specs.cfb_objects.Objects.{found_of, inside_of, object_of, tree_from}
-use Rattle.cfb_extract.proofs.cfb_objects.Facts.{root-has-its-name}
-use Rattle.cfb_extract.proofs.cfb_objects.Found.{found-is-at-its-entry, inside-is-below, storage-by-kind, stream-by-kind}
-use Rattle.cfb_extract.specs.cfb_mini_sectors.State.{bytes_of, cases_of, content_of, entries_of, reading_of}
+use Rattle.cfb_extract.specs.cfb_listing.Objects.{found_of, inside_of, object_of, tree_from}
+use Rattle.cfb_extract.proofs.cfb_listing.Facts.{root-has-its-name}
+use Rattle.cfb_extract.proofs.cfb_listing.Found.{found-is-at-its-entry, inside-is-below, storage-by-kind, stream-by-kind}
+use Rattle.cfb_extract.specs.cfb_mini.State.{bytes_of, cases_of, content_of, entries_of, reading_of}
 use Rattle.cfb_extract.specs.cfb_agreement.Files.{Agrees, FileState, is_failed}
 use Rattle.cfb_extract.proofs.cfb_agreement.HeldBytes.{held-means-its-tree}
 use Rattle.cfb_extract.specs.cfb_path_changes.Answers.{MeansTree}
@@ -24,9 +24,9 @@ use Rattle.cfb_extract.specs.cfb_path_changes.Finding.{IsObjectOf}
 use Rattle.cfb_extract.specs.cfb_entries.EntryList.{AreInOrder}
 use Rattle.cfb_compound_file.specs.Numbers.{IsNumberAt}
 use Rattle.cfb_compound_file.proofs.Asked.{RootIsNamed, tree_in}
-use Rattle.cfb_walks.specs.declared.walk.Walked.{Walked}
-use Rattle.cfb_walks.specs.Walks.{AreWithin, walked_from}
-use Rattle.cfb_walks.proofs.Within.{walked-within}
+use Rattle.cfb_outline.specs.declared.walk.Walked.{Walked}
+use Rattle.cfb_outline.specs.Walks.{AreWithin, walked_from}
+use Rattle.cfb_outline.proofs.Within.{walked-within}
 use Rattle.cfb_extract.specs.Items.{Item, a_file}
 use Rattle.cfb_extract.specs.Extracted.{CutInfo, cuts_at, cuts_of, cuts_of_object, items_of, items_of_object, place_of}
 use Rattle.cfb_extract.specs.Steps.{cuts_along, cuts_by, item_at, items_along}

@@ -5,7 +5,7 @@ use Rattle.cfb_format.specs.Path.{names_of_path}
 use Rattle.cfb_format.specs.Tree.{Found, Tree}
 use Rattle.cfb_extract.specs.cfb_rules.Calls.{walk_storage}
 use Rattle.cfb_extract.specs.cfb_rules.Finding.{found_at}
-use Rattle.cfb_extract.specs.cfb_mini_sectors.State.{cases_of}
+use Rattle.cfb_extract.specs.cfb_mini.State.{cases_of}
 use Rattle.cfb_extract.specs.cfb_agreement.Files.{FileState, is_failed}
 use Rattle.cfb_extract.specs.cfb_path_changes.Answers.{AnswersNot, MeansTree}
 use Rattle.cfb_extract.specs.declared.error.ExtractError.{ExtractError}

@@ -1,7 +1,7 @@
 pub use Rattle.cfb_compound_file.specs.cfb_entries
 pub use Rattle.cfb_compound_file.specs.cfb_rules
-pub use Rattle.cfb_compound_file.specs.cfb_mini_sectors
-pub use Rattle.cfb_compound_file.specs.cfb_objects
+pub use Rattle.cfb_compound_file.specs.cfb_mini
+pub use Rattle.cfb_compound_file.specs.cfb_listing
 pub use Rattle.cfb_compound_file.specs.cfb_agreement
 pub use Rattle.cfb_compound_file.specs.cfb_path_changes
 pub mod Items

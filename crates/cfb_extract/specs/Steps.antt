@@ -4,7 +4,7 @@ use Rattle.cfb_format.specs.DirectoryEntry.{Entry}
 use Rattle.cfb_format.specs.Meaning.{stream_info}
 use Rattle.cfb_format.specs.Siblings.{entry_at}
 use Rattle.cfb_outline.specs.Families.{is_stream_kind}
-use Rattle.cfb_walks.specs.declared.walk.Walked.{Walked}
+use Rattle.cfb_outline.specs.declared.walk.Walked.{Walked}
 use Rattle.cfb_extract.specs.Items.{Item, a_file, a_folder}
 use Rattle.cfb_extract.specs.Extracted.{CutInfo, cuts_at, place_of}
 

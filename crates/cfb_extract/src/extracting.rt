@@ -19,7 +19,7 @@ use cfb_compound_file::compound_file::CompoundFile;
 use cfb_format::error::Error;
 use cfb_format::medium::ReadMedium;
 use cfb_format::objtype::ObjType;
-use cfb_walks::walk::walk_inside;
+use cfb_outline::walk::walk_inside;
 use std::alloc::{AllocError, Allocator as Heap};
 
 /// Whether the entry of this number is that of a stream.
@@ -57,7 +57,7 @@ fn len_of<A: Heap>(entries: &[DirEntry<A>], number: u32) -> u64
 impl<F: ReadMedium, A: Heap + Clone> Source for CompoundFile<F, A> {
     ghost use Rattle.std.specs.Prelude.{false};
     ghost use Rattle.cfb_extract.specs.cfb_agreement.Files.{FileState, is_failed};
-    ghost use Rattle.cfb_extract.specs.cfb_mini_sectors.State.{content_of, entries_of};
+    ghost use Rattle.cfb_extract.specs.cfb_mini.State.{content_of, entries_of};
 
     ghost tells = { λ file. IsTrue F.tells × (is_failed file ≡ false) };
 

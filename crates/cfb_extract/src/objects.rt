@@ -5,7 +5,7 @@ ghost use Rattle.cfb_extract.specs.Breaks.{IsBrokenOff};
 ghost use Rattle.cfb_extract.specs.Cuts.{told_cuts};
 ghost use Rattle.cfb_extract.specs.Items.{IsKept, IsLonger, IsLongerSo, texts};
 ghost use Rattle.cfb_extract.specs.Sources.{StaysSource};
-ghost use Rattle.cfb_walks.specs.Walks.{AreWithin};
+ghost use Rattle.cfb_outline.specs.Walks.{AreWithin};
 ghost use Rattle.cfb_extract.specs.Steps.{cuts_along, cuts_by, item_at, items_along};
 
 use crate::cut::Cut;
@@ -15,7 +15,7 @@ use crate::naming::{place_of, slashed};
 use crate::source::Source;
 use cfb_format::error::Error;
 use cfb_format::medium::MediumFault;
-use cfb_walks::walk::Walked;
+use cfb_outline::walk::Walked;
 use std::alloc::Allocator as Heap;
 
 /// How many bytes are read at once.

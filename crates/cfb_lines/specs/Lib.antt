@@ -5,3 +5,4 @@ pub mod Words
 pub mod Commands
 pub mod Wrong
 pub mod Writing
+pub mod Dumps

@@ -64,7 +64,7 @@ fn digits_32<A: Allocator>(alloc: A, number: u32) -> Result<String<A>, AllocErro
 }
 
 /// Appends the line of a new storage, made at the beginning of 1970. Memory may be refused.
-pub fn push_storage<A: Allocator + Clone>(
+pub(crate) fn push_storage<A: Allocator + Clone>(
     alloc: &A,
     text: &mut String<A>,
     path: &str,
@@ -78,7 +78,7 @@ pub fn push_storage<A: Allocator + Clone>(
 }
 
 /// Appends the line that sets a class id. Memory may be refused.
-pub fn push_class_id<A: Allocator + Clone>(
+pub(crate) fn push_class_id<A: Allocator + Clone>(
     alloc: &A,
     text: &mut String<A>,
     path: &str,
@@ -95,7 +95,7 @@ pub fn push_class_id<A: Allocator + Clone>(
 }
 
 /// Appends the line that sets when a storage was made. Memory may be refused.
-pub fn push_created<A: Allocator + Clone>(
+pub(crate) fn push_created<A: Allocator + Clone>(
     alloc: &A,
     text: &mut String<A>,
     path: &str,
@@ -112,7 +112,7 @@ pub fn push_created<A: Allocator + Clone>(
 }
 
 /// Appends the line that sets when a storage was changed last. Memory may be refused.
-pub fn push_modified<A: Allocator + Clone>(
+pub(crate) fn push_modified<A: Allocator + Clone>(
     alloc: &A,
     text: &mut String<A>,
     path: &str,
@@ -129,7 +129,7 @@ pub fn push_modified<A: Allocator + Clone>(
 }
 
 /// Appends the line that sets state bits. Memory may be refused.
-pub fn push_state_bits<A: Allocator + Clone>(
+pub(crate) fn push_state_bits<A: Allocator + Clone>(
     alloc: &A,
     text: &mut String<A>,
     path: &str,
@@ -178,7 +178,7 @@ pub fn push_hex<A: Allocator>(text: &mut String<A>, bytes: &[u8]) -> Result<(), 
 
 /// Appends the line of a stream up to the digits of its bytes. `push_hex` appends these, in any number
 /// of pieces, and an end of the line follows them. Memory may be refused.
-pub fn push_content_head<A: Allocator + Clone>(
+pub(crate) fn push_content_head<A: Allocator + Clone>(
     alloc: &A,
     text: &mut String<A>,
     path: &str,

@@ -1,5 +1,5 @@
 pub use Rattle.cfb_outline.specs as cfb_outline
-pub use Rattle.cfb_trees.specs as cfb_trees
+pub use Rattle.cfb_siblings.specs as cfb_siblings
 pub use Rattle.cfb_rules.specs as cfb_rules
 pub mod Told
 pub mod Compared
@@ -9,3 +9,7 @@ pub mod Waiting
 pub mod Reached
 pub mod Laws
 pub mod PathLaws
+pub mod Objects
+pub mod Changes
+pub mod ObjectLaws
+pub mod Balance

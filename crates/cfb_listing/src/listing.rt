@@ -8,7 +8,7 @@ ghost use Rattle.cfb_format.specs.Reading.{Outline, IsOutline};
 ghost use Rattle.cfb_format.specs.Refused.{IsMemory};
 ghost use Rattle.cfb_outline.specs.Families.{IsInside};
 ghost use Rattle.cfb_outline.specs.Outlines.{IsReachedStorage};
-ghost use Rattle.cfb_trees.specs.Reached.{IsReached};
+ghost use Rattle.cfb_siblings.specs.Reached.{IsReached};
 ghost use Rattle.cfb_listing.specs.Told.{entry_info};
 ghost use Rattle.cfb_listing.specs.Listings.{listed_by, OfInside, ListsInside, ListsStorage, Walks};
 ghost use Rattle.cfb_listing.specs.Waiting.{waits_in, path_at, is_entered};
@@ -20,7 +20,7 @@ use cfb_codecs::links::{child_link, left_link, right_link};
 use cfb_format::consts::{NO_STREAM, ROOT_STREAM_ID};
 use cfb_format::error::Error;
 use cfb_outline::links::is_storage;
-use cfb_trees::laws::reached_entries_are_in_use;
+use cfb_siblings::tree_laws::reached_entries_are_in_use;
 use std::alloc::Allocator;
 
 /// What is listed of a storage, and in which order. Siblings always stand in name order.

@@ -1,19 +1,39 @@
-pub use Rattle.cfb_mini_changes.proofs as cfb_mini_changes
-pub use Rattle.cfb_mini_changes.proofs.cfb_outline
-pub use Rattle.cfb_mini_changes.proofs.cfb_siblings
-pub use Rattle.cfb_mini_changes.proofs.cfb_trees
-pub use Rattle.cfb_mini_changes.proofs.cfb_entries
+pub use Rattle.cfb_directory.proofs.cfb_slots
+pub use Rattle.cfb_directory.proofs.cfb_outline
+pub use Rattle.cfb_directory.proofs.cfb_siblings
+pub use Rattle.cfb_directory.proofs.cfb_entries
 pub use Rattle.cfb_sectors.proofs as cfb_sectors
-pub use Rattle.cfb_runs.proofs.cfb_tables
-pub use Rattle.cfb_mini_changes.proofs.cfb_mini_table
-pub use Rattle.cfb_runs.proofs.cfb_table_words
-pub use Rattle.cfb_runs.proofs.cfb_alloc
-pub use Rattle.cfb_mini_changes.proofs.cfb_directory
-pub use Rattle.cfb_mini_changes.proofs.cfb_mini_sectors
-pub use Rattle.cfb_mini_changes.proofs.MiniKnown
-pub use Rattle.cfb_mini_changes.proofs.MiniExtended
-pub use Rattle.cfb_mini_changes.proofs.MiniGiven
-pub use Rattle.cfb_mini_changes.proofs.WholeFiles
+pub use Rattle.cfb_mini_table.proofs.cfb_tables
+pub use Rattle.cfb_mini_table.proofs as cfb_mini_table
+pub use Rattle.cfb_directory.proofs.cfb_alloc
+pub use Rattle.cfb_directory.proofs as cfb_directory
+pub mod MiniClean
+pub mod MiniStreams
+pub mod MiniWords
+pub mod HeldMini
+pub mod HeldSteps
+pub mod HeldGrown
+pub mod HeldShortened
+pub mod ListedChains
+pub mod MiniPlaces
+pub mod MiniFrames
+pub mod PiecePlaces
+pub mod PieceWrites
+pub mod MiniRows
+pub mod WordRuns
+pub mod MinifatNamed
+pub mod MinifatGrown
+pub mod BothGrown
+pub mod RoomInTurn
+pub mod MiniKnown
+pub mod MiniSettled
+pub mod MiniTaken
+pub mod MiniGrown
+pub mod MiniExtended
+pub mod MiniCut
+pub mod MiniGiven
+pub mod LeastAbove
+pub mod WholeFiles
 pub mod MiniWritten
 pub mod MiniStretches
 pub mod MiniRoot

@@ -5,8 +5,8 @@ use Rattle.cfb_format.specs.Bytes.{end_of_chain}
 use Rattle.cfb_format.specs.Chain.{value}
 use Rattle.cfb_mini.specs.cfb_tables.Listed.{ends_of}
 use Rattle.cfb_mini.specs.cfb_tables.Tables.{ending}
-use Rattle.cfb_mini.specs.cfb_mini_sectors.State.{MiniState}
-use Rattle.cfb_mini.specs.cfb_mini_sectors.Steps.{EndsNoChain, IsNotHeld}
+use Rattle.cfb_mini.specs.State.{MiniState}
+use Rattle.cfb_mini.specs.Steps.{EndsNoChain, IsNotHeld}
 
 -- where a list has the one that a chain ends at, or none where that is END
 

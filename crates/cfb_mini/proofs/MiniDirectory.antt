@@ -36,14 +36,14 @@ use Rattle.cfb_mini.proofs.cfb_directory.ChangedFields.{changed_beside, changed_
 use Rattle.cfb_mini.proofs.cfb_directory.InsertWhole.{roomy-same}
 use Rattle.cfb_mini.proofs.cfb_directory.Placed.{header_there}
 use Rattle.cfb_mini.proofs.cfb_directory.Rewritten.{word_left}
-use Rattle.cfb_mini.specs.cfb_mini_sectors.State.{MiniState, HoldWordsBut, HoldsMini, IsStrictMini, bytes_of, entries_of, mini_stream_of, root_len_of, table_of, tables_in, version_of}
-use Rattle.cfb_mini.specs.cfb_mini_sectors.Steps.{system_sectors}
-use Rattle.cfb_mini.specs.cfb_mini_sectors.Held.{IsMiniStream, with_directory, with_table}
-use Rattle.cfb_mini.proofs.cfb_mini_sectors.HeldMini.{mini-stays-held, no-tables}
-use Rattle.cfb_mini.proofs.cfb_mini_sectors.HeldSteps.{directory-minifat, front-stream}
-use Rattle.cfb_mini.proofs.cfb_mini_sectors.MiniStreams.{chain-is-stream, stream-chain, stream-is-chain, begins}
-use Rattle.cfb_mini.proofs.cfb_mini_sectors.MiniWords.{held-words-kept, minifat-kept}
-use Rattle.cfb_mini_changes.proofs.MiniKnown.{held-stream}
+use Rattle.cfb_mini.specs.State.{MiniState, HoldWordsBut, HoldsMini, IsStrictMini, bytes_of, entries_of, mini_stream_of, root_len_of, table_of, tables_in, version_of}
+use Rattle.cfb_mini.specs.Steps.{system_sectors}
+use Rattle.cfb_mini.specs.Held.{IsMiniStream, with_directory, with_table}
+use Rattle.cfb_mini.proofs.HeldMini.{mini-stays-held, no-tables}
+use Rattle.cfb_mini.proofs.HeldSteps.{directory-minifat, front-stream}
+use Rattle.cfb_mini.proofs.MiniStreams.{chain-is-stream, stream-chain, stream-is-chain, begins}
+use Rattle.cfb_mini.proofs.MiniWords.{held-words-kept, minifat-kept}
+use Rattle.cfb_mini.proofs.MiniKnown.{held-stream}
 use Rattle.cfb_mini.proofs.RootStays.{SameContent, cleared-root, inserted-root, removed-root, same-entry}
 use Rattle.std.proofs.lemmas.Bool.{cases_eq}
 use Rattle.std.proofs.lemmas.List.Elements.{Contains-append_cases, Contains-append_left, Contains-append_right}

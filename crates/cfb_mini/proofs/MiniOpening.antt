@@ -12,7 +12,7 @@ use Rattle.cfb_format.proofs.Chains.{chain_from-IsChain}
 use Rattle.cfb_mini.specs.cfb_tables.Changes.{NoChain}
 use Rattle.cfb_mini.specs.cfb_tables.Refused.{TableRefused}
 use Rattle.cfb_mini.proofs.cfb_tables.FatLemmas.{no-pointer}
-use Rattle.cfb_mini.proofs.cfb_mini_sectors.MiniStreams.{stream-is-chain, stream_chain}
+use Rattle.cfb_mini.proofs.MiniStreams.{stream-is-chain, stream_chain}
 
 no-chain : (table : List ℕ) (start : ℕ) → NoChain table start → chain_from table start ≡ None
 no-chain table start none = go (chain_from table start) refl

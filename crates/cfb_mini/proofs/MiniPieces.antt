@@ -23,14 +23,14 @@ use Rattle.cfb_mini.specs.cfb_alloc.InSector.{IsNoTableSector}
 use Rattle.cfb_mini.proofs.cfb_alloc.HeldOrder.{members-no_table}
 use Rattle.cfb_mini.proofs.cfb_directory.InsertGrow.{medium-broke}
 use Rattle.cfb_mini.proofs.cfb_directory.Placed.{header_there}
-use Rattle.cfb_mini.specs.cfb_mini_sectors.State.{MiniState, HoldsMini, bytes_of, entries_of, mini_place, mini_stream_of, table_of, tables_in, version_of}
-use Rattle.cfb_mini.specs.cfb_mini_sectors.Steps.{SparesMini, StopsShort}
-use Rattle.cfb_mini.specs.cfb_mini_sectors.Held.{with_table}
-use Rattle.cfb_mini.specs.cfb_mini_sectors.Pieces.{HasMini}
-use Rattle.cfb_mini.proofs.cfb_mini_sectors.HeldSteps.{front-stream}
-use Rattle.cfb_mini.proofs.cfb_mini_sectors.MiniStreams.{chain-is-stream, stream-chain}
-use Rattle.cfb_mini_changes.specs.MiniSectors.{HasMiniByte}
-use Rattle.cfb_mini_changes.proofs.MiniKnown.{has-mini, held-stream, mini-has, mini-or-not}
+use Rattle.cfb_mini.specs.State.{MiniState, HoldsMini, bytes_of, entries_of, mini_place, mini_stream_of, table_of, tables_in, version_of}
+use Rattle.cfb_mini.specs.Steps.{SparesMini, StopsShort}
+use Rattle.cfb_mini.specs.Held.{with_table}
+use Rattle.cfb_mini.specs.Pieces.{HasMini}
+use Rattle.cfb_mini.proofs.HeldSteps.{front-stream}
+use Rattle.cfb_mini.proofs.MiniStreams.{chain-is-stream, stream-chain}
+use Rattle.cfb_mini.specs.MiniSectors.{HasMiniByte}
+use Rattle.cfb_mini.proofs.MiniKnown.{has-mini, held-stream, mini-has, mini-or-not}
 use Rattle.cfb_mini.proofs.MiniWritten.{held-bytes, spares-mini-refl, written-spares-mini}
 
 -- what holds of the parts holds of the state

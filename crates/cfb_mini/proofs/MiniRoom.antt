@@ -11,8 +11,8 @@ use Rattle.cfb_mini.specs.cfb_tables.Refused.{ChangeRefused}
 use Rattle.cfb_mini.specs.cfb_tables.Room.{IsTooFewAfter}
 use Rattle.cfb_mini.specs.cfb_tables.Tables.{IsTooFew, PassesLimit, TableState, sizes_after, sizes_of}
 use Rattle.cfb_mini.proofs.cfb_tables.RoomLemmas.{nothing-given-back}
-use Rattle.cfb_mini.specs.cfb_mini_sectors.State.{MiniState, tables_in}
-use Rattle.cfb_mini.specs.cfb_mini_sectors.Steps.{IsTooFewAfterFor, IsTooFewFor, mini_stream_lacks, minifat_lacks}
+use Rattle.cfb_mini.specs.State.{MiniState, tables_in}
+use Rattle.cfb_mini.specs.Steps.{IsTooFewAfterFor, IsTooFewFor, mini_stream_lacks, minifat_lacks}
 
 passes-or-not : (v : Version) (limit more : ℕ) (s : Sizes) → PassesLimit v limit s more ⊎ (PassesLimit v limit s more → ⊥)
 passes-or-not v limit more s = elim (cases_lt 0 more) [

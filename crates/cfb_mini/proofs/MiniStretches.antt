@@ -10,19 +10,19 @@ use Rattle.cfb_format.specs.Bytes.{sector_len}
 use Rattle.cfb_format.specs.Medium.{ChangesOnlyBytes}
 use Rattle.cfb_mini.specs.cfb_soundness.Places.{mini_start}
 use Rattle.cfb_mini.specs.cfb_alloc.Alloc.{AllocatorState}
-use Rattle.cfb_runs.specs.Along.{ChangesOnlyRun}
+use Rattle.cfb_chains.specs.Along.{ChangesOnlyRun}
 use Rattle.cfb_mini.specs.cfb_tables.Consecutive.{FollowOn}
-use Rattle.cfb_runs.specs.Runs.{IsRun, place_along}
-use Rattle.cfb_mini.specs.cfb_mini_sectors.State.{HoldsMini, MiniState, bytes_of, mini_place, mini_stream_of, table_of, tables_in, version_of}
-use Rattle.cfb_mini.specs.cfb_mini_sectors.Steps.{SparesMini}
-use Rattle.cfb_mini.specs.cfb_mini_sectors.Held.{with_table}
-use Rattle.cfb_mini.proofs.cfb_mini_sectors.PiecePlaces.{minis_apart}
+use Rattle.cfb_chains.specs.Runs.{IsRun, place_along}
+use Rattle.cfb_mini.specs.State.{HoldsMini, MiniState, bytes_of, mini_place, mini_stream_of, table_of, tables_in, version_of}
+use Rattle.cfb_mini.specs.Steps.{SparesMini}
+use Rattle.cfb_mini.specs.Held.{with_table}
+use Rattle.cfb_mini.proofs.PiecePlaces.{minis_apart}
 use Rattle.cfb_mini.specs.MiniRuns.{ChangesMiniStretch, HasTheMinis, IsMiniRun, IsMiniStretch}
-use Rattle.cfb_mini_changes.specs.MiniSectors.{HasMiniSector}
-use Rattle.cfb_mini_changes.proofs.MiniKnown.{mini_below, mini_index}
+use Rattle.cfb_mini.specs.MiniSectors.{HasMiniSector}
+use Rattle.cfb_mini.proofs.MiniKnown.{mini_below, mini_index}
 use Rattle.cfb_mini.proofs.MiniWritten.{busy-mini}
 use Rattle.cfb_format.proofs.Members.{distinct-right}
-use Rattle.cfb_mini.proofs.cfb_mini_sectors.MiniRows.{same_index, along_stream}
+use Rattle.cfb_mini.proofs.MiniRows.{same_index, along_stream}
 use Rattle.cfb_mini.proofs.cfb_alloc.Spared.{start_past}
 
 -- ---- where a byte of the mini stream lies

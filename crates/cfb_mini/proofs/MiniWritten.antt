@@ -17,16 +17,16 @@ use Rattle.cfb_mini.specs.cfb_alloc.Alloc.{AllocatorState, HoldsTables}
 use Rattle.cfb_mini.specs.cfb_alloc.Frame.{Spares}
 use Rattle.cfb_mini.proofs.cfb_alloc.Frames.{other-chains-spared}
 use Rattle.std.proofs.lemmas.List.Elements.{Contains-append_right}
-use Rattle.cfb_mini.specs.cfb_mini_sectors.State.{MiniState, HoldsMini, IsStrictMini, bytes_of, entries_of, mini_place, mini_stream_of, root_len_of, table_of, tables_in, version_of}
-use Rattle.cfb_mini.specs.cfb_mini_sectors.Steps.{SparesMini}
-use Rattle.cfb_mini.specs.cfb_mini_sectors.Held.{with_table}
-use Rattle.cfb_mini_changes.specs.MiniSectors.{HasMiniSector}
-use Rattle.cfb_mini.proofs.cfb_mini_sectors.HeldMini.{no-tables}
-use Rattle.cfb_mini.proofs.cfb_mini_sectors.HeldSteps.{but-written, held-but}
-use Rattle.cfb_mini.proofs.cfb_mini_sectors.MiniStreams.{stream_chain}
-use Rattle.cfb_mini.proofs.cfb_mini_sectors.MiniWords.{minifat-kept}
-use Rattle.cfb_mini_changes.proofs.MiniKnown.{held-sectors, known-mini, mini_index}
-use Rattle.cfb_mini.proofs.cfb_mini_sectors.PiecePlaces.{minis_apart}
+use Rattle.cfb_mini.specs.State.{MiniState, HoldsMini, IsStrictMini, bytes_of, entries_of, mini_place, mini_stream_of, root_len_of, table_of, tables_in, version_of}
+use Rattle.cfb_mini.specs.Steps.{SparesMini}
+use Rattle.cfb_mini.specs.Held.{with_table}
+use Rattle.cfb_mini.specs.MiniSectors.{HasMiniSector}
+use Rattle.cfb_mini.proofs.HeldMini.{no-tables}
+use Rattle.cfb_mini.proofs.HeldSteps.{but-written, held-but}
+use Rattle.cfb_mini.proofs.MiniStreams.{stream_chain}
+use Rattle.cfb_mini.proofs.MiniWords.{minifat-kept}
+use Rattle.cfb_mini.proofs.MiniKnown.{held-sectors, known-mini, mini_index}
+use Rattle.cfb_mini.proofs.PiecePlaces.{minis_apart}
 use Rattle.cfb_format.proofs.Members.{Contains-here, distinct-right}
 use Rattle.cfb_format.proofs.Tests.{if_strict}
 

@@ -4,7 +4,7 @@ use Rattle.std.specs.declared.alloc.Allocator as heap
 use Rattle.cfb_format.specs.declared.medium.ReadMedium as medium
 use Rattle.cfb_mini.specs.cfb_alloc.Alloc.{AllocatorState}
 use Rattle.cfb_mini.specs.cfb_alloc.contracts.alloc.Allocator.{the_row as allocator_row}
-use Rattle.cfb_mini.specs.cfb_mini_sectors.State.{MiniState}
+use Rattle.cfb_mini.specs.State.{MiniState}
 use Rattle.cfb_mini.specs.contracts.mini_allocator.MiniAllocator.{the_row}
 
 module _ (F A : RattleType) (g : medium.Ghosts F.Denot) (h : heap.Ghosts A.Denot) where

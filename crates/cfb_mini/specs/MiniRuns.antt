@@ -2,8 +2,8 @@
 use Rattle.std.specs.Prelude.{ℕ, ◌≡◌, ◌+◌, ◌/◌, ◌%◌, ◌<◌, ◌≤◌, List, length, slice_index, Contains}
 use Rattle.cfb_format.specs.Content.{mini_sector_len}
 use Rattle.cfb_format.specs.Medium.{ChangesOnlyBytes}
-use Rattle.cfb_mini.specs.cfb_mini_sectors.State.{MiniState, bytes_of, mini_place}
-use Rattle.cfb_mini_changes.specs.MiniSectors.{HasMiniSector}
+use Rattle.cfb_mini.specs.State.{MiniState, bytes_of, mini_place}
+use Rattle.cfb_mini.specs.MiniSectors.{HasMiniSector}
 
 -- from an offset in the listed mini sector with that index on, so many bytes lie in listed ones whose numbers follow each other
 pub record IsMiniRun (numbers : List ℕ) (index offset n : ℕ) : Type 0 where

@@ -1,14 +1,14 @@
 //! How many bytes of the mini stream follow each other in the file (MS-CFB 2.4).
 ghost use Rattle.std.specs.Prelude.{◌≡◌, ℕ, ◌+◌, ◌^◌, ◌<◌, ◌≤◌, length};
 ghost use Rattle.cfb_format.specs.Content.{mini_sector_len};
-ghost use Rattle.cfb_runs.specs.Along.{IsKnown, IsListed};
-ghost use Rattle.cfb_runs.specs.Runs.{IsRun};
+ghost use Rattle.cfb_chains.specs.Along.{IsKnown, IsListed};
+ghost use Rattle.cfb_chains.specs.Runs.{IsRun};
 ghost use Rattle.cfb_mini.specs.MiniRuns.{IsMiniRun};
 
+use cfb_chains::run::run_of;
+use cfb_chains::{Allocator, count_consecutive};
 use cfb_format::consts::MINI_SECTOR_LEN;
 use cfb_format::medium::ReadMedium;
-use cfb_runs::run::run_of;
-use cfb_runs::{Allocator, count_consecutive};
 use std::alloc::Allocator as Heap;
 
 /// How many of so many bytes, from an offset in the listed mini sector with that index on, lie in listed ones whose numbers follow each

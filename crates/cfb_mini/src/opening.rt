@@ -8,13 +8,15 @@ ghost use Rattle.cfb_format.specs.Refused.{IsInvalidOrMemory};
 ghost use Rattle.cfb_mini.specs.cfb_tables.Refused.{TableRefused};
 ghost use Rattle.cfb_mini.specs.cfb_slots.Slots.{IsLeastAbove};
 ghost use Rattle.cfb_mini.specs.cfb_mini_table.MiniTable.{AcceptsMini, read_entries};
-ghost use Rattle.cfb_mini_changes.specs.Changing.{AreMinifatSectors, mini_stream_in, root_len_in};
+ghost use Rattle.cfb_mini.specs.Changing.{AreMinifatSectors, mini_stream_in, root_len_in};
 
+use cfb_directory::directory::Directory;
+use cfb_directory::least_above;
 use cfb_format::consts::{MAX_REGULAR_SECTOR, MINI_SECTOR_LEN};
 use cfb_format::error::{Detail, Error};
 use cfb_format::medium::ReadMedium;
 use cfb_format::validate::Validation;
-use cfb_mini_changes::{Directory, MiniTable, least_above};
+use cfb_mini_table::mini_table::MiniTable;
 use std::alloc::Allocator as Heap;
 
 /// What the mini sectors of a file have in memory beside its directory.

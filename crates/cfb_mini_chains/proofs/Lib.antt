@@ -1,5 +1,4 @@
 pub use Rattle.cfb_mini.proofs.cfb_sectors
-pub use Rattle.cfb_mini.proofs.cfb_table_words
 pub use Rattle.cfb_mini.proofs.cfb_alloc
 pub mod MiniChainPlaces
 pub mod MiniChainHeld

@@ -7,8 +7,8 @@ use Rattle.cfb_format.specs.declared.error.Error.TheVariants.{NotFound, AlreadyE
 use Rattle.cfb_format.specs.declared.medium.MediumFault.{MediumFault}
 use Rattle.cfb_mini_chains.specs.cfb_sectors.Sectors.{IsMediumError}
 use Rattle.cfb_tables.specs.Refused.{ChangeRefused}
-use Rattle.cfb_mini_sectors.specs.State.{MiniState}
-use Rattle.cfb_mini_sectors.specs.Steps.{StopsShort, StopsShortOrFull}
+use Rattle.cfb_mini.specs.State.{MiniState}
+use Rattle.cfb_mini.specs.Steps.{StopsShort, StopsShortOrFull}
 
 pub err_both : {T E : Type 0} (P Q R : E → Type 0) (r : Result T E) → ((e : E) → P e → Q e → R e) → IfErr r P → IfErr r Q → IfErr r R
 err_both P Q R (Ok x) f p q = tt

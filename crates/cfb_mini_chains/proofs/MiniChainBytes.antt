@@ -18,12 +18,12 @@ use Rattle.cfb_mini_chains.specs.cfb_sectors.Sectors.{SectorFile}
 use Rattle.cfb_mini_chains.proofs.cfb_alloc.ChainView.{found_chain}
 use Rattle.cfb_mini_chains.proofs.cfb_alloc.Listed.{place_once}
 use Rattle.cfb_chains.specs.declared.chain.Numbers as numbers
-use Rattle.cfb_mini_chains.proofs.cfb_table_words.Runs.{placed_once}
+use Rattle.cfb_mini_chains.proofs.cfb_alloc.Runs.{placed_once}
 use Rattle.cfb_mini_chains.specs.cfb_soundness.Places.{mini_start}
-use Rattle.cfb_mini_sectors.specs.State.{MiniState, HoldsMini, bytes_of, mini_place, mini_stream_of, table_of, version_of}
-use Rattle.cfb_mini_sectors.specs.Pieces.{AreZeros}
-use Rattle.cfb_mini_sectors.specs.Steps.{IsZeroMini, SparesMini, mini_stream_needs}
-use Rattle.cfb_mini_sectors.proofs.MiniFrames.{held-places, place-stays, shorter-place, version-place}
+use Rattle.cfb_mini.specs.State.{MiniState, HoldsMini, bytes_of, mini_place, mini_stream_of, table_of, version_of}
+use Rattle.cfb_mini.specs.Pieces.{AreZeros}
+use Rattle.cfb_mini.specs.Steps.{IsZeroMini, SparesMini, mini_stream_needs}
+use Rattle.cfb_mini.proofs.MiniFrames.{held-places, place-stays, shorter-place, version-place}
 use Rattle.cfb_mini_chains.proofs.MiniStreamBegun.{begun-distinct, begun-whole}
 use Rattle.cfb_mini.specs.MiniSectors.{ChangesFileOnly, KeepsMiniBytesBut}
 use Rattle.cfb_mini_chains.specs.LentMiniChain.{state_of, start_sector_of, ids_of, left_of, len_of, position_of, file_bytes_of, mini_sector_at, place_at, place_of, byte_of, HoldsWanted, ChangesOnlyWanted, OtherMiniSectorsStay, HasWritten, HasResized}

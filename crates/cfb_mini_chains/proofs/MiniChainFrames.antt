@@ -15,9 +15,9 @@ use Rattle.cfb_tables.proofs.Members.{in_three, first_of_three}
 use Rattle.cfb_mini_chains.specs.cfb_alloc.Frame.{Spares}
 use Rattle.cfb_mini_chains.proofs.cfb_alloc.Frames.{spares-less, spares-then}
 use Rattle.cfb_mini_chains.specs.cfb_mini_table.MiniTable.{TakesMini}
-use Rattle.cfb_mini_sectors.specs.State.{MiniState, HoldsMini, bytes_of, mini_place, mini_stream_of, table_of, tables_in, version_of}
-use Rattle.cfb_mini_sectors.specs.Steps.{BeginsSystem, GrowsFor, KeepsHeader, KeepsLimits, MovesRoot, SparesMini, mini_stream_needs, system_sectors}
-use Rattle.cfb_mini_sectors.proofs.MiniFrames.{held-places, shorter-place, spares-less as minis-less, version-place}
+use Rattle.cfb_mini.specs.State.{MiniState, HoldsMini, bytes_of, mini_place, mini_stream_of, table_of, tables_in, version_of}
+use Rattle.cfb_mini.specs.Steps.{BeginsSystem, GrowsFor, KeepsHeader, KeepsLimits, MovesRoot, SparesMini, mini_stream_needs, system_sectors}
+use Rattle.cfb_mini.proofs.MiniFrames.{held-places, shorter-place, spares-less as minis-less, version-place}
 use Rattle.cfb_mini_chains.proofs.MiniStreamBegun.{begun-among}
 use Rattle.cfb_mini.specs.MiniSectors.{ChangesFileOnly, KeepsDirectory, KeepsMiniBytesBut}
 use Rattle.cfb_mini_chains.specs.MiniRunsAlong.{minis_along}

@@ -7,7 +7,7 @@ use Rattle.cfb_format.specs.Bytes.{sector_len, free_sector}
 use Rattle.cfb_format.specs.Chain.{value, chain_from}
 use Rattle.cfb_mini_chains.proofs.cfb_alloc.ChainView.{found_chain}
 use Rattle.cfb_tables.proofs.ChainLemmas.{members-busy}
-use Rattle.cfb_mini_sectors.specs.State.{MiniState, HoldsMini, mini_stream_of, version_of}
+use Rattle.cfb_mini.specs.State.{MiniState, HoldsMini, mini_stream_of, version_of}
 use Rattle.cfb_format.proofs.Members.{distinct-right}
 
 -- the mini stream's sectors differ

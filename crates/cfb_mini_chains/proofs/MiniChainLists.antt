@@ -13,8 +13,8 @@ use Rattle.cfb_tables.specs.Tables.{first_or_end}
 use Rattle.cfb_tables.proofs.ListedLemmas.{last_is, last_alone}
 use Rattle.cfb_chains.proofs.ChainLists.{listed_chain}
 use Rattle.cfb_mini_chains.specs.cfb_mini_table.MiniTable.{TakesMini, MiniGivesBack}
-use Rattle.cfb_mini_sectors.specs.State.{HoldsMini, MiniState, tables_in}
-use Rattle.cfb_mini_sectors.specs.Steps.{BeginsSystem, CanGiveRoomBack, EndsNoChain, GivesRoomBack, GrowsFor, IsMeasuredMini, IsSnugMini, IsTooFewFor, KeepsSizes}
+use Rattle.cfb_mini.specs.State.{HoldsMini, MiniState, tables_in}
+use Rattle.cfb_mini.specs.Steps.{BeginsSystem, CanGiveRoomBack, EndsNoChain, GivesRoomBack, GrowsFor, IsMeasuredMini, IsSnugMini, IsTooFewFor, KeepsSizes}
 use Rattle.cfb_mini.specs.MiniSectors.{LengthensMini, ShortensMini}
 use Rattle.cfb_format.proofs.Members.{Contains-nil, Contains-one, Contains-or}
 

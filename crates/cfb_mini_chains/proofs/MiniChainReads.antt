@@ -8,7 +8,7 @@ use Rattle.cfb_format.specs.Bytes.{sector_len, sector_start}
 use Rattle.cfb_format.specs.Content.{in_file, place_in_chain, placed_from}
 use Rattle.cfb_format.specs.Medium.{part}
 use Rattle.cfb_chains.specs.ChainPlaces.{place_along}
-use Rattle.cfb_mini_sectors.specs.State.{MiniState, bytes_of, mini_place, mini_stream_of, table_of, version_of}
+use Rattle.cfb_mini.specs.State.{MiniState, bytes_of, mini_place, mini_stream_of, table_of, version_of}
 use Rattle.cfb_mini.specs.MiniSectors.{HasMiniByte, HasMiniSector, place_in_mini_sectors}
 use Rattle.cfb_mini_chains.specs.MiniRunsAlong.{StandTogether, place_along_minis}
 use Rattle.cfb_mini_chains.proofs.MiniChainPlaces.{whole_mini}

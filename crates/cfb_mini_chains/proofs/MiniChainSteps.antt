@@ -20,9 +20,9 @@ use Rattle.cfb_tables.proofs.ListedLemmas.{gained_listed}
 use Rattle.cfb_chains.specs.declared.chain.Numbers as numbers
 use Rattle.cfb_chains.proofs.ChainLists.{start_is}
 use Rattle.cfb_mini_chains.specs.cfb_mini_table.MiniTable.{TakesMini}
-use Rattle.cfb_mini_sectors.specs.State.{MiniState, HoldsMini, bytes_of, mini_place, mini_stream_of, tables_in, version_of}
-use Rattle.cfb_mini_sectors.specs.Steps.{BeginsSystem, IsNotHeld, KeepsHeader, KeepsSizes, SparesMini}
-use Rattle.cfb_mini_sectors.proofs.MiniFrames.{held-places, place-stays}
+use Rattle.cfb_mini.specs.State.{MiniState, HoldsMini, bytes_of, mini_place, mini_stream_of, tables_in, version_of}
+use Rattle.cfb_mini.specs.Steps.{BeginsSystem, IsNotHeld, KeepsHeader, KeepsSizes, SparesMini}
+use Rattle.cfb_mini.proofs.MiniFrames.{held-places, place-stays}
 use Rattle.cfb_mini.specs.MiniSectors.{ChangesFileOnly, HasMiniSector, KeepsMiniBytesBut, LengthensMini, ShortensMini}
 use Rattle.cfb_mini.proofs.MiniKnown.{held-sectors, known-mini}
 use Rattle.cfb_mini_chains.specs.LentMiniChain.{state_of, start_sector_of, ids_of, len_of, position_of, file_bytes_of, mini_sector_at, missing_of, ChangesOnlyWanted, HasMiniSectorAt, OtherMiniSectorsStay}
@@ -34,7 +34,7 @@ use Rattle.cfb_mini_chains.proofs.MiniStreamBegun.{begun-there}
 use Rattle.cfb_mini_chains.proofs.MiniChainLists.{dropped_first, dropped_more, left_busy, some_needed}
 use Rattle.cfb_mini_chains.proofs.MiniChainPlaces.{behind_header, mini_member, taken_at}
 use Rattle.cfb_format.proofs.Members.{Contains-nil, Contains-one}
-use Rattle.cfb_mini_sectors.proofs.HeldShortened.{first-of-left}
+use Rattle.cfb_mini.proofs.HeldShortened.{first-of-left}
 
 -- ---- lists
 

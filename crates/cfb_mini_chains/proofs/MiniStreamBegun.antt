@@ -9,9 +9,9 @@ use Rattle.cfb_format.specs.Bytes.{sector_len}
 use Rattle.cfb_format.specs.Content.{mini_sector_len}
 use Rattle.cfb_format.specs.Full.{rounded_up}
 use Rattle.cfb_tables.specs.Tables.{TableState}
-use Rattle.cfb_mini_sectors.specs.State.{MiniState, mini_stream_of, tables_in, version_of}
-use Rattle.cfb_mini_sectors.specs.Steps.{KeepsSizes, mini_stream_needs}
-use Rattle.cfb_mini_sectors.proofs.HeldShortened.{taken-among}
+use Rattle.cfb_mini.specs.State.{MiniState, mini_stream_of, tables_in, version_of}
+use Rattle.cfb_mini.specs.Steps.{KeepsSizes, mini_stream_needs}
+use Rattle.cfb_mini.proofs.HeldShortened.{taken-among}
 use Rattle.cfb_mini.specs.MiniSectors.{HasMiniSector}
 use Rattle.cfb_mini.proofs.MiniKnown.{mini_index}
 use Rattle.cfb_format.proofs.Members.{distinct-left}

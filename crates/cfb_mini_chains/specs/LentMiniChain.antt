@@ -11,7 +11,7 @@ use Rattle.cfb_format.specs.declared.medium.ReadMedium as medium
 use Rattle.cfb_tables.specs.Listed.{gained}
 use Rattle.cfb_mini_chains.specs.cfb_sectors.Words.{RangeStays}
 use Rattle.cfb_chains.specs.declared.chain.Numbers as numbers
-use Rattle.cfb_mini_sectors.specs.State.{MiniState, bytes_of, mini_place, table_of}
+use Rattle.cfb_mini.specs.State.{MiniState, bytes_of, mini_place, table_of}
 use Rattle.cfb_mini.specs.MiniSectors.{HasMiniByte, HasMiniSector}
 use Rattle.cfb_mini_chains.specs.declared.mini_chain.MiniChain.{MiniChain}
 use Rattle.cfb_mini.specs.contracts.mini_allocator.MiniAllocator.{the_row}

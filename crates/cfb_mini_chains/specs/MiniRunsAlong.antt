@@ -3,7 +3,7 @@ use Rattle.std.specs.Prelude.{ℕ, ◌≡◌, ◌+◌, ◌*◌, ◌/◌, ◌%◌
 use Rattle.cfb_format.specs.Content.{mini_sector_len}
 use Rattle.cfb_format.specs.Full.{rounded_up}
 use Rattle.cfb_format.specs.Medium.{ChangesOnlyBytes}
-use Rattle.cfb_mini_sectors.specs.State.{MiniState, bytes_of, mini_place}
+use Rattle.cfb_mini.specs.State.{MiniState, bytes_of, mini_place}
 use Rattle.cfb_mini.specs.MiniSectors.{HasMiniSector}
 
 -- where byte k of these mini sectors, one after the other, stands

@@ -12,9 +12,9 @@ ghost use Rattle.cfb_mini_chains.specs.cfb_sectors.Sectors.{IsRaised};
 ghost use Rattle.cfb_tables.specs.Clean.{IsUnnamed};
 ghost use Rattle.cfb_tables.specs.Listed.{gained};
 ghost use Rattle.cfb_tables.specs.Refused.{ChangeRefused, WalkRefused};
-ghost use Rattle.cfb_mini_sectors.specs.Pieces.{AreZeros};
-ghost use Rattle.cfb_mini_sectors.specs.State.{HoldsMini, bytes_of, mini_place, mini_stream_of, table_of};
-ghost use Rattle.cfb_mini_sectors.specs.Steps.{AreStartsUnnamed, IsInMiniStream, IsNotHeld, IsTooFewFor, IsZeroMini, KeepsHeader, SparesMini, StopsShort, StopsShortOrFull, system_sectors};
+ghost use Rattle.cfb_mini.specs.Pieces.{AreZeros};
+ghost use Rattle.cfb_mini.specs.State.{HoldsMini, bytes_of, mini_place, mini_stream_of, table_of};
+ghost use Rattle.cfb_mini.specs.Steps.{AreStartsUnnamed, IsInMiniStream, IsNotHeld, IsTooFewFor, IsZeroMini, KeepsHeader, SparesMini, StopsShort, StopsShortOrFull, system_sectors};
 ghost use Rattle.cfb_mini.specs.MiniSectors.{ChangesFileOnly, HasMiniByte, HasMiniSector, IsStill, KeepsDirectory, KeepsMiniBytesBut, LengthensMini, ShortensMini, place_in_mini_sectors};
 ghost use Rattle.cfb_mini_chains.specs.MiniRunsAlong.{ChangesTogether, StandTogether, minis_along, place_along_minis};
 
@@ -24,7 +24,7 @@ use cfb_format::error::{Detail, Error};
 use cfb_format::medium::{Medium, ReadMedium};
 use cfb_mini::mini_allocator::MiniAllocator;
 use cfb_mini::mini_runs::mini_run;
-use cfb_mini_sectors::pieces::are_known_minis;
+use cfb_mini::pieces::are_known_minis;
 use cfb_tables::ends::first_number;
 use std::alloc::{Allocator as Heap, Global};
 

@@ -21,7 +21,7 @@ use Rattle.cfb_reading.specs.ReadDirectory.{AcceptsDirectory}
 use Rattle.cfb_reading.specs.ReadMinifat.{AcceptsMinifat, MinifatIsMadeOfWords, WordsMakeTheMinifat}
 use Rattle.cfb_opening.specs.cfb_directory.State.{DirectoryState}
 use Rattle.cfb_opening.specs.cfb_mini_table.MiniTable.{AcceptsMini, read_entries}
-use Rattle.cfb_opening.specs.cfb_mini_sectors.State.{MiniState, parts_of}
+use Rattle.cfb_opening.specs.cfb_mini.State.{MiniState, parts_of}
 use Rattle.cfb_opening.specs.cfb_mini.Changing.{AreMinifatSectors, root_len_in}
 use Rattle.cfb_opening.specs.Acceptable.{IsAcceptable, IsRefused}
 use Rattle.cfb_opening.specs.Known.{KnowsDirectory, KnowsParts, KnowsTables, KnowsWords}

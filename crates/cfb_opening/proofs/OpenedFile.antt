@@ -16,9 +16,9 @@ use Rattle.cfb_sectors.specs.Sectors.{SectorFile}
 use Rattle.cfb_alloc.specs.Alloc.{IsMeasured}
 use Rattle.cfb_opening.specs.cfb_directory.State.{AreWritable}
 use Rattle.cfb_outline.specs.Outlines.{AcceptsOutline}
-use Rattle.cfb_opening.specs.cfb_mini_sectors.Held.{with_table}
-use Rattle.cfb_opening.specs.cfb_mini_sectors.State.{HoldsMini, IsChangeable, MiniState, bytes_of, cases_of, entries_of, reading_of, table_of, tables_in, version_of}
-use Rattle.cfb_opening.proofs.cfb_mini_sectors.HeldMini.{sound-mini-is-held}
+use Rattle.cfb_opening.specs.cfb_mini.Held.{with_table}
+use Rattle.cfb_opening.specs.cfb_mini.State.{HoldsMini, IsChangeable, MiniState, bytes_of, cases_of, entries_of, reading_of, table_of, tables_in, version_of}
+use Rattle.cfb_opening.proofs.cfb_mini.HeldMini.{sound-mini-is-held}
 use Rattle.cfb_opening.specs.Acceptable.{IsAcceptable}
 use Rattle.cfb_opening.specs.Known.{AcceptsTables}
 use Rattle.cfb_opening.specs.KnownMinis.{KnowsMinis}

@@ -8,7 +8,7 @@ use Rattle.cfb_format.specs.Header.{IfStrict}
 use Rattle.cfb_format.specs.Names.{Cases}
 use Rattle.cfb_opening.specs.cfb_tables.Tables.{AreSizes, sizes_of}
 use Rattle.cfb_reading.specs.ReadMinifat.{AcceptsMinifat}
-use Rattle.cfb_opening.specs.cfb_mini_sectors.State.{MiniState, parts_of, root_len_of, tables_in, version_of}
+use Rattle.cfb_opening.specs.cfb_mini.State.{MiniState, parts_of, root_len_of, tables_in, version_of}
 use Rattle.cfb_opening.specs.Known.{KnowsDirectory}
 
 -- it takes all parts

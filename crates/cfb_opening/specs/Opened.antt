@@ -8,7 +8,7 @@ use Rattle.cfb_format.specs.Header.{IfStrict}
 use Rattle.cfb_format.specs.Names.{Cases}
 use Rattle.cfb_format.specs.Reading.{IsStrictFile, Reading}
 use Rattle.cfb_format.specs.Refused.{HasReason, no_error}
-use Rattle.cfb_opening.specs.cfb_mini_sectors.State.{MiniState, bytes_of, cases_of, table_of, tables_in}
+use Rattle.cfb_opening.specs.cfb_mini.State.{MiniState, bytes_of, cases_of, table_of, tables_in}
 use Rattle.cfb_agreement.specs.Files.{Holds}
 use Rattle.cfb_opening.specs.Acceptable.{IsAcceptable, IsRefused}
 

@@ -9,7 +9,7 @@ ghost use Rattle.cfb_format.specs.Soundness.{IsSound, mini_owner, owner};
 ghost use Rattle.cfb_flaws.specs.Each.{AnswersEach};
 ghost use Rattle.cfb_flaws.specs.Flaws.{Holds, raw_of};
 ghost use Rattle.cfb_flaws.specs.Owners.{AreKept, AreOwners};
-ghost use Rattle.cfb_opening.specs.cfb_mini_sectors.State.{entries_of, reading_of, table_of, version_of};
+ghost use Rattle.cfb_opening.specs.cfb_mini.State.{entries_of, reading_of, table_of, version_of};
 ghost use Rattle.cfb_opening.specs.ReadFile.{IsRead};
 
 use crate::streams::stream_numbers;

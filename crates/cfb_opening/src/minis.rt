@@ -4,7 +4,7 @@ ghost use Rattle.cfb_format.specs.declared.header.Header.{Header as HeaderOf};
 ghost use Rattle.cfb_format.specs.Header.{IfStrict};
 ghost use Rattle.cfb_format.specs.Reading.{IsStrictCount};
 ghost use Rattle.cfb_format.specs.Refused.{IsInvalidData};
-ghost use Rattle.cfb_opening.specs.cfb_mini_sectors.State.{cases_of, table_of};
+ghost use Rattle.cfb_opening.specs.cfb_mini.State.{cases_of, table_of};
 ghost use Rattle.cfb_reading.specs.PartRefused.{PartRefused};
 ghost use Rattle.cfb_opening.specs.Acceptable.{IsRefused};
 ghost use Rattle.cfb_opening.specs.Known.{KnowsDirectory, KnowsWords};

@@ -1,7 +1,7 @@
 //! Opening a compound file of any shape (MS-CFB 2.2 to 2.6).
 ghost use Rattle.std.specs.Prelude.{◌≡◌, false, min, IsTrue, IfErr, IfOk, MatchResult};
 ghost use Rattle.cfb_format.specs.Bytes.{max_regular_sector};
-ghost use Rattle.cfb_opening.specs.cfb_mini_sectors.State.{cases_of, table_of, tables_in};
+ghost use Rattle.cfb_opening.specs.cfb_mini.State.{cases_of, table_of, tables_in};
 ghost use Rattle.cfb_opening.specs.Opened.{IsOfOpening, IsOpened, OpeningRefused};
 
 use crate::minis::{Minis, open_minis};

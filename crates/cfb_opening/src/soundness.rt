@@ -6,7 +6,7 @@ ghost use Rattle.cfb_format.specs.Names.{Cases};
 ghost use Rattle.cfb_format.specs.Reading.{IsOutline, Outline};
 ghost use Rattle.cfb_format.specs.Refused.{IsMemory};
 ghost use Rattle.cfb_format.specs.Soundness.{IsSound};
-ghost use Rattle.cfb_opening.specs.cfb_mini_sectors.State.{entries_of, reading_of};
+ghost use Rattle.cfb_opening.specs.cfb_mini.State.{entries_of, reading_of};
 ghost use Rattle.cfb_opening.specs.KnownMinis.{KnowsMinis};
 
 use crate::streams::stream_numbers;

@@ -13,9 +13,9 @@ use Rattle.cfb_places.specs.cfb_rules.Finding.{last_name, parent_names}
 use Rattle.cfb_places.specs.cfb_siblings.Painted.{times_in}
 use Rattle.cfb_places.proofs.cfb_siblings.NameFacts.{same-itself}
 use Rattle.cfb_places.proofs.cfb_siblings.Tallies.{hit-same}
-use Rattle.cfb_places.specs.cfb_trees.Reached.{IsObject}
-use Rattle.cfb_places.proofs.cfb_trees.PathDown.{Down, down-after}
-use Rattle.cfb_built.specs.Copied.{Part, storage_part, stream_part, names_of, parts_in}
+use Rattle.cfb_places.specs.cfb_siblings.Reached.{IsObject}
+use Rattle.cfb_places.proofs.cfb_siblings.PathDown.{Down, down-after}
+use Rattle.cfb_places.specs.Copied.{Part, storage_part, stream_part, names_of, parts_in}
 use Rattle.cfb_places.specs.declared.walk.Place.{Place}
 use Rattle.cfb_places.specs.Places.{placed_in, places_in, number_at, parent_at}
 use Rattle.cfb_places.specs.Parts.{no_part, part_at}

@@ -15,9 +15,9 @@ use Rattle.cfb_places.specs.cfb_rules.Finding.{parent_names}
 use Rattle.cfb_places.specs.cfb_siblings.Painted.{times_in}
 use Rattle.cfb_places.specs.cfb_siblings.Children.{HasChildren}
 use Rattle.cfb_places.proofs.cfb_siblings.Tallies.{present}
-use Rattle.cfb_places.proofs.cfb_trees.Members.{reached-is-object}
-use Rattle.cfb_places.proofs.cfb_trees.PathDown.{number-down}
-use Rattle.cfb_built.specs.Copied.{names_of}
+use Rattle.cfb_places.proofs.cfb_siblings.Members.{reached-is-object}
+use Rattle.cfb_places.proofs.cfb_siblings.PathDown.{number-down}
+use Rattle.cfb_places.specs.Copied.{names_of}
 use Rattle.cfb_places.specs.declared.walk.Place.{Place}
 use Rattle.cfb_places.specs.Places.{placed_in, places_in, places_of, number_at, parent_at, storage_number}
 use Rattle.cfb_places.specs.Parts.{StandsAtPlace, part_at, tree_parts}

@@ -8,7 +8,7 @@ use Rattle.cfb_format.specs.Siblings.{entry_at}
 use Rattle.cfb_format.specs.Reading.{Outline, IsOutline, numbers}
 use Rattle.cfb_format.specs.Tree.{AreWhole, IsOrdered}
 use Rattle.cfb_places.specs.cfb_siblings.Children.{HasChildren}
-use Rattle.cfb_objects.specs.Objects.{tree_from}
+use Rattle.cfb_listing.specs.Objects.{tree_from}
 use Rattle.cfb_places.specs.declared.walk.Place.{Place}
 use Rattle.cfb_places.specs.Places.{number_at, parent_at, places_of, storage_number}
 use Rattle.cfb_places.specs.Parts.{StandsAtPlace, tree_parts}

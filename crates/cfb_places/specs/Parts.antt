@@ -8,9 +8,9 @@ use Rattle.cfb_format.specs.Reading.{Outline, numbers}
 use Rattle.cfb_format.specs.Meaning.{storage_info, stream_info}
 use Rattle.cfb_places.specs.cfb_rules.Finding.{last_name, parent_names}
 use Rattle.cfb_places.specs.cfb_siblings.Paths.{number_from}
-use Rattle.cfb_places.specs.cfb_trees.Reached.{IsObject}
-use Rattle.cfb_objects.specs.Objects.{tree_from}
-use Rattle.cfb_built.specs.Copied.{Part, storage_part, stream_part, names_of, parts_in}
+use Rattle.cfb_places.specs.cfb_siblings.Reached.{IsObject}
+use Rattle.cfb_listing.specs.Objects.{tree_from}
+use Rattle.cfb_places.specs.Copied.{Part, storage_part, stream_part, names_of, parts_in}
 use Rattle.cfb_places.specs.Places.{number_at, parent_at, places_of}
 
 -- no part stands past the end

@@ -29,7 +29,7 @@ use Rattle.cfb_content.proofs.cfb_soundness.Layouts.{large-lies, small-lies}
 use Rattle.cfb_content.specs.Contents.{KeepsContent, KeepsFixedHeader}
 use Rattle.cfb_content.proofs.Readable.{lies, mini-room}
 use Rattle.cfb_content.proofs.Kept.{nothing-is-moved}
-use Rattle.cfb_mini_sectors.specs.State.{HoldsMiniStream, MiniState, bytes_of, cases_of, entries_of, mini_place, parts_of, version_of}
+use Rattle.cfb_mini.specs.State.{HoldsMiniStream, MiniState, bytes_of, cases_of, entries_of, mini_place, parts_of, version_of}
 use Rattle.cfb_agreement.specs.Files.{FileState}
 use Rattle.cfb_path_changes.specs.Sparing.{SparesStreams}
 use Rattle.cfb_commands.specs.Promised.{CallKeeps, Changes, IsKeptBy, RefusesChange}

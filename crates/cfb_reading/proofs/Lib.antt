@@ -1,4 +1,4 @@
-pub use Rattle.cfb_alloc.proofs.cfb_table_words
+pub use Rattle.cfb_alloc.proofs as cfb_alloc
 pub use Rattle.cfb_alloc.proofs.cfb_tables
 pub mod PartRefusals
 pub mod SectorFileLemmas

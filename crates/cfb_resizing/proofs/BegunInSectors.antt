@@ -6,8 +6,8 @@ use Rattle.cfb_format.specs.Bytes.{sector_len}
 use Rattle.cfb_format.specs.Chain.{IsChain}
 use Rattle.cfb_sectors.specs.Sectors.{init_bytes}
 use Rattle.cfb_sectors.specs.declared.sector.SectorInit.TheVariants.{Zero}
-use Rattle.cfb_resizing.specs.cfb_table_words.Along.{AreFilledFrom}
-use Rattle.cfb_resizing.proofs.cfb_table_words.FilledSectors.{given_first, given_fresh}
+use Rattle.cfb_resizing.specs.cfb_alloc.Along.{AreFilledFrom}
+use Rattle.cfb_resizing.proofs.cfb_alloc.FilledSectors.{given_first, given_fresh}
 use Rattle.cfb_tables.specs.Listed.{gained}
 use Rattle.cfb_tables.specs.Tables.{first_or_end}
 use Rattle.cfb_tables.proofs.ListedLemmas.{end_chain}

@@ -11,8 +11,8 @@ use Rattle.cfb_tables.specs.Tables.{IsTooFew, TableState, sizes_after, sizes_of}
 use Rattle.cfb_tables.proofs.RoomLemmas.{nothing-given-back}
 use Rattle.cfb_resizing.specs.cfb_alloc.Alloc.{AllocatorState}
 use Rattle.cfb_resizing.proofs.cfb_chains.LentContent.{wanted_is}
-use Rattle.cfb_resizing.specs.cfb_mini_sectors.State.{HoldsMini, MiniState, entries_of, table_of, tables_in, version_of}
-use Rattle.cfb_resizing.specs.cfb_mini_sectors.Steps.{IsTooFewAfterFor}
+use Rattle.cfb_resizing.specs.cfb_mini.State.{HoldsMini, MiniState, entries_of, table_of, tables_in, version_of}
+use Rattle.cfb_resizing.specs.cfb_mini.Steps.{IsTooFewAfterFor}
 use Rattle.cfb_resizing.proofs.cfb_mini.MiniRoom.{refused-is-too-few}
 use Rattle.cfb_content.specs.Contents.{IsTooLongFor, len_of, mini_sectors_owned, sectors_owned}
 use Rattle.cfb_content.specs.Laws.{LacksNumbersFor}

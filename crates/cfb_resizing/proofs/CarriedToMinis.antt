@@ -26,10 +26,10 @@ use Rattle.cfb_resizing.specs.cfb_alloc.Frame.{Spares}
 use Rattle.cfb_resizing.specs.cfb_alloc.ListedChain.{Shortens}
 use Rattle.cfb_resizing.proofs.cfb_alloc.Frames.{spares-less, spares-then}
 use Rattle.cfb_resizing.specs.cfb_mini_table.MiniTable.{TakesMini}
-use Rattle.cfb_resizing.specs.cfb_mini_sectors.State.{HoldsMini, MiniState, bytes_of, mini_stream_of, table_of, tables_in, version_of}
-use Rattle.cfb_resizing.specs.cfb_mini_sectors.Steps.{GrowsFor, IsTooFewAfterFor, IsTooFewFor, KeepsLimits, KeepsMini, KeepsSystem, MovesRoot, SparesMini, StopsShortOrFull, minifat_lacks, mini_stream_lacks, system_sectors}
-use Rattle.cfb_resizing.specs.cfb_mini_sectors.Held.{with_table}
-use Rattle.cfb_resizing.proofs.cfb_mini_sectors.MiniFrames.{held-places, spares-then as mini-spares-then}
+use Rattle.cfb_resizing.specs.cfb_mini.State.{HoldsMini, MiniState, bytes_of, mini_stream_of, table_of, tables_in, version_of}
+use Rattle.cfb_resizing.specs.cfb_mini.Steps.{GrowsFor, IsTooFewAfterFor, IsTooFewFor, KeepsLimits, KeepsMini, KeepsSystem, MovesRoot, SparesMini, StopsShortOrFull, minifat_lacks, mini_stream_lacks, system_sectors}
+use Rattle.cfb_resizing.specs.cfb_mini.Held.{with_table}
+use Rattle.cfb_resizing.proofs.cfb_mini.MiniFrames.{held-places, spares-then as mini-spares-then}
 use Rattle.cfb_resizing.specs.cfb_mini.MiniSectors.{ChangesFileOnly, HasMiniSector}
 use Rattle.cfb_resizing.proofs.cfb_mini.MiniDirectory.{chains-changed}
 use Rattle.cfb_content.specs.Parts.{StandAlong}

@@ -21,13 +21,13 @@ use Rattle.cfb_resizing.specs.cfb_alloc.Frame.{Spares}
 use Rattle.cfb_resizing.specs.cfb_alloc.ListedChain.{Lengthens}
 use Rattle.cfb_resizing.proofs.cfb_alloc.Frames.{other-chains-spared, spares-then}
 use Rattle.cfb_resizing.specs.cfb_chains.ChainPlaces.{place_along}
-use Rattle.cfb_resizing.specs.cfb_mini_sectors.State.{HoldsMini, MiniState, bytes_of, mini_place, mini_stream_of, table_of, tables_in, version_of}
+use Rattle.cfb_resizing.specs.cfb_mini.State.{HoldsMini, MiniState, bytes_of, mini_place, mini_stream_of, table_of, tables_in, version_of}
 use Rattle.cfb_resizing.specs.cfb_mini_table.MiniTable.{MiniGivesBack}
-use Rattle.cfb_resizing.specs.cfb_mini_sectors.Steps.{AreStartsUnnamed, CanGiveRoomBack, GivesRoomBack, IsInMiniStream, IsSnugMini, IsZeroMini, KeepsLimits, KeepsSizes, MovesRoot, SparesMini, system_sectors}
-use Rattle.cfb_resizing.specs.cfb_mini_sectors.Held.{with_table}
-use Rattle.cfb_resizing.proofs.cfb_mini_sectors.HeldMini.{no-tables}
-use Rattle.cfb_resizing.proofs.cfb_mini_sectors.MinifatGrown.{same_listed}
-use Rattle.cfb_resizing.proofs.cfb_mini_sectors.MiniFrames.{held-places, sectors-spare, spares-then as mini-spares-then}
+use Rattle.cfb_resizing.specs.cfb_mini.Steps.{AreStartsUnnamed, CanGiveRoomBack, GivesRoomBack, IsInMiniStream, IsSnugMini, IsZeroMini, KeepsLimits, KeepsSizes, MovesRoot, SparesMini, system_sectors}
+use Rattle.cfb_resizing.specs.cfb_mini.Held.{with_table}
+use Rattle.cfb_resizing.proofs.cfb_mini.HeldMini.{no-tables}
+use Rattle.cfb_resizing.proofs.cfb_mini.MinifatGrown.{same_listed}
+use Rattle.cfb_resizing.proofs.cfb_mini.MiniFrames.{held-places, sectors-spare, spares-then as mini-spares-then}
 use Rattle.cfb_resizing.proofs.cfb_mini.MiniDirectory.{chains-changed}
 use Rattle.cfb_content.proofs.Apart.{system-busy}
 use Rattle.cfb_content.proofs.Kept.{stays-inside}
@@ -37,7 +37,7 @@ use Rattle.cfb_resizing.proofs.TurnedInMinis.{cut-settles}
 use Rattle.cfb_format.proofs.Members.{Contains-nil}
 use Rattle.cfb_format.proofs.MiniPlaces.{mini_below}
 use Rattle.cfb_tables.proofs.Refusals.{refused-as}
-use Rattle.cfb_resizing.proofs.cfb_mini_changes.MiniGrown.{held-chain}
+use Rattle.cfb_resizing.proofs.cfb_mini.MiniGrown.{held-chain}
 
 -- a change of sectors that are none of the directory's, of the MiniFAT's and of the mini stream's leaves the mini sectors
 pub apart-spares-mini : (v : Validation) (s : MiniState) (a : AllocatorState) (own : List ℕ) → HoldsMini v s → AreDisjoint (system_sectors s) own → Spares own (table_of s) a

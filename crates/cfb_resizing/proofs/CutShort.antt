@@ -10,8 +10,8 @@ use Rattle.cfb_format.specs.Full.{rounded_up}
 use Rattle.cfb_format.proofs.Unique.{IsChain-unique}
 use Rattle.cfb_tables.specs.Tables.{first_or_end}
 use Rattle.cfb_resizing.proofs.cfb_chains.LentContent.{wanted_is}
-use Rattle.cfb_resizing.specs.cfb_mini_sectors.State.{MiniState, tables_in, version_of}
-use Rattle.cfb_resizing.proofs.cfb_mini_sectors.MiniStreams.{begins}
+use Rattle.cfb_resizing.specs.cfb_mini.State.{MiniState, tables_in, version_of}
+use Rattle.cfb_resizing.proofs.cfb_mini.MiniStreams.{begins}
 use Rattle.cfb_content.specs.Contents.{len_of}
 use Rattle.cfb_content.specs.Parts.{IsWholeChain, IsWholeMiniChain}
 use Rattle.cfb_resizing.specs.Turning.{TrimsChain}

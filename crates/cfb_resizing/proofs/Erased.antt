@@ -8,9 +8,9 @@ use Rattle.cfb_tables.specs.Tables.{TableState, first_or_end}
 use Rattle.cfb_tables.proofs.ChainLemmas.{members-busy}
 use Rattle.cfb_resizing.specs.cfb_alloc.Alloc.{AllocatorState, ChangesSectors}
 use Rattle.cfb_resizing.specs.cfb_alloc.ListedChain.{Lengthens}
-use Rattle.cfb_resizing.specs.cfb_mini_sectors.Pieces.{AreZeros}
-use Rattle.cfb_resizing.specs.cfb_mini_sectors.State.{HoldsMini, MiniState, bytes_of, mini_place, tables_in, version_of}
-use Rattle.cfb_resizing.specs.cfb_mini_sectors.Steps.{KeepsSizes}
+use Rattle.cfb_resizing.specs.cfb_mini.Pieces.{AreZeros}
+use Rattle.cfb_resizing.specs.cfb_mini.State.{HoldsMini, MiniState, bytes_of, mini_place, tables_in, version_of}
+use Rattle.cfb_resizing.specs.cfb_mini.Steps.{KeepsSizes}
 use Rattle.cfb_content.specs.Contents.{mini_sectors_owned, sector_of_mini}
 use Rattle.cfb_content.proofs.Erased.{known, no-words, slots-leave-zeros, zeros-with-sector}
 use Rattle.cfb_resizing.proofs.Named.{WasNamed}

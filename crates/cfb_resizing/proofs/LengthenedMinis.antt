@@ -14,9 +14,9 @@ use Rattle.cfb_resizing.specs.cfb_alloc.Frame.{Spares}
 use Rattle.cfb_resizing.proofs.cfb_alloc.Frames.{spares-then}
 use Rattle.cfb_resizing.proofs.cfb_chains.ChainLists.{ends_among}
 use Rattle.cfb_resizing.specs.cfb_mini_table.MiniTable.{TakesMini}
-use Rattle.cfb_resizing.specs.cfb_mini_sectors.State.{HoldsMini, MiniState, bytes_of, mini_stream_of, table_of, tables_in, version_of}
-use Rattle.cfb_resizing.specs.cfb_mini_sectors.Steps.{GrowsFor, IsZeroMini, SparesMini, system_sectors}
-use Rattle.cfb_resizing.proofs.cfb_mini_sectors.MiniFrames.{held-places, spares-less as mini-spares-less, spares-then as mini-spares-then}
+use Rattle.cfb_resizing.specs.cfb_mini.State.{HoldsMini, MiniState, bytes_of, mini_stream_of, table_of, tables_in, version_of}
+use Rattle.cfb_resizing.specs.cfb_mini.Steps.{GrowsFor, IsZeroMini, SparesMini, system_sectors}
+use Rattle.cfb_resizing.proofs.cfb_mini.MiniFrames.{held-places, spares-less as mini-spares-less, spares-then as mini-spares-then}
 use Rattle.cfb_resizing.specs.cfb_mini.MiniSectors.{ChangesFileOnly, HasMiniSector, KeepsMiniBytesBut}
 use Rattle.cfb_content.specs.Contents.{mini_place_along}
 use Rattle.cfb_content.specs.Parts.{ChangesOnlyPlaces, IsThereInMinis, StandAlong}

@@ -19,7 +19,7 @@ use Rattle.cfb_resizing.specs.cfb_chains.ChainPlaces.{place_along}
 use Rattle.cfb_resizing.proofs.cfb_chains.LentContent.{wanted_is}
 use Rattle.cfb_resizing.proofs.cfb_chains.OwnWrites.{enough_by}
 use Rattle.cfb_resizing.proofs.cfb_chains.PlacedBytes.{no_more}
-use Rattle.cfb_resizing.proofs.cfb_mini_sectors.HeldMini.{no-tables}
+use Rattle.cfb_resizing.proofs.cfb_mini.HeldMini.{no-tables}
 use Rattle.cfb_content.specs.Parts.{ChangesOnlyPlaces, IsThereInSectors, StandAlong}
 use Rattle.cfb_resizing.specs.Turning.{IsPaddedAlong}
 use Rattle.cfb_resizing.proofs.Padded.{padded}

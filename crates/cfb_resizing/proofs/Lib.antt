@@ -1,13 +1,11 @@
-pub use Rattle.cfb_content.proofs.cfb_mini_changes
+pub use Rattle.cfb_content.proofs.cfb_mini
 pub use Rattle.cfb_content.proofs.cfb_rules
 pub use Rattle.cfb_tables.proofs as cfb_tables
 pub use Rattle.cfb_content.proofs.cfb_mini_table
-pub use Rattle.cfb_content.proofs.cfb_table_words
 pub use Rattle.cfb_content.proofs.cfb_alloc
 pub use Rattle.cfb_content.proofs.cfb_chains
 pub use Rattle.cfb_content.proofs.cfb_directory
-pub use Rattle.cfb_content.proofs.cfb_mini_sectors
-pub use Rattle.cfb_content.proofs.cfb_mini
+pub use Rattle.cfb_content.proofs as cfb_content
 pub mod Named
 pub mod Erased
 pub mod Turned
@@ -30,3 +28,6 @@ pub mod PutBehind
 pub mod CanGrow
 pub mod SnugMinis
 pub mod RoomLeft
+pub mod Appended
+pub mod GrownLengths
+pub mod TakenRest

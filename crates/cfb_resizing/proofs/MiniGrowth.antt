@@ -11,12 +11,12 @@ use Rattle.cfb_tables.specs.Listed.{EndsChain}
 use Rattle.cfb_tables.specs.Tables.{first_or_end}
 use Rattle.cfb_tables.proofs.ChainLemmas.{members-busy}
 use Rattle.cfb_tables.proofs.ListedLemmas.{chain_ends}
-use Rattle.cfb_resizing.specs.cfb_mini_sectors.State.{HoldsMini, MiniState, mini_stream_of, tables_in, version_of}
-use Rattle.cfb_resizing.specs.cfb_mini_sectors.Steps.{system_sectors}
+use Rattle.cfb_resizing.specs.cfb_mini.State.{HoldsMini, MiniState, mini_stream_of, tables_in, version_of}
+use Rattle.cfb_resizing.specs.cfb_mini.Steps.{system_sectors}
 use Rattle.cfb_resizing.proofs.cfb_mini.MiniKnown.{held-stream, minis-lack}
 use Rattle.cfb_format.proofs.Members.{distinct-apart}
 use Rattle.cfb_format.proofs.FullChains.{quotient_none}
-use Rattle.cfb_resizing.proofs.cfb_mini_changes.MiniGrown.{held-chain}
+use Rattle.cfb_resizing.proofs.cfb_mini.MiniGrown.{held-chain}
 
 -- a chain can go on where its end stays
 chain-goes-on : (fat sectors gone : List ℕ) → IsChain fat (first_or_end sectors) sectors → AreDisjoint sectors gone

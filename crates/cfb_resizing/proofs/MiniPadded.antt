@@ -9,9 +9,9 @@ use Rattle.cfb_format.specs.Chain.{IsChain}
 use Rattle.cfb_tables.specs.Listed.{gained}
 use Rattle.cfb_tables.specs.Tables.{first_or_end}
 use Rattle.cfb_tables.proofs.ChainLemmas.{members-busy}
-use Rattle.cfb_resizing.specs.cfb_mini_sectors.State.{HoldsMini, MiniState, bytes_of, mini_place, mini_stream_of, version_of}
-use Rattle.cfb_resizing.specs.cfb_mini_sectors.Steps.{IsZeroMini}
-use Rattle.cfb_resizing.proofs.cfb_mini_sectors.MiniFrames.{held-places, place-stays}
+use Rattle.cfb_resizing.specs.cfb_mini.State.{HoldsMini, MiniState, bytes_of, mini_place, mini_stream_of, version_of}
+use Rattle.cfb_resizing.specs.cfb_mini.Steps.{IsZeroMini}
+use Rattle.cfb_resizing.proofs.cfb_mini.MiniFrames.{held-places, place-stays}
 use Rattle.cfb_resizing.specs.cfb_mini.MiniSectors.{ChangesFileOnly, KeepsMiniBytesBut}
 use Rattle.cfb_content.specs.Contents.{mini_place_along}
 use Rattle.cfb_content.specs.Parts.{ChangesOnlyPlaces, IsThereInMinis, StandAlong}

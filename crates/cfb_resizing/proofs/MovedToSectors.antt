@@ -19,11 +19,11 @@ use Rattle.cfb_resizing.specs.cfb_chains.ChainPlaces.{place_along}
 use Rattle.cfb_resizing.proofs.cfb_chains.LentContent.{wanted_is}
 use Rattle.cfb_resizing.proofs.cfb_chains.OwnWrites.{enough_by}
 use Rattle.cfb_resizing.specs.cfb_mini_table.MiniTable.{MiniGivesBack}
-use Rattle.cfb_resizing.specs.cfb_mini_sectors.Pieces.{AreZeros}
-use Rattle.cfb_resizing.specs.cfb_mini_sectors.State.{HoldsMini, IsChangeable, MiniState, bytes_of, content_of, entries_of, mini_place, table_of, tables_in, version_of}
-use Rattle.cfb_resizing.specs.cfb_mini_sectors.Steps.{CanGiveRoomBack, IsInMiniStream, IsSnugMini, IsZeroMini, SparesMini, system_sectors}
-use Rattle.cfb_resizing.proofs.cfb_mini_sectors.HeldMini.{no-tables}
-use Rattle.cfb_resizing.proofs.cfb_mini_sectors.MiniFrames.{nothing-touched as no-mini-touched}
+use Rattle.cfb_resizing.specs.cfb_mini.Pieces.{AreZeros}
+use Rattle.cfb_resizing.specs.cfb_mini.State.{HoldsMini, IsChangeable, MiniState, bytes_of, content_of, entries_of, mini_place, table_of, tables_in, version_of}
+use Rattle.cfb_resizing.specs.cfb_mini.Steps.{CanGiveRoomBack, IsInMiniStream, IsSnugMini, IsZeroMini, SparesMini, system_sectors}
+use Rattle.cfb_resizing.proofs.cfb_mini.HeldMini.{no-tables}
+use Rattle.cfb_resizing.proofs.cfb_mini.MiniFrames.{nothing-touched as no-mini-touched}
 use Rattle.cfb_resizing.specs.cfb_mini.MiniSectors.{IsStill}
 use Rattle.cfb_content.specs.Contents.{IsStreamOf, KeepsOthers, len_of, mini_place_along, mini_sectors_owned, sector_of_mini}
 use Rattle.cfb_content.specs.Laws.{LacksNumbersFor}

@@ -23,10 +23,10 @@ use Rattle.cfb_resizing.specs.cfb_soundness.Places.{mini_start}
 use Rattle.cfb_resizing.specs.cfb_entries.declared.fields.Fields.{Fields}
 use Rattle.cfb_resizing.specs.cfb_entries.Fields.{entries_with_fields, entry_with_fields, fields_in}
 use Rattle.cfb_resizing.proofs.cfb_directory.ChangedFields.{changed_beside, changed_here, changed_length}
-use Rattle.cfb_resizing.specs.cfb_mini_sectors.State.{HoldsMini, IsChangeable, MiniState, bytes_of, cases_of, entries_of, mini_place, mini_stream_of, parts_of, table_of, tables_in, version_of}
-use Rattle.cfb_resizing.specs.cfb_mini_sectors.Steps.{KeepsLimits, KeepsMini, KeepsSystem, SettlesRoom, mini_stream_needs, minifat_needs}
-use Rattle.cfb_resizing.proofs.cfb_mini_sectors.HeldMini.{no-tables}
-use Rattle.cfb_resizing.proofs.cfb_mini_sectors.MiniStreams.{chain-is-stream, stream-chain}
+use Rattle.cfb_resizing.specs.cfb_mini.State.{HoldsMini, IsChangeable, MiniState, bytes_of, cases_of, entries_of, mini_place, mini_stream_of, parts_of, table_of, tables_in, version_of}
+use Rattle.cfb_resizing.specs.cfb_mini.Steps.{KeepsLimits, KeepsMini, KeepsSystem, SettlesRoom, mini_stream_needs, minifat_needs}
+use Rattle.cfb_resizing.proofs.cfb_mini.HeldMini.{no-tables}
+use Rattle.cfb_resizing.proofs.cfb_mini.MiniStreams.{chain-is-stream, stream-chain}
 use Rattle.cfb_resizing.proofs.cfb_mini.WholeFiles.{same-whole}
 use Rattle.cfb_content.specs.Changed.{MovesAlone, StaysTidy}
 use Rattle.cfb_content.specs.Contents.{IsStreamOf, KeepsContent, KeepsOthers, MovesContent, sectors_owned}
@@ -40,7 +40,7 @@ use Rattle.cfb_content.proofs.StreamEntry.{stream-inside, stream-is-stream}
 use Rattle.cfb_resizing.specs.Turning.{KeepsAround}
 use Rattle.cfb_format.proofs.Members.{distinct-apart}
 use Rattle.cfb_format.proofs.MiniPlaces.{mini_below}
-use Rattle.cfb_resizing.proofs.cfb_mini_changes.MiniExtended.{header-whole, limits-then}
+use Rattle.cfb_resizing.proofs.cfb_mini.MiniExtended.{header-whole, limits-then}
 use Rattle.cfb_format.proofs.Slots.{in-version}
 
 -- ---- the entry of a stream

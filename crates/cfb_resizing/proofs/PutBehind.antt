@@ -13,9 +13,9 @@ use Rattle.cfb_resizing.specs.cfb_rules.StreamCalls.{resized}
 use Rattle.cfb_tables.specs.Changes.{NoneFree}
 use Rattle.cfb_tables.specs.Refused.{ChangeRefused}
 use Rattle.cfb_tables.specs.Tables.{AreExactTables, TableState}
-use Rattle.cfb_resizing.specs.cfb_mini_sectors.State.{HoldsMini, MiniState, bytes_of, entries_of, table_of, tables_in}
-use Rattle.cfb_resizing.specs.cfb_mini_sectors.Steps.{KeepsLimits}
-use Rattle.cfb_resizing.specs.cfb_mini_sectors.Held.{with_table}
+use Rattle.cfb_resizing.specs.cfb_mini.State.{HoldsMini, MiniState, bytes_of, entries_of, table_of, tables_in}
+use Rattle.cfb_resizing.specs.cfb_mini.Steps.{KeepsLimits}
+use Rattle.cfb_resizing.specs.cfb_mini.Held.{with_table}
 use Rattle.cfb_resizing.specs.cfb_mini.MiniSectors.{IsStill}
 use Rattle.cfb_resizing.proofs.cfb_mini.WholeFiles.{same-whole}
 use Rattle.cfb_content.specs.Changed.{MovesAlone, StaysTidy}

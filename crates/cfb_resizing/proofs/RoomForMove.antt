@@ -17,10 +17,10 @@ use Rattle.cfb_tables.proofs.ListedLemmas.{end_chain}
 use Rattle.cfb_tables.proofs.RoomLemmas.{more-is-too-few}
 use Rattle.cfb_resizing.specs.cfb_alloc.ListedChain.{CanShorten}
 use Rattle.cfb_resizing.specs.cfb_directory.Growing.{IsListedChain}
-use Rattle.cfb_resizing.specs.cfb_mini_sectors.Giving.{CanGiveBack}
-use Rattle.cfb_resizing.specs.cfb_mini_sectors.State.{MiniState, mini_stream_of, tables_in, version_of}
-use Rattle.cfb_resizing.specs.cfb_mini_sectors.Steps.{CanGiveRoomBack}
-use Rattle.cfb_resizing.proofs.cfb_mini_sectors.ListedChains.{chains-apart}
+use Rattle.cfb_resizing.specs.cfb_mini.Giving.{CanGiveBack}
+use Rattle.cfb_resizing.specs.cfb_mini.State.{MiniState, mini_stream_of, tables_in, version_of}
+use Rattle.cfb_resizing.specs.cfb_mini.Steps.{CanGiveRoomBack}
+use Rattle.cfb_resizing.proofs.cfb_mini.ListedChains.{chains-apart}
 use Rattle.cfb_content.specs.Room.{minifat_len_left, room_given}
 use Rattle.cfb_content.proofs.Freed.{freed-length, freed-permuted}
 use Rattle.cfb_content.proofs.RoomGiven.{given-is-counted, more-given, room-some}

@@ -20,10 +20,10 @@ use Rattle.cfb_tables.proofs.RoomLemmas.{more-is-too-few, nothing-given-back, ro
 use Rattle.cfb_resizing.specs.cfb_alloc.ListedChain.{Lengthens}
 use Rattle.cfb_resizing.specs.cfb_mini_table.MiniTable.{MiniGivesBack, SameValues, TakesMini, trimmed}
 use Rattle.cfb_resizing.proofs.cfb_mini_table.EndLemmas.{busy-same, trimmed-busy, trimmed-shorter, trimmed-values}
-use Rattle.cfb_resizing.specs.cfb_mini_sectors.State.{HoldsMini, MiniState, entries_of, mini_stream_of, table_of, tables_in, version_of}
-use Rattle.cfb_resizing.specs.cfb_mini_sectors.Steps.{GivesRoomBack, GrowsFor, IsSnugMini, IsTooFewAfterFor, IsTooFewFor, KeepsLimits, KeepsMini, KeepsSizes, KeepsSystem, SettlesRoom, minifat_lacks, minifat_needs, mini_stream_lacks, mini_stream_needs}
-use Rattle.cfb_resizing.proofs.cfb_mini_sectors.BothGrown.{of_ends, some_end}
-use Rattle.cfb_resizing.proofs.cfb_mini_sectors.RoomInTurn.{minis-in-turn}
+use Rattle.cfb_resizing.specs.cfb_mini.State.{HoldsMini, MiniState, entries_of, mini_stream_of, table_of, tables_in, version_of}
+use Rattle.cfb_resizing.specs.cfb_mini.Steps.{GivesRoomBack, GrowsFor, IsSnugMini, IsTooFewAfterFor, IsTooFewFor, KeepsLimits, KeepsMini, KeepsSizes, KeepsSystem, SettlesRoom, minifat_lacks, minifat_needs, mini_stream_lacks, mini_stream_needs}
+use Rattle.cfb_resizing.proofs.cfb_mini.BothGrown.{of_ends, some_end}
+use Rattle.cfb_resizing.proofs.cfb_mini.RoomInTurn.{minis-in-turn}
 use Rattle.cfb_resizing.proofs.cfb_mini.MiniGiven.{held-can}
 use Rattle.cfb_resizing.proofs.cfb_mini.MiniKnown.{held-stream}
 use Rattle.cfb_resizing.proofs.cfb_mini.MiniRoom.{nothing-back}

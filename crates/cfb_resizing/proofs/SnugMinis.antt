@@ -6,9 +6,9 @@ use Rattle.cfb_format.specs.Siblings.{entry_at}
 use Rattle.cfb_tables.specs.Listed.{ends_of, gained}
 use Rattle.cfb_resizing.specs.cfb_alloc.Alloc.{AllocatorState}
 use Rattle.cfb_resizing.specs.cfb_mini_table.MiniTable.{TakesMini}
-use Rattle.cfb_resizing.specs.cfb_mini_sectors.State.{HoldsMini, MiniState, entries_of, root_len_of, table_of, version_of}
-use Rattle.cfb_resizing.specs.cfb_mini_sectors.Steps.{GrowsFor, IsMeasuredMini, IsSnugMini, KeepsLimits}
-use Rattle.cfb_resizing.specs.cfb_mini_sectors.Held.{with_table}
+use Rattle.cfb_resizing.specs.cfb_mini.State.{HoldsMini, MiniState, entries_of, root_len_of, table_of, version_of}
+use Rattle.cfb_resizing.specs.cfb_mini.Steps.{GrowsFor, IsMeasuredMini, IsSnugMini, KeepsLimits}
+use Rattle.cfb_resizing.specs.cfb_mini.Held.{with_table}
 use Rattle.cfb_resizing.specs.cfb_mini.MiniSectors.{ChangesFileOnly}
 use Rattle.cfb_resizing.proofs.Tightness.{file-mini}
 use Rattle.cfb_content.specs.Changed.{FreesMini}

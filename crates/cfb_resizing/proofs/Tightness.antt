@@ -15,9 +15,9 @@ use Rattle.cfb_tables.proofs.Members.{first_of_three}
 use Rattle.cfb_tables.proofs.TakenLemmas.{taken-busy}
 use Rattle.cfb_resizing.specs.cfb_alloc.Alloc.{AllocatorState}
 use Rattle.cfb_resizing.specs.cfb_alloc.ListedChain.{Lengthens, Shortens}
-use Rattle.cfb_resizing.specs.cfb_mini_sectors.State.{MiniState, entries_of, mini_stream_of, tables_in}
-use Rattle.cfb_resizing.specs.cfb_mini_sectors.Steps.{GrowsFor, KeepsMini, KeepsSizes, KeepsSystem, system_sectors}
-use Rattle.cfb_resizing.specs.cfb_mini_sectors.Held.{with_table}
+use Rattle.cfb_resizing.specs.cfb_mini.State.{MiniState, entries_of, mini_stream_of, tables_in}
+use Rattle.cfb_resizing.specs.cfb_mini.Steps.{GrowsFor, KeepsMini, KeepsSizes, KeepsSystem, system_sectors}
+use Rattle.cfb_resizing.specs.cfb_mini.Held.{with_table}
 use Rattle.cfb_resizing.specs.cfb_mini.MiniSectors.{ChangesFileOnly}
 use Rattle.cfb_content.specs.Contents.{len_of, mini_sectors_owned, sectors_owned}
 use Rattle.cfb_content.proofs.Owned.{empty-owns-nothing}

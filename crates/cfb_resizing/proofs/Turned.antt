@@ -23,8 +23,8 @@ use Rattle.cfb_tables.proofs.ChainLemmas.{members-busy}
 use Rattle.cfb_resizing.specs.cfb_alloc.ListedChain.{Lengthens, Shortens}
 use Rattle.cfb_resizing.specs.cfb_chains.ChainPlaces.{place_along}
 use Rattle.cfb_resizing.specs.cfb_mini_table.MiniTable.{MiniGivesBack, TakesMini}
-use Rattle.cfb_resizing.specs.cfb_mini_sectors.State.{HoldsMini, MiniState, bytes_of, content_of, entries_of, mini_stream_of, parts_of, tables_in, version_of, IsChangeable}
-use Rattle.cfb_resizing.specs.cfb_mini_sectors.Steps.{IsInMiniStream, IsZeroMini, IsSnugMini}
+use Rattle.cfb_resizing.specs.cfb_mini.State.{HoldsMini, MiniState, bytes_of, content_of, entries_of, mini_stream_of, parts_of, tables_in, version_of, IsChangeable}
+use Rattle.cfb_resizing.specs.cfb_mini.Steps.{IsInMiniStream, IsZeroMini, IsSnugMini}
 use Rattle.cfb_content.specs.Contents.{SizesChain, ErasesMinis, IsTooLongFor, WipesMinis, len_of, mini_place_along, mini_sectors_owned, sector_of_mini, sectors_owned, AreAllUsed, LosesNone}
 use Rattle.cfb_content.specs.Laws.{StandsResized}
 use Rattle.cfb_content.specs.Uses.{ChangesContent, ChangesUse, Owns}

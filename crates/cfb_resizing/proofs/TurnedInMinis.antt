@@ -20,14 +20,14 @@ use Rattle.cfb_tables.proofs.ListedLemmas.{end_chain}
 use Rattle.cfb_tables.proofs.RoomLemmas.{nothing-given-back}
 use Rattle.cfb_resizing.proofs.cfb_chains.ChainContent.{taken_index}
 use Rattle.cfb_resizing.specs.cfb_mini_table.MiniTable.{MiniGivesBack, TakesMini}
-use Rattle.cfb_resizing.specs.cfb_mini_sectors.State.{HoldsMini, IsChangeable, MiniState, bytes_of, content_of, entries_of, mini_place, mini_stream_of, table_of, tables_in, version_of}
-use Rattle.cfb_resizing.specs.cfb_mini_sectors.Steps.{BeginsSystem, CanGiveRoomBack, GivesRoomBack, GrowsFor, IsInMiniStream, IsNotHeld, IsSnugMini, IsTooFewAfterFor, IsTooFewFor, IsZeroMini, KeepsMini, KeepsSystem, SettlesRoom, SparesMini, minifat_lacks, minifat_len_with, mini_stream_lacks, system_sectors}
-use Rattle.cfb_resizing.proofs.cfb_mini_sectors.HeldShortened.{taken-among}
-use Rattle.cfb_resizing.proofs.cfb_mini_sectors.MiniFrames.{held-places, shorter-place, version-place}
-use Rattle.cfb_resizing.proofs.cfb_mini_sectors.MiniStreams.{begins}
+use Rattle.cfb_resizing.specs.cfb_mini.State.{HoldsMini, IsChangeable, MiniState, bytes_of, content_of, entries_of, mini_place, mini_stream_of, table_of, tables_in, version_of}
+use Rattle.cfb_resizing.specs.cfb_mini.Steps.{BeginsSystem, CanGiveRoomBack, GivesRoomBack, GrowsFor, IsInMiniStream, IsNotHeld, IsSnugMini, IsTooFewAfterFor, IsTooFewFor, IsZeroMini, KeepsMini, KeepsSystem, SettlesRoom, SparesMini, minifat_lacks, minifat_len_with, mini_stream_lacks, system_sectors}
+use Rattle.cfb_resizing.proofs.cfb_mini.HeldShortened.{taken-among}
+use Rattle.cfb_resizing.proofs.cfb_mini.MiniFrames.{held-places, shorter-place, version-place}
+use Rattle.cfb_resizing.proofs.cfb_mini.MiniStreams.{begins}
 use Rattle.cfb_resizing.specs.cfb_alloc.Alloc.{AllocatorState}
 use Rattle.cfb_resizing.specs.cfb_alloc.Frame.{Spares}
-use Rattle.cfb_resizing.specs.cfb_mini_sectors.Pieces.{AreZeros, HasMini, HaveMinis}
+use Rattle.cfb_resizing.specs.cfb_mini.Pieces.{AreZeros, HasMini, HaveMinis}
 use Rattle.cfb_resizing.specs.cfb_mini.MiniSectors.{HasMiniSector, KeepsMiniBytesBut}
 use Rattle.cfb_resizing.proofs.cfb_mini.MiniGiven.{held-can}
 use Rattle.cfb_resizing.proofs.cfb_mini.MiniKnown.{has-mini, held-stream, mini-has}

@@ -25,11 +25,11 @@ use Rattle.cfb_resizing.proofs.cfb_alloc.HeldOrder.{held-usable}
 use Rattle.cfb_resizing.specs.cfb_chains.ChainPlaces.{place_along}
 use Rattle.cfb_resizing.proofs.cfb_chains.LentContent.{wanted_is}
 use Rattle.cfb_resizing.proofs.cfb_chains.PlacedBytes.{kept_there, left_place}
-use Rattle.cfb_resizing.specs.cfb_mini_sectors.State.{HoldsMini, IsChangeable, MiniState, bytes_of, content_of, entries_of, table_of, tables_in, version_of}
-use Rattle.cfb_resizing.specs.cfb_mini_sectors.Steps.{system_sectors}
-use Rattle.cfb_resizing.specs.cfb_mini_sectors.Held.{with_table}
-use Rattle.cfb_resizing.proofs.cfb_mini_sectors.HeldMini.{no-tables}
-use Rattle.cfb_resizing.proofs.cfb_mini_sectors.MiniStreams.{begins}
+use Rattle.cfb_resizing.specs.cfb_mini.State.{HoldsMini, IsChangeable, MiniState, bytes_of, content_of, entries_of, table_of, tables_in, version_of}
+use Rattle.cfb_resizing.specs.cfb_mini.Steps.{system_sectors}
+use Rattle.cfb_resizing.specs.cfb_mini.Held.{with_table}
+use Rattle.cfb_resizing.proofs.cfb_mini.HeldMini.{no-tables}
+use Rattle.cfb_resizing.proofs.cfb_mini.MiniStreams.{begins}
 use Rattle.cfb_resizing.proofs.cfb_mini.MiniDirectory.{chains-changed}
 use Rattle.cfb_content.specs.Contents.{IsNotChangeable, IsStreamOf, KeepsOthers, len_of, mini_sectors_owned, sectors_owned}
 use Rattle.cfb_content.specs.Laws.{LacksNumbersFor}

@@ -18,9 +18,9 @@ use Rattle.cfb_resizing.specs.cfb_alloc.Frame.{table_sectors}
 use Rattle.cfb_resizing.specs.cfb_alloc.ListedChain.{Lengthens, Shortens}
 use Rattle.cfb_resizing.specs.cfb_chains.ChainPlaces.{place_along}
 use Rattle.cfb_resizing.specs.cfb_mini_table.MiniTable.{MiniGivesBack, TakesMini}
-use Rattle.cfb_resizing.specs.cfb_mini_sectors.Pieces.{AreZeros}
-use Rattle.cfb_resizing.specs.cfb_mini_sectors.State.{HoldsMini, IsChangeable, MiniState, bytes_of, content_of, entries_of, mini_place, parts_of, table_of, tables_in, version_of}
-use Rattle.cfb_resizing.specs.cfb_mini_sectors.Steps.{AreStartsUnnamed, GrowsFor, IsInMiniStream, IsSnugMini, IsZeroMini, KeepsLimits, KeepsMini, KeepsSystem, MovesRoot, SettlesRoom, system_sectors}
+use Rattle.cfb_resizing.specs.cfb_mini.Pieces.{AreZeros}
+use Rattle.cfb_resizing.specs.cfb_mini.State.{HoldsMini, IsChangeable, MiniState, bytes_of, content_of, entries_of, mini_place, parts_of, table_of, tables_in, version_of}
+use Rattle.cfb_resizing.specs.cfb_mini.Steps.{AreStartsUnnamed, GrowsFor, IsInMiniStream, IsSnugMini, IsZeroMini, KeepsLimits, KeepsMini, KeepsSystem, MovesRoot, SettlesRoom, system_sectors}
 use Rattle.cfb_resizing.specs.cfb_mini.MiniSectors.{IsStill}
 use Rattle.cfb_content.specs.Changed.{StaysTidy}
 use Rattle.cfb_content.specs.Contents.{ErasesMinis, IsTooLongFor, WipesMinis, len_of, mini_place_along, mini_sectors_owned, sector_of_mini, sectors_owned}

@@ -16,9 +16,9 @@ ghost use Rattle.cfb_resizing.specs.cfb_alloc.Alloc.{ChangesSectors, HoldsTables
 ghost use Rattle.cfb_resizing.specs.cfb_alloc.Frame.{Spares};
 ghost use Rattle.cfb_resizing.specs.cfb_alloc.ListedChain.{Lengthens};
 ghost use Rattle.cfb_resizing.specs.cfb_chains.ChainPlaces.{place_along};
-ghost use Rattle.cfb_resizing.specs.cfb_mini_sectors.Pieces.{AreZeros};
-ghost use Rattle.cfb_resizing.specs.cfb_mini_sectors.State.{HoldsMini, bytes_of, mini_place, mini_stream_of, table_of, tables_in, version_of};
-ghost use Rattle.cfb_resizing.specs.cfb_mini_sectors.Steps.{IsInMiniStream, IsNotHeld, IsSnugMini, IsTooFewAfterFor, IsZeroMini, KeepsHeader, SparesMini, system_sectors};
+ghost use Rattle.cfb_resizing.specs.cfb_mini.Pieces.{AreZeros};
+ghost use Rattle.cfb_resizing.specs.cfb_mini.State.{HoldsMini, bytes_of, mini_place, mini_stream_of, table_of, tables_in, version_of};
+ghost use Rattle.cfb_resizing.specs.cfb_mini.Steps.{IsInMiniStream, IsNotHeld, IsSnugMini, IsTooFewAfterFor, IsZeroMini, KeepsHeader, SparesMini, system_sectors};
 ghost use Rattle.cfb_resizing.specs.cfb_mini.MiniSectors.{IsStill, IsOfWholeSectors};
 ghost use Rattle.cfb_content.specs.Changed.{SparesOthers};
 ghost use Rattle.cfb_content.specs.Contents.{IsNotChangeable, IsStreamOf, len_of, mini_place_along, sector_of_mini};
@@ -415,7 +415,7 @@ fn joined_or<'a>(joined: &'a [u8], bytes: &'a [u8]) -> &'a [u8]
 /// Moves a stream from mini sectors into sectors, with these bytes behind what it has and zeros behind them up to `size` bytes, and answers
 /// where it starts then: its sectors hold all of that from the first write on. What comes free with its mini sectors serves the sectors that it
 /// takes. Its chain is kept.
-pub fn move_with<F: Medium, A: Heap + Clone>(
+pub(crate) fn move_with<F: Medium, A: Heap + Clone>(
     mini: &mut MiniAllocator<F, A>,
     entry: u32,
     size: u64,

@@ -10,8 +10,8 @@ ghost use Rattle.cfb_tables.specs.Refused.{ChangeRefused};
 ghost use Rattle.cfb_resizing.specs.cfb_alloc.Frame.{Spares};
 ghost use Rattle.cfb_resizing.specs.cfb_directory.Growing.{ArePlaced};
 ghost use Rattle.cfb_resizing.specs.cfb_directory.Steps.{KeepsOtherSectors, KeepsWholeHeader};
-ghost use Rattle.cfb_resizing.specs.cfb_mini_sectors.State.{HoldsMini, entries_of, table_of, tables_in, version_of};
-ghost use Rattle.cfb_resizing.specs.cfb_mini_sectors.Steps.{KeepsLimits, KeepsMini, KeepsSystem};
+ghost use Rattle.cfb_resizing.specs.cfb_mini.State.{HoldsMini, entries_of, table_of, tables_in, version_of};
+ghost use Rattle.cfb_resizing.specs.cfb_mini.Steps.{KeepsLimits, KeepsMini, KeepsSystem};
 ghost use Rattle.cfb_resizing.specs.cfb_mini.MiniSectors.{IsStill};
 ghost use Rattle.cfb_content.specs.Changed.{MovesAlone, SparesOthers, WasChanged};
 ghost use Rattle.cfb_content.specs.Contents.{IsNotChangeable, IsStreamOf, IsTooLongFor, MovesContent, len_of};
@@ -30,7 +30,7 @@ use cfb_format::medium::{Medium, ReadMedium};
 use std::alloc::Allocator as Heap;
 
 /// A refusal of an entry that has no slot in the file.
-pub fn unplaced(entry: u32) -> Error
+pub(crate) fn unplaced(entry: u32) -> Error
     ensures { IsInvalidData result }
 {
     Error::InvalidData(Detail::number("directory entry with no slot", entry as u64))
@@ -222,7 +222,7 @@ fn turn<F: Medium, A: Heap + Clone>(
 }
 
 /// Gives the entry of a stream this start and this length, and writes its slot. `Medium` where the medium fails.
-pub fn name_content<F: Medium, A: Heap>(
+pub(crate) fn name_content<F: Medium, A: Heap>(
     mini: &mut MiniAllocator<F, A>,
     entry: u32,
     start: u32,

@@ -10,8 +10,8 @@ ghost use Rattle.cfb_format.specs.Full.{freed};
 ghost use Rattle.cfb_format.specs.Refused.{IsInvalidData};
 ghost use Rattle.cfb_tables.specs.Refused.{ChangeRefused};
 ghost use Rattle.cfb_tables.specs.Room.{IsTooFewAfter};
-ghost use Rattle.cfb_resizing.specs.cfb_mini_sectors.State.{mini_stream_of, tables_in};
-ghost use Rattle.cfb_resizing.specs.cfb_mini_sectors.Steps.{CanGiveRoomBack, IsNotHeld};
+ghost use Rattle.cfb_resizing.specs.cfb_mini.State.{mini_stream_of, tables_in};
+ghost use Rattle.cfb_resizing.specs.cfb_mini.Steps.{CanGiveRoomBack, IsNotHeld};
 ghost use Rattle.cfb_content.specs.Contents.{IsNotChangeable, IsStreamOf, len_of, mini_sectors_owned};
 ghost use Rattle.cfb_content.specs.Room.{ComesFree, room_given};
 
@@ -102,7 +102,7 @@ fn check_room<F: ReadMedium, A: Heap>(mini: &MiniAllocator<F, A>) -> Result<(), 
 
 /// How many sectors come free first where the stream of that entry leaves its mini sectors for so many sectors. They are counted only where
 /// there are too few numbers without them. `InvalidData` where they cannot come free, and `Memory`.
-pub fn room_for_move<F: ReadMedium, A: Heap + Clone>(
+pub(crate) fn room_for_move<F: ReadMedium, A: Heap + Clone>(
     mini: &MiniAllocator<F, A>,
     entry: u32,
     count: usize,

@@ -12,3 +12,7 @@ pub mod ClosedFound
 pub mod CallBreaks
 pub mod Blaming
 pub mod LegalRuns
+pub mod Changes
+pub mod Ways
+pub mod Removals
+pub mod Lists

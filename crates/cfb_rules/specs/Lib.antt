@@ -9,3 +9,5 @@ pub mod StreamCalls
 pub mod Runs
 pub mod Lists
 pub mod Laws
+pub mod SequenceLaws
+pub mod SequenceLists

@@ -16,8 +16,8 @@ use Rattle.cfb_rules.specs.Calls.{EntryInfo}
 use Rattle.cfb_rules.specs.CallReplies.{walked}
 use Rattle.cfb_shown.specs.cfb_outline.Outlines.{HasInside, IsReachedStorage}
 use Rattle.cfb_outline.proofs.Insides.{storage-is-inside}
-use Rattle.cfb_walks.specs.declared.walk.Walked.{Walked}
-use Rattle.cfb_walks.specs.Walks.{lies_at, walked_from}
+use Rattle.cfb_outline.specs.declared.walk.Walked.{Walked}
+use Rattle.cfb_outline.specs.Walks.{lies_at, walked_from}
 use Rattle.cfb_shown.specs.Along.{Deepens, Fits, path_below, paths_to, told_along}
 use Rattle.cfb_shown.proofs.TreeLines.{above-own, take-within}
 

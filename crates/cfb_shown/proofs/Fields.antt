@@ -9,8 +9,8 @@ use Rattle.std.proofs.lemmas.Fmt.{decimal_by_steps}
 use Rattle.std.proofs.lemmas.List.Sums.{sum_by-append, sum_by-cons}
 use Rattle.uuid.specs.Text.{by_index, digit_place, hex_digit, hyphenated_text, is_hyphen_place, lower, nibble}
 use Rattle.uuid.specs.Parts.{is_nil_bytes}
-use Rattle.cfb_dates.specs.Moments.{moment_text}
-use Rattle.cfb_dates.proofs.Words.{moments_are_one_word}
+use Rattle.cfb_text.specs.Moments.{moment_text}
+use Rattle.cfb_text.proofs.Words.{moments_are_one_word}
 use Rattle.cfb_text.specs.Shown.{shown}
 use Rattle.cfb_text.proofs.Bytes.{shown_has_no_control}
 use Rattle.cfb_shown.specs.cfb_outline.Families.{is_stream_kind}

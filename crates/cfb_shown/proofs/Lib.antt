@@ -8,3 +8,10 @@ pub mod Trails
 pub mod Pieces
 pub mod LineTexts
 pub mod Walked
+pub mod Counts
+pub mod Joining
+pub mod Leading
+pub mod Noting
+pub mod Placing
+pub mod Texts
+pub mod True

@@ -2,7 +2,7 @@
 use Rattle.std.proofs.Common.{◌≡◌, ◌∙◌, ℕ, List, [], ◌∷◌, ◌++◌, ap, append_assoc}
 use Rattle.std.specs.Fmt.{decimal}
 use Rattle.std.specs.Str.{chars, encode_utf8_all}
-use Rattle.cfb_dates.specs.Moments.{moment_text}
+use Rattle.cfb_text.specs.Moments.{moment_text}
 use Rattle.cfb_rules.specs.Calls.{EntryInfo}
 use Rattle.cfb_text.specs.Shown.{shown}
 use Rattle.cfb_shown.specs.Rows.{bits_text, clsid_text, kind_text, row_text, tab}

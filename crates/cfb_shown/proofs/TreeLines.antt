@@ -12,8 +12,8 @@ use Rattle.cfb_format.specs.Reading.{Outline, no_more, storage_at, stream_at, si
 use Rattle.cfb_format.specs.Siblings.{entry_at}
 use Rattle.cfb_format.specs.Tree.{Objects}
 use Rattle.cfb_shown.specs.cfb_outline.Families.{is_stream_kind}
-use Rattle.cfb_walks.specs.declared.walk.Walked.{Walked}
-use Rattle.cfb_walks.specs.Walks.{is_empty, lies_at, walked_from}
+use Rattle.cfb_outline.specs.declared.walk.Walked.{Walked}
+use Rattle.cfb_outline.specs.Walks.{is_empty, lies_at, walked_from}
 use Rattle.cfb_shown.specs.Trees.{at_most_said, bytes_along, bytes_in, counts_text, entry_text, is_nothing, lead, len_said, lines_along, storage_text, storages_along, storages_in, stream_count, stream_text, streams_along, streams_in, text_for, tree_lines}
 
 -- fewer of the first

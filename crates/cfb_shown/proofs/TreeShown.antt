@@ -11,9 +11,9 @@ use Rattle.cfb_format.specs.Siblings.{entry_at}
 use Rattle.cfb_format.specs.Tree.{Objects}
 use Rattle.cfb_shown.specs.cfb_outline.Families.{is_stream_kind}
 use Rattle.cfb_shown.specs.cfb_outline.Outlines.{HasInside, IsReachedStorage}
-use Rattle.cfb_trees.specs.Reached.{IsReached}
-use Rattle.cfb_walks.specs.declared.walk.Walked.{Walked}
-use Rattle.cfb_walks.specs.Walks.{walked_from}
+use Rattle.cfb_siblings.specs.Reached.{IsReached}
+use Rattle.cfb_outline.specs.declared.walk.Walked.{Walked}
+use Rattle.cfb_outline.specs.Walks.{walked_from}
 use Rattle.cfb_shown.specs.Trees.{ShowsTree, at_most_said, bytes_along, bytes_in, counts_text, entry_text, len_said, lines_along, storage_text, storages_along, storages_in, stream_text, streams_along, streams_in, text_for, tree_lines}
 use Rattle.cfb_shown.proofs.TreeLines.{all-bytes, all-lines, all-storages, all-streams}
 

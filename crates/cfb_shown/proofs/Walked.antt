@@ -14,8 +14,8 @@ use Rattle.cfb_rules.specs.Calls.{EntryInfo}
 use Rattle.cfb_rules.specs.CallReplies.{walked}
 use Rattle.cfb_shown.specs.cfb_outline.Families.{is_stream_kind}
 use Rattle.cfb_shown.specs.cfb_outline.Outlines.{HasInside}
-use Rattle.cfb_walks.specs.declared.walk.Walked.{Walked}
-use Rattle.cfb_walks.specs.Walks.{walked_from}
+use Rattle.cfb_outline.specs.declared.walk.Walked.{Walked}
+use Rattle.cfb_outline.specs.Walks.{walked_from}
 use Rattle.cfb_shown.specs.Along.{told_along}
 use Rattle.cfb_shown.specs.Lines.{HasLinesOf, IsNotWritten, IsOfOutput, Writes, line_in}
 use Rattle.cfb_shown.specs.declared.lines.Form.{Form}

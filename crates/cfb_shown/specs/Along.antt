@@ -6,7 +6,7 @@ use Rattle.cfb_format.specs.Path.{child_path}
 use Rattle.cfb_format.specs.Siblings.{entry_at}
 use Rattle.cfb_listing.specs.Told.{entry_info}
 use Rattle.cfb_rules.specs.Calls.{EntryInfo}
-use Rattle.cfb_walks.specs.declared.walk.Walked.{Walked}
+use Rattle.cfb_outline.specs.declared.walk.Walked.{Walked}
 
 -- the path of an object of this name that lies so deep: of these paths the first is that of the storage that a walk began with
 abbrev pub path_below : (paths : List (List ℕ)) → (depth : ℕ) → (name : List ℕ) → List ℕ

@@ -4,7 +4,7 @@ use Rattle.std.specs.Fmt.{decimal, digit_glyph}
 use Rattle.std.specs.Str.{encode_utf8_all}
 use Rattle.uuid.specs.Text.{hyphenated_text, lower}
 use Rattle.uuid.specs.Parts.{is_nil_bytes}
-use Rattle.cfb_dates.specs.Moments.{moment_text}
+use Rattle.cfb_text.specs.Moments.{moment_text}
 use Rattle.cfb_format.specs.declared.objtype.ObjType.{ObjType}
 use Rattle.cfb_text.specs.Shown.{shown}
 use Rattle.cfb_rules.specs.Calls.{EntryInfo}

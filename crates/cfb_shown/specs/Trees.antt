@@ -13,7 +13,7 @@ use Rattle.cfb_text.specs.Shown.{shown}
 use Rattle.cfb_listing.specs.Listings.{OfInside}
 use Rattle.cfb_listing.specs.Reached.{Reached, reached}
 use Rattle.cfb_rules.specs.Calls.{EntryInfo}
-use Rattle.cfb_walks.specs.declared.walk.Walked.{Walked}
+use Rattle.cfb_outline.specs.declared.walk.Walked.{Walked}
 use Rattle.cfb_shown.specs.cfb_outline.Families.{is_stream_kind}
 
 -- ---- cells

@@ -9,8 +9,8 @@ ghost use Rattle.cfb_shown.specs.Rows.{bits_text, byte_digits, clsid_text, kind_
 
 use cfb_codecs::direntry::DirEntry;
 use cfb_codecs::timestamp::Timestamp;
-use cfb_dates::moment::Moment;
 use cfb_format::objtype::ObjType;
+use cfb_text::moment::Moment;
 use std::alloc::Allocator as Heap;
 use std::fmt;
 use uuid::Uuid;

@@ -1,7 +1,7 @@
 -- Bytes that were lent are consumed.
 use Rattle.std.proofs.Common.{refl, ℕ, ◌+◌, ◌-◌, ◌≡◌, min, sym, subst, arith, IsTrue}
 use Rattle.cfb_stream_window.specs.cfb_rules.StreamCalls.{StreamStep, consume, ready, Moves}
-use Rattle.cfb_stream_buffer.specs.Contents.{Stored, stream_setting_of}
+use Rattle.cfb_stream_window.specs.Contents.{Stored, stream_setting_of}
 use Rattle.cfb_stream_window.specs.Windows.{Window, LiesOver, state_of}
 
 -- the window fits on where only the cursor moved, or other bytes are lent

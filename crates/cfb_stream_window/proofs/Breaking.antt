@@ -10,10 +10,10 @@ use Rattle.cfb_format.specs.declared.error.Error.TheVariants.{NotFound, AlreadyE
 use Rattle.cfb_stream_window.specs.cfb_rules.Refusal.{Refusal, IsRefusal, not_found, already_exists, invalid_input, invalid_data, medium_failed, out_of_memory, file_full, not_sound, failed_earlier}
 use Rattle.cfb_stream_window.specs.cfb_rules.StreamCalls.{StreamCall}
 use Rattle.cfb_stream_window.specs.cfb_rules.Runs.{Causes, Work, reading, moving, writing_out, overwriting, appending, resizing, work_of, WorkMayBreak, BlamesOneOf, StaysUnfailed, may_leave_failed, StreamBreaksOff, IsAllowed, Closes}
-use Rattle.cfb_stream_buffer.specs.Contents.{Stored, IsMediumFault, KeptOrFailed, stream_setting_of}
+use Rattle.cfb_stream_window.specs.Contents.{Stored, IsMediumFault, KeptOrFailed, stream_setting_of}
 use Rattle.cfb_stream_window.specs.Windows.{Window, Stays, BrokeOff, CalmBrokeOff, ReadBrokeOff, WriteBrokeOff, LengthBrokeOff, IsMemoryOrFull, IsLost, Runs, IsCallRefused, state_of, run_of}
 use Rattle.cfb_stream_window.specs.Answers.{AtRefusal}
-use Rattle.cfb_stream_buffer.proofs.Breaks.{not_full}
+use Rattle.cfb_stream_window.proofs.Breaks.{not_full}
 
 pub match_true : (b : Bool) (P Q : Type 0) → b ≡ true → P → MatchBool b P Q
 match_true true P Q is p = p

@@ -1,11 +1,11 @@
 -- The same stream in another window.
 use Rattle.std.proofs.Common.{refl, ℕ, ◌+◌, ◌≡◌, ◌<◌, ◌≤◌, max, true, false, List, [], ◌∷◌, length, take, drop, sym, ◌∙◌, ◌⊎◌, ap, subst, arith, inl, inr}
 use Rattle.cfb_format.specs.declared.error.Error.{Error}
-use Rattle.cfb_stream_buffer.specs.Contents.{Stored, laid, IsFitting, IsRefusedRead}
+use Rattle.cfb_stream_window.specs.Contents.{Stored, laid, IsFitting, IsRefusedRead}
 use Rattle.cfb_stream_window.specs.cfb_rules.StreamCalls.{opened}
 use Rattle.cfb_stream_window.specs.Windows.{Window, LiesOver, Suits, Carries, Stays, CalmBrokeOff, Unreadable, state_of, settled, window_settled, window_at, IsLoaded, window_over}
-use Rattle.cfb_stream_buffer.specs.Buffers.{Buffered}
-use Rattle.cfb_stream_buffer.proofs.Lists.{length-laid, laid-nothing, laid-own, laid-twice}
+use Rattle.cfb_stream_window.specs.Buffers.{Buffered}
+use Rattle.cfb_stream_window.proofs.Lists.{length-laid, laid-nothing, laid-own, laid-twice}
 
 -- the same, where nothing may be held
 pub length-over : (at : ℕ) (f c : List ℕ) → (0 < length f → at ≤ length c) → length (laid at f c) ≤ max (length c) (at + length f)

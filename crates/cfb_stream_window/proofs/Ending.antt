@@ -9,9 +9,9 @@ use Rattle.cfb_format.specs.declared.error.Error.{Error}
 use Rattle.cfb_stream_window.specs.cfb_rules.Refusal.{invalid_data}
 use Rattle.cfb_stream_window.specs.cfb_rules.StreamCalls.{read_to_end, StreamReply, got, Moves}
 use Rattle.cfb_stream_window.specs.cfb_rules.Runs.{Causes}
-use Rattle.cfb_stream_buffer.specs.Contents.{Stored, laid}
+use Rattle.cfb_stream_window.specs.Contents.{Stored, laid}
 use Rattle.cfb_stream_window.specs.Windows.{Window, LiesOver, Carries, ReadBrokeOff, Runs, IsCallRefused, state_of, window_at, WentTo, IsReadable, IsUnreadable, Appended}
-use Rattle.cfb_stream_buffer.proofs.Lists.{rest-laid}
+use Rattle.cfb_stream_window.proofs.Lists.{rest-laid}
 use Rattle.cfb_stream_window.proofs.Carrying.{settled_whole, length-over}
 use Rattle.cfb_stream_window.proofs.Breaking.{match_true, match_false, memory_break}
 use Rattle.cfb_stream_window.proofs.Reading.{step_runs, went, went_moves}

@@ -2,10 +2,10 @@
 use Rattle.std.proofs.Common.{refl, ℕ, Bool, true, false, inl, inr, ◌≡◌}
 use Rattle.std.specs.Prelude.{Result}
 use Rattle.cfb_format.specs.declared.error.Error.{Error}
-use Rattle.cfb_stream_buffer.specs.Contents.{Stored}
-use Rattle.cfb_stream_buffer.specs.declared.content.ReadContents as reading
-use Rattle.cfb_stream_buffer.specs.declared.content.Contents as writing
-use Rattle.cfb_stream_buffer.specs.Touched.{IsWritten}
+use Rattle.cfb_stream_window.specs.Contents.{Stored}
+use Rattle.cfb_stream_window.specs.declared.content.ReadContents as reading
+use Rattle.cfb_stream_window.specs.declared.content.Contents as writing
+use Rattle.cfb_stream_window.specs.Touched.{IsWritten}
 use Rattle.cfb_stream_window.specs.Answers.{InTurn}
 use Rattle.cfb_stream_window.specs.Windows.{IsSettled, Window, settled}
 

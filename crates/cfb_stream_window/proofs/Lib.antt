@@ -1,4 +1,6 @@
-pub use Rattle.cfb_stream_buffer.proofs.cfb_rules
+pub use Rattle.cfb_rules.proofs as cfb_rules
+pub mod Lists
+pub mod Breaks
 pub mod Carrying
 pub mod Asking
 pub mod Breaking
@@ -7,3 +9,5 @@ pub mod Writing
 pub mod Ending
 pub mod InTurn
 pub mod Refusing
+pub mod Calls
+pub mod Knowing

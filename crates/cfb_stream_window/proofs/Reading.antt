@@ -14,9 +14,9 @@ use Rattle.cfb_format.specs.declared.error.Detail.{Detail}
 use Rattle.cfb_stream_window.specs.cfb_rules.Refusal.{invalid_input, invalid_data, failed_earlier}
 use Rattle.cfb_stream_window.specs.cfb_rules.StreamCalls.{StreamState, StreamCall, read, fill_buf, seek, flush, StreamReply, ready, got, offset, Moves, Refuses, Serves, ReadsOn, sought, StreamStep}
 use Rattle.cfb_stream_window.specs.cfb_rules.Runs.{Causes, is_never_refused}
-use Rattle.cfb_stream_buffer.specs.Contents.{Stored, ReadsPart, stream_setting_of, laid}
+use Rattle.cfb_stream_window.specs.Contents.{Stored, ReadsPart, stream_setting_of, laid}
 use Rattle.cfb_stream_window.specs.Windows.{Window, LiesOver, Carries, ReadBrokeOff, Unreadable, Runs, IsCallRefused, state_of, window_settled, window_at, WentTo, ReadPast, target_of, whence_of}
-use Rattle.cfb_stream_buffer.proofs.Lists.{length-laid, part-laid, laid-nothing}
+use Rattle.cfb_stream_window.proofs.Lists.{length-laid, part-laid, laid-nothing}
 use Rattle.cfb_stream_window.proofs.Asking.{agrees_moved}
 use Rattle.cfb_stream_window.proofs.Breaking.{match_true, match_false, read_broken}
 

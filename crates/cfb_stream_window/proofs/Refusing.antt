@@ -6,7 +6,7 @@ use Rattle.cfb_format.specs.declared.error.Error.{Error}
 use Rattle.cfb_format.specs.declared.error.Error.TheVariants.{NotFound, AlreadyExists, InvalidInput, InvalidData, Medium, Memory, Full, Unsound, Failed}
 use Rattle.cfb_stream_window.specs.cfb_rules.StreamCalls.{StreamCall}
 use Rattle.cfb_stream_window.specs.cfb_rules.Runs.{Causes, is_never_refused}
-use Rattle.cfb_stream_buffer.specs.declared.content.ReadContents as reading
+use Rattle.cfb_stream_window.specs.declared.content.ReadContents as reading
 use Rattle.cfb_stream_window.specs.Windows.{Window, BrokeOff, ReadBrokeOff, IsLost, Unreadable, IsCallRefused}
 use Rattle.cfb_stream_window.specs.Answers.{AtRefusal, IsRefusedFor}
 use Rattle.cfb_stream_window.proofs.Breaking.{break_untouched, broke_stops}

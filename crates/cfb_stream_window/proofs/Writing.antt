@@ -12,14 +12,14 @@ use Rattle.cfb_format.specs.Refused.{CountsError, IsBreak, IsMemory}
 use Rattle.cfb_stream_window.specs.cfb_rules.Refusal.{invalid_input, not_sound}
 use Rattle.cfb_stream_window.specs.cfb_rules.StreamCalls.{write, set_len, ready, count, Wrote, resized}
 use Rattle.cfb_stream_window.specs.cfb_rules.Runs.{Causes, no_work, overwriting, appending, resizing, work_of}
-use Rattle.cfb_stream_buffer.specs.Contents.{Stored, Fails, laid, stored_after_write, stored_after_resize}
+use Rattle.cfb_stream_window.specs.Contents.{Stored, Fails, laid, stored_after_write, stored_after_resize}
 use Rattle.cfb_stream_window.specs.Windows.{Window, LiesOver, Carries, Stays, IsLengthened, IsLost, IsMemoryOrFull, LengthBrokeOff, WriteBrokeOff, Runs, IsCallRefused, settled, state_of, window_kept, window_past, window_settled, window_within, WroteStraight, Resized}
-use Rattle.cfb_stream_buffer.proofs.Lists.{length-laid, laid-nothing, laid-resized, laid-write, resized-before}
+use Rattle.cfb_stream_window.proofs.Lists.{length-laid, laid-nothing, laid-resized, laid-write, resized-before}
 use Rattle.cfb_stream_window.proofs.Carrying.{settled_whole}
 use Rattle.cfb_stream_window.proofs.Asking.{agrees_moved}
 use Rattle.cfb_stream_window.proofs.Breaking.{match_true, match_false, break_but, memory_break, overwritten_broken, appended_broken}
 use Rattle.cfb_stream_window.proofs.Reading.{step_runs, stays, eq_test}
-use Rattle.cfb_stream_buffer.proofs.Breaks.{not_full}
+use Rattle.cfb_stream_window.proofs.Breaks.{not_full}
 use Rattle.cfb_stream_window.proofs.cfb_rules.StreamBounds.{length_resized}
 
 -- ---- writing

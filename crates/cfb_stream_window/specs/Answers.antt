@@ -7,10 +7,10 @@ use Rattle.cfb_format.specs.declared.error.Error.TheVariants.{Failed}
 use Rattle.cfb_stream_window.specs.cfb_rules.Refusal.{Refusal, IsRefusal}
 use Rattle.cfb_stream_window.specs.cfb_rules.StreamCalls.{StreamCall, StreamReply, set_len, ready}
 use Rattle.cfb_stream_window.specs.cfb_rules.Runs.{Causes, Closes}
-use Rattle.cfb_stream_buffer.specs.declared.content.ReadContents as reading
-use Rattle.cfb_stream_buffer.specs.declared.content.Contents as writing
-use Rattle.cfb_stream_buffer.specs.Contents.{CanHave, KeptOrFailed}
-use Rattle.cfb_stream_buffer.specs.Touched.{faults_of}
+use Rattle.cfb_stream_window.specs.declared.content.ReadContents as reading
+use Rattle.cfb_stream_window.specs.declared.content.Contents as writing
+use Rattle.cfb_stream_window.specs.Contents.{CanHave, KeptOrFailed}
+use Rattle.cfb_stream_window.specs.Touched.{faults_of}
 use Rattle.cfb_stream_window.specs.Windows.{Window, LiesOver, Suits, Runs, IsCallRefused, IsLengthened, IsSettled, run_of, settled}
 
 -- at a refusal of the input, of a file that is not sound or of one that failed earlier so much holds, and so much where bytes can't

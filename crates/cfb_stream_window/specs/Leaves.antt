@@ -1,9 +1,9 @@
 use Rattle.cfb_stream_window.specs.Windows.{Window}
-use Rattle.cfb_stream_buffer.specs.declared.content.Contents as writing
-use Rattle.cfb_stream_buffer.specs.declared.content.ReadContents as reading
+use Rattle.cfb_stream_window.specs.declared.content.Contents as writing
+use Rattle.cfb_stream_window.specs.declared.content.ReadContents as reading
 use Rattle.cfb_format.specs.declared.error.Error.{Error}
 use Rattle.std.specs.Prelude.{ℕ, ◌≡◌, Result}
-use Rattle.cfb_stream_buffer.specs.Touched.{HasSameFlags, IsRead, HasKeptFlags, IsWritten}
+use Rattle.cfb_stream_window.specs.Touched.{HasSameFlags, IsRead, HasKeptFlags, IsWritten}
 use Rattle.cfb_stream_window.specs.Answers.{GoesOn, HeedsFlags, IsOpen, HeedsReading}
 
 -- the contents were read from, and nothing else: what is there stays, and all but the count of failures

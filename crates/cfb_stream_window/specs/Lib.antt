@@ -1,5 +1,9 @@
-pub use Rattle.cfb_stream_buffer.specs.cfb_rules
-pub use Rattle.cfb_stream_buffer.specs as cfb_stream_buffer
+pub use Rattle.cfb_rules.specs as cfb_rules
+pub mod Contents
+pub mod Buffers
+pub mod Touched
 pub mod Windows
 pub mod Answers
 pub mod Leaves
+pub mod Kinds
+pub mod Known

@@ -7,8 +7,8 @@ use Rattle.cfb_format.specs.declared.error.Error.{Error}
 use Rattle.cfb_stream_window.specs.cfb_rules.Refusal.{Refusal, IsRefusal}
 use Rattle.cfb_stream_window.specs.cfb_rules.StreamCalls.{StreamState, StreamCall, StreamReply, not_done, Whence, from_start, from_end, from_current, place_within, place_from, resized}
 use Rattle.cfb_stream_window.specs.cfb_rules.Runs.{Causes, StreamRun, StreamCallRuns}
-use Rattle.cfb_stream_buffer.specs.Buffers.{Buffered}
-use Rattle.cfb_stream_buffer.specs.Contents.{Stored, stream_setting_of, laid, Fails}
+use Rattle.cfb_stream_window.specs.Buffers.{Buffered}
+use Rattle.cfb_stream_window.specs.Contents.{Stored, stream_setting_of, laid, Fails}
 
 -- the bytes held, which of them is the next, how many there is room for and can be, where they lie in the stream,
 -- the stream's length, how many bytes are lent, and whether bytes are not yet written out

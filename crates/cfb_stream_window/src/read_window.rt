@@ -3,14 +3,14 @@ ghost use Rattle.std.specs.Prelude.{◌≡◌, ◌+◌, ◌-◌, ◌<◌, ◌≤
 ghost use Rattle.cfb_stream_window.specs.Leaves.{ReadsContents, StaysOpenToRead};
 ghost use Rattle.cfb_format.specs.Refused.{HasReason, IsMemory, no_error};
 ghost use Rattle.cfb_stream_window.specs.cfb_rules.StreamCalls.{StreamStep, read, fill_buf, consume, seek, read_to_end, ask_len, ask_position, ask_is_empty, ready, got, offset, answered, opened};
-ghost use Rattle.cfb_stream_buffer.specs.Contents.{Stored, stream_setting_of, IsFitting};
+ghost use Rattle.cfb_stream_window.specs.Contents.{Stored, stream_setting_of, IsFitting};
 ghost use Rattle.cfb_stream_window.specs.Windows.{state_of, LiesOver, Carries, ReadBrokeOff, Unreadable, StandsInside, WentTo, window_opened, target_of, whence_of, ReadPast};
 ghost use Rattle.cfb_stream_window.specs.Answers.{IsOpen, IsReady, RunsReading, IsRefusedReading, GoesOn, HeedsReading};
-ghost use Rattle.cfb_stream_buffer.specs.Touched.{HasSameFlags, IsRead};
+ghost use Rattle.cfb_stream_window.specs.Touched.{HasSameFlags, IsRead};
 
+use crate::content::ReadContents;
 use crate::window::{STRAIGHT, Window};
 use cfb_format::error::{Detail, Error};
-use cfb_stream_buffer::content::ReadContents;
 use std::alloc::{Allocator, Global};
 use std::io::SeekFrom;
 use std::marker::Model;

@@ -3,19 +3,19 @@ ghost use Rattle.std.specs.Prelude.{◌≡◌, ◌+◌, ◌-◌, ◌<◌, ◌≤
 ghost use Rattle.cfb_stream_window.specs.Leaves.{ReadsContents};
 ghost use Rattle.cfb_format.specs.Refused.{IsInvalidOrMemory, IsMemory};
 ghost use Rattle.cfb_stream_window.specs.cfb_rules.StreamCalls.{StreamStep, consume, ask_len, ask_position, ask_is_empty, ready, offset, answered, opened};
-ghost use Rattle.cfb_stream_buffer.specs.Contents.{Stored, stream_setting_of, IsRefusedRead, IsFitting};
+ghost use Rattle.cfb_stream_window.specs.Contents.{Stored, stream_setting_of, IsRefusedRead, IsFitting};
 ghost use Rattle.cfb_stream_window.specs.Windows.{state_of, LiesOver, Carries, CalmBrokeOff, Unreadable, window_at, window_opened, window_over, IsLoaded, target_of, IsReadable, IsUnreadable, Appended, ReadPast};
 ghost use Rattle.cfb_stream_window.specs.Answers.{IsOpen, IsReady};
-ghost use Rattle.cfb_stream_buffer.specs.Touched.{HasSameFlags, IsRead};
+ghost use Rattle.cfb_stream_window.specs.Touched.{HasSameFlags, IsRead};
 
 mod reading;
 mod writing;
 
+use crate::buffer::{StreamBuffer, read_front};
+use crate::content::ReadContents;
 use crate::pieces::{copy_out, make_space, place_at};
+use crate::whole::read_into;
 use cfb_format::error::{Detail, Error};
-use cfb_stream_buffer::buffer::{StreamBuffer, read_front};
-use cfb_stream_buffer::content::ReadContents;
-use cfb_stream_buffer::whole::read_into;
 use std::alloc::{Allocator, Global};
 use std::io::SeekFrom;
 use std::marker::Model;

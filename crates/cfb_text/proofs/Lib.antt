@@ -5,3 +5,8 @@ pub mod Codes
 pub mod Files
 pub mod Meaning
 pub mod Reading
+pub mod Years
+pub mod Months
+pub mod Fractions
+pub mod Texts
+pub mod Words

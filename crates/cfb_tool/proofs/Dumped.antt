@@ -29,16 +29,16 @@ use Rattle.cfb_lines.specs.Words.{spelling}
 use Rattle.cfb_lines.specs.Writing.{AddsLines, IsHeadOf, Lacks, ended}
 use Rattle.cfb_lines.specs.declared.word.Word.TheVariants.{Put}
 use Rattle.cfb_lines.proofs.Written.{lacks_append, lacks_below, number_lacks}
-use Rattle.cfb_dumps.specs.Dumps.{AreToldBy, EndsStream, IsToldAs, StandsWith, told_commands}
-use Rattle.cfb_dumps.proofs.Joined.{as_stream, ends_behind, more_lines, no_lines, stream_made}
-use Rattle.cfb_dumps.proofs.Walks.{dumps_make_the_tree, told_more}
+use Rattle.cfb_lines.specs.Dumps.{AreToldBy, EndsStream, IsToldAs, StandsWith, told_commands}
+use Rattle.cfb_lines.proofs.Joined.{as_stream, ends_behind, more_lines, no_lines, stream_made}
+use Rattle.cfb_lines.proofs.Walks.{dumps_make_the_tree, told_more}
 use Rattle.cfb_tool.specs.cfb_outline.Families.{is_stream_kind}
-use Rattle.cfb_tool.specs.cfb_mini_sectors.State.{bytes_of, cases_of, root_len_of, version_of}
+use Rattle.cfb_tool.specs.cfb_mini.State.{bytes_of, cases_of, root_len_of, version_of}
 use Rattle.cfb_tool.specs.cfb_agreement.Files.{FileState, is_failed}
 use Rattle.cfb_tool.specs.cfb_path_changes.Answers.{Answers, MeansTree, RunsOn, causes_of_call, setting_of, state_with}
 use Rattle.cfb_tool.specs.cfb_compound_file.OpenedStreams.{BeginsAt, IsOpenedAt}
 use Rattle.cfb_tool.specs.cfb_compound_file.StreamAnswers.{IsStreamRefusedBy, OpenStream, StreamRunsBy, closing_of, run_in, stored_in, stream_in}
-use Rattle.cfb_tool.specs.cfb_stream_buffer.Contents.{stream_setting_of}
+use Rattle.cfb_tool.specs.cfb_stream_window.Contents.{stream_setting_of}
 use Rattle.cfb_tool.specs.cfb_stream_window.Windows.{Runs, Suits, Window}
 use Rattle.cfb_tool.specs.declared.dump_error.DumpError.{DumpError}
 use Rattle.cfb_tool.specs.declared.dump_error.DumpError.TheVariants.{File, Object as AtObject, Output}

@@ -6,7 +6,7 @@ use Rattle.cfb_flaws.specs.declared.flaw.Flaw.TheVariants.{Cut as CutFlaw}
 use Rattle.cfb_flaws.specs.Flaws.{Holds, NoneOn, on_whole}
 use Rattle.cfb_tool.specs.cfb_agreement.Files.{FileState}
 use Rattle.cfb_tool.specs.cfb_compound_file.Flaws.{AreFlawsOf}
-use Rattle.cfb_tool.specs.cfb_mini_sectors.State.{bytes_of}
+use Rattle.cfb_tool.specs.cfb_mini.State.{bytes_of}
 use Rattle.cfb_tool.specs.declared.cuts.Cut.{Cut}
 use Rattle.cfb_tool.specs.Cuts.{HasCut}
 

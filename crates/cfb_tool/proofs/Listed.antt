@@ -19,7 +19,7 @@ use Rattle.cfb_shown.specs.Lines.{HasLinesOf, IsNotWritten, Writes}
 use Rattle.cfb_compound_file.specs.Numbers.{IsNumberAt}
 use Rattle.cfb_compound_file.specs.cfb_entries.EntryList.{AreInOrder}
 use Rattle.cfb_compound_file.specs.cfb_siblings.Paths.{number_from}
-use Rattle.cfb_tool.specs.cfb_mini_sectors.State.{cases_of, entries_of}
+use Rattle.cfb_tool.specs.cfb_mini.State.{cases_of, entries_of}
 use Rattle.cfb_tool.specs.cfb_agreement.Files.{Agrees, FileState}
 use Rattle.cfb_tool.specs.cfb_path_changes.Answers.{Answers, AnswersNot}
 use Rattle.cfb_tool.specs.Listing.{HasLines, IsNotListed, IsPathInWalk}

@@ -5,7 +5,7 @@ use Rattle.std.specs.Prelude.{not}
 use Rattle.cfb_format.specs.declared.objtype.ObjType.{ObjType}
 use Rattle.cfb_format.specs.declared.objtype.ObjType.TheVariants.{Unallocated, Storage, Stream, Root}
 use Rattle.cfb_rules.specs.Calls.{EntryInfo}
-use Rattle.cfb_dumps.proofs.Joined.{both, lacks_backslash, named_so, not_true}
+use Rattle.cfb_lines.proofs.Joined.{both, lacks_backslash, named_so, not_true}
 use Rattle.cfb_tool.specs.Dumping.{CanBeDumped, IsNamedAs, can_be_dumped, is_named_as}
 
 -- the name of the root is none, and any other is looked at

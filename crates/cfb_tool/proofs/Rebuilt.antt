@@ -19,10 +19,10 @@ use Rattle.cfb_rules.specs.Runs.{CallRuns, Causes, ClosedTree, FollowsRules, IsB
 use Rattle.cfb_rules.specs.Steps.{kind_of, outcome}
 use Rattle.cfb_rules.specs.StreamCalls.{StreamCall, StreamState, write}
 use Rattle.cfb_rules.proofs.DoneSteps.{done_step}
-use Rattle.cfb_making.specs.Making.{AreDone, field_commands, part_commands, tree_after_command, tree_commands, unless_so}
-use Rattle.cfb_making.proofs.Put.{content_twice}
+use Rattle.cfb_places.specs.Making.{AreDone, field_commands, part_commands, tree_after_command, tree_commands, unless_so}
+use Rattle.cfb_places.proofs.Put.{content_twice}
 use Rattle.cfb_lines.proofs.Single.{one_script}
-use Rattle.cfb_making.specs.cfb_built.Copied.{Part, parts_in, storage_part, stream_part}
+use Rattle.cfb_places.specs.Copied.{Part, parts_in, storage_part, stream_part}
 use Rattle.cfb_whole_streams.specs.Content.{HasStream}
 use Rattle.cfb_whole_streams.specs.Laws.{Keeps}
 use Rattle.cfb_whole_streams.specs.Told.{first_refusal, refusal_in, refusal_of_call, taken_by_work}

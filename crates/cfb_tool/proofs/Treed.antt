@@ -12,10 +12,10 @@ use Rattle.cfb_format.proofs.Unique.{Means-unique}
 use Rattle.cfb_rules.specs.Finding.{found_at}
 use Rattle.cfb_tool.specs.cfb_outline.Outlines.{HasInside}
 use Rattle.cfb_compound_file.specs.cfb_siblings.Paths.{number_from}
-use Rattle.cfb_compound_file.specs.cfb_objects.Objects.{found_of, inside_of, object_of}
-use Rattle.cfb_compound_file.proofs.cfb_objects.Facts.{root-has-its-name}
-use Rattle.cfb_compound_file.proofs.cfb_objects.Found.{found-is-at-its-entry, inside-is-below, storage-by-kind, stream-by-kind}
-use Rattle.cfb_tool.specs.cfb_mini_sectors.State.{bytes_of, cases_of, content_of, entries_of, reading_of}
+use Rattle.cfb_compound_file.specs.cfb_listing.Objects.{found_of, inside_of, object_of}
+use Rattle.cfb_compound_file.proofs.cfb_listing.Facts.{root-has-its-name}
+use Rattle.cfb_compound_file.proofs.cfb_listing.Found.{found-is-at-its-entry, inside-is-below, storage-by-kind, stream-by-kind}
+use Rattle.cfb_tool.specs.cfb_mini.State.{bytes_of, cases_of, content_of, entries_of, reading_of}
 use Rattle.cfb_tool.specs.cfb_agreement.Files.{Agrees, FileState}
 use Rattle.cfb_tool.proofs.cfb_agreement.HeldBytes.{held-means-its-tree}
 use Rattle.cfb_compound_file.specs.Numbers.{IsNumberAt}

@@ -5,7 +5,7 @@ use Rattle.cfb_format.specs.Siblings.{entry_at}
 use Rattle.cfb_flaws.specs.declared.flaw.Flaw.TheVariants.{Cut as CutFlaw}
 use Rattle.cfb_flaws.specs.Each.{AreWhole}
 use Rattle.cfb_flaws.specs.Flaws.{Holds}
-use Rattle.cfb_tool.specs.cfb_mini_sectors.State.{bytes_of, cases_of, entries_of}
+use Rattle.cfb_tool.specs.cfb_mini.State.{bytes_of, cases_of, entries_of}
 use Rattle.cfb_tool.specs.cfb_volume.Answers.{content_at}
 use Rattle.cfb_tool.specs.cfb_agreement.Files.{FileState}
 use Rattle.cfb_tool.specs.cfb_compound_file.Numbers.{IsNumberAt}

@@ -16,13 +16,13 @@ use Rattle.cfb_rules.specs.Calls.{EntryInfo, open_read_stream}
 use Rattle.cfb_rules.specs.CallReplies.{all_walked}
 use Rattle.cfb_rules.specs.Finding.{object_at}
 use Rattle.cfb_rules.specs.Lists.{Command}
-use Rattle.cfb_making.specs.Making.{CanBeNamed}
+use Rattle.cfb_places.specs.Making.{CanBeNamed}
 use Rattle.cfb_lines.specs.Fields.{AddsHex}
 use Rattle.cfb_lines.specs.Writing.{AddsLines, IsHeadOf, Lacks}
 use Rattle.cfb_lines.specs.declared.word.Word.TheVariants.{Put}
-use Rattle.cfb_dumps.specs.Dumps.{AreToldBy, IsDumpOf, told_commands}
+use Rattle.cfb_lines.specs.Dumps.{AreToldBy, IsDumpOf, told_commands}
 use Rattle.cfb_tool.specs.cfb_outline.Families.{is_root_kind, is_stream_kind}
-use Rattle.cfb_tool.specs.cfb_mini_sectors.State.{cases_of, root_len_of, version_of}
+use Rattle.cfb_tool.specs.cfb_mini.State.{cases_of, root_len_of, version_of}
 use Rattle.cfb_tool.specs.cfb_agreement.Files.{FileState, is_failed}
 use Rattle.cfb_tool.specs.cfb_path_changes.Answers.{AnswersNot, MeansTree}
 use Rattle.cfb_tool.specs.declared.dump_error.DumpError.{DumpError}

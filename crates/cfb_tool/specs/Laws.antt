@@ -7,7 +7,7 @@ use Rattle.cfb_rules.specs.Refusal.{Refusal}
 use Rattle.cfb_rules.specs.Runs.{Setting}
 use Rattle.cfb_rules.specs.StreamCalls.{write}
 use Rattle.cfb_lines.specs.Commands.{IsScript}
-use Rattle.cfb_dumps.specs.Dumps.{IsDumpOf}
+use Rattle.cfb_lines.specs.Dumps.{IsDumpOf}
 use Rattle.cfb_whole_streams.specs.Content.{HasStream}
 use Rattle.cfb_whole_streams.specs.Laws.{Keeps}
 use Rattle.cfb_tool.specs.Playing.{PlaysAll, PlaysOne, addition, is_all_done}

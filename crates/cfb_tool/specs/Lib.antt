@@ -1,6 +1,5 @@
 pub use Rattle.cfb_listing.specs.cfb_outline
-pub use Rattle.cfb_commands.specs.cfb_mini_sectors
-pub use Rattle.cfb_commands.specs.cfb_stream_buffer
+pub use Rattle.cfb_commands.specs.cfb_mini
 pub use Rattle.cfb_commands.specs.cfb_stream_window
 pub use Rattle.cfb_commands.specs.cfb_agreement
 pub use Rattle.cfb_commands.specs.cfb_path_changes

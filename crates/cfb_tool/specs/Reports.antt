@@ -2,16 +2,16 @@
 use Rattle.std.specs.Prelude.{ℕ, ◌≡◌, Bool, List, is_some, length}
 use Rattle.cfb_format.specs.Names.{Cases}
 use Rattle.cfb_format.specs.Reading.{IsOutline, Outline, stream_numbers}
-use Rattle.cfb_reports.specs.cfb_flaws.declared.flaw.Flaw.{Flaw}
-use Rattle.cfb_reports.specs.cfb_flaws.declared.owner.Owner.{Owner}
-use Rattle.cfb_reports.specs.declared.names.Names.{Names}
-use Rattle.cfb_reports.specs.declared.report.Facts.{Facts}
-use Rattle.cfb_reports.specs.Leading.{streams_among}
-use Rattle.cfb_reports.specs.Mapping.{IsMap}
-use Rattle.cfb_reports.specs.Names.{AreNamed, path_of}
-use Rattle.cfb_reports.specs.Report.{report_text}
+use Rattle.cfb_shown.specs.cfb_flaws.declared.flaw.Flaw.{Flaw}
+use Rattle.cfb_shown.specs.cfb_flaws.declared.owner.Owner.{Owner}
+use Rattle.cfb_shown.specs.declared.names.Names.{Names}
+use Rattle.cfb_shown.specs.declared.report.Facts.{Facts}
+use Rattle.cfb_shown.specs.Leading.{streams_among}
+use Rattle.cfb_shown.specs.Mapping.{IsMap}
+use Rattle.cfb_shown.specs.Names.{AreNamed, path_of}
+use Rattle.cfb_shown.specs.Report.{report_text}
 use Rattle.cfb_rules.specs.Calls.{EntryInfo, entries, walk}
-use Rattle.cfb_tool.specs.cfb_mini_sectors.State.{entries_of, table_of, version_of}
+use Rattle.cfb_tool.specs.cfb_mini.State.{entries_of, table_of, version_of}
 use Rattle.cfb_tool.specs.cfb_agreement.Files.{FileState}
 use Rattle.cfb_tool.specs.cfb_compound_file.Flaws.{AreFlawsOf, AreMiniOwnersOf, AreSectorOwnersOf}
 use Rattle.cfb_tool.specs.cfb_path_changes.Answers.{Answers}

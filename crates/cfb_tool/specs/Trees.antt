@@ -3,7 +3,7 @@ use Rattle.std.specs.Prelude.{ℕ, ◌≡◌, List, [], ◌∷◌, Some, false}
 use Rattle.cfb_format.specs.Path.{names_of_path}
 use Rattle.cfb_format.specs.Tree.{Found, Tree, a_storage}
 use Rattle.cfb_rules.specs.Finding.{found_at}
-use Rattle.cfb_tool.specs.cfb_mini_sectors.State.{cases_of}
+use Rattle.cfb_tool.specs.cfb_mini.State.{cases_of}
 use Rattle.cfb_tool.specs.cfb_agreement.Files.{FileState, is_failed}
 use Rattle.cfb_tool.specs.cfb_path_changes.Answers.{MeansTree}
 use Rattle.cfb_shown.specs.Trees.{tree_text}

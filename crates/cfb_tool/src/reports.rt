@@ -2,8 +2,8 @@
 ghost use Rattle.std.specs.Prelude.{◌≡◌, ◌⊎◌, IsTrue, IfOk, IfErr, is_some, string_bytes};
 ghost use Rattle.cfb_format.specs.declared.error.Error.TheVariants.{Failed};
 ghost use Rattle.cfb_format.specs.Refused.{IsMemory};
-ghost use Rattle.cfb_reports.specs.Leading.{streams_among};
-ghost use Rattle.cfb_reports.specs.Names.{path_of};
+ghost use Rattle.cfb_shown.specs.Leading.{streams_among};
+ghost use Rattle.cfb_shown.specs.Names.{path_of};
 ghost use Rattle.cfb_tool.specs.cfb_compound_file.Flaws.{IsReadFault};
 ghost use Rattle.cfb_tool.specs.cfb_compound_file.cfb_copies.Steps.{IsReadOnly};
 ghost use Rattle.cfb_tool.specs.Reports.{ArePathsOf, HasMap, HasReport};
@@ -13,9 +13,9 @@ use cfb_commands::CompoundFile;
 use cfb_format::error::Error;
 use cfb_format::medium::ReadMedium;
 use cfb_listing::entry::Entry;
-use cfb_reports::mapping::map_of;
-use cfb_reports::names::Names;
-use cfb_reports::report::{Facts, report_of};
+use cfb_shown::mapping::map_of;
+use cfb_shown::names::Names;
+use cfb_shown::report::{Facts, report_of};
 use std::alloc::Allocator as Heap;
 
 /// What a report says that the opened file does not keep.

@@ -1,7 +1,7 @@
 //! What is told of a file's soundness.
 ghost use Rattle.std.specs.Prelude.{◌≡◌, IfOk, IfErr, codes, if◌then◌else◌, string_bytes};
 ghost use Rattle.cfb_format.specs.Refused.{IsMemory};
-ghost use Rattle.cfb_tool.specs.cfb_mini_sectors.State.{version_of};
+ghost use Rattle.cfb_tool.specs.cfb_mini.State.{version_of};
 ghost use Rattle.cfb_tool.specs.Listing.{soundness_text};
 
 use cfb_commands::CompoundFile;

@@ -5,11 +5,11 @@ use Rattle.std.proofs.lemmas.Bool.{cases_eq, ne_eqb}
 use Rattle.cfb_format.specs.Bytes.{no_stream}
 use Rattle.cfb_format.specs.Reading.{IsOutline, Outline}
 use Rattle.cfb_format.specs.Siblings.{entry_at}
-use Rattle.cfb_volume.specs.cfb_trees.Paths.{number_after}
-use Rattle.cfb_volume.specs.cfb_trees.Balance.{AreAllBalanced}
-use Rattle.cfb_volume.proofs.cfb_objects.Balance.{nothing-hangs}
-use Rattle.cfb_volume.specs.cfb_mini_sectors.State.{MiniState, cases_of, entries_of}
-use Rattle.cfb_entry_changes.specs.Kept.{AllStayBalanced, AllStayBalancedBut}
+use Rattle.cfb_volume.specs.cfb_siblings.TreePaths.{number_after}
+use Rattle.cfb_volume.specs.cfb_siblings.Balance.{AreAllBalanced}
+use Rattle.cfb_volume.proofs.cfb_listing.Balance.{nothing-hangs}
+use Rattle.cfb_volume.specs.cfb_mini.State.{MiniState, cases_of, entries_of}
+use Rattle.cfb_agreement.specs.Kept.{AllStayBalanced, AllStayBalancedBut}
 
 -- where an entry is taken
 pub all-but-balanced : (old new : MiniState) (n : ℕ) (before : Outline) → IsOutline (cases_of old) (entries_of old) before → AllStayBalancedBut old new n

@@ -14,17 +14,17 @@ use Rattle.cfb_volume.specs.cfb_tables.Refused.{ChangeRefused}
 use Rattle.cfb_volume.specs.cfb_alloc.Frame.{Spares}
 use Rattle.cfb_volume.specs.cfb_entries.Clearing.{HasCleared}
 use Rattle.cfb_volume.specs.cfb_directory.Steps.{IsDirectoryNotHeld, KeepsWholeHeader}
-use Rattle.cfb_volume.specs.cfb_objects.Laws.{BecomesTree}
-use Rattle.cfb_volume.proofs.cfb_objects.Balance.{all-stay-balanced}
-use Rattle.cfb_volume.specs.cfb_mini_sectors.State.{HoldsMini, IsChangeable, MiniState, bytes_of, cases_of, entries_of, table_of, tables_in}
-use Rattle.cfb_volume.specs.cfb_mini_sectors.Steps.{KeepsLimits, KeepsMini}
+use Rattle.cfb_volume.specs.cfb_listing.ObjectLaws.{BecomesTree}
+use Rattle.cfb_volume.proofs.cfb_listing.Balance.{all-stay-balanced}
+use Rattle.cfb_volume.specs.cfb_mini.State.{HoldsMini, IsChangeable, MiniState, bytes_of, cases_of, entries_of, table_of, tables_in}
+use Rattle.cfb_volume.specs.cfb_mini.Steps.{KeepsLimits, KeepsMini}
 use Rattle.cfb_volume.specs.cfb_content.Contents.{len_of}
 use Rattle.cfb_agreement.specs.Changes.{KeepsParts}
 use Rattle.cfb_agreement.specs.Files.{FileState, Holds}
 use Rattle.cfb_agreement.proofs.Flags.{flags-not-read}
 use Rattle.cfb_agreement.proofs.HeldBytes.{changeable-is-held}
-use Rattle.cfb_entry_changes.specs.Clearing.{ClearsStorage, WritesClearing}
-use Rattle.cfb_entry_changes.proofs.Emptied.{cleared-empties-tree, cleared-has-outline, cleared-is-balanced, cleared-is-changeable, cleared-is-snug, cleared-is-snug-mini, cleared-loses-none}
+use Rattle.cfb_agreement.specs.Clearing.{ClearsStorage, WritesClearing}
+use Rattle.cfb_agreement.proofs.Emptied.{cleared-empties-tree, cleared-has-outline, cleared-is-balanced, cleared-is-changeable, cleared-is-snug, cleared-is-snug-mini, cleared-loses-none}
 use Rattle.cfb_volume.specs.Clearing.{emptied_at}
 use Rattle.cfb_volume.proofs.EmptyStreams.{cleared-at-end}
 use Rattle.cfb_volume.proofs.LostEntries.{cleared-loses-no-entry}

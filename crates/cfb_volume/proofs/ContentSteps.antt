@@ -2,9 +2,9 @@
 use Rattle.std.proofs.Common.{◌≡◌, ◌⊎◌, inl, inr, ℕ, Bool, true, false, sym, ◌∙◌, ap, subst}
 use Rattle.cfb_format.specs.declared.validate.Validation.TheVariants.{Permissive, Strict}
 use Rattle.cfb_format.specs.Reading.{IsOutline}
-use Rattle.cfb_volume.specs.cfb_mini_sectors.Held.{with_table}
-use Rattle.cfb_volume.specs.cfb_mini_sectors.State.{MiniState, cases_of, entries_of, table_of}
-use Rattle.cfb_volume.specs.cfb_mini_sectors.Steps.{KeepsLimits}
+use Rattle.cfb_volume.specs.cfb_mini.Held.{with_table}
+use Rattle.cfb_volume.specs.cfb_mini.State.{MiniState, cases_of, entries_of, table_of}
+use Rattle.cfb_volume.specs.cfb_mini.Steps.{KeepsLimits}
 use Rattle.cfb_volume.specs.cfb_mini.MiniSectors.{IsStill}
 use Rattle.cfb_volume.specs.cfb_content.Changed.{MovesAlone, SparesOthers, WasChanged}
 use Rattle.cfb_volume.specs.cfb_content.Contents.{IsStreamOf, MovesContent}

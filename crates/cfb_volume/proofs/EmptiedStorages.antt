@@ -13,19 +13,19 @@ use Rattle.cfb_outline.specs.Outlines.{HasInside, IsReachedStorage}
 use Rattle.cfb_volume.specs.cfb_rules.CallChanges.{tree_changed_at}
 use Rattle.cfb_volume.specs.cfb_siblings.Paths.{number_from}
 use Rattle.cfb_volume.specs.cfb_tables.Tables.{TableState}
-use Rattle.cfb_volume.proofs.cfb_trees.PathNames.{same-from}
-use Rattle.cfb_volume.specs.cfb_objects.Laws.{BecomesTree}
-use Rattle.cfb_volume.specs.cfb_mini_sectors.State.{MiniState, bytes_of, cases_of, entries_of, tables_in}
+use Rattle.cfb_volume.proofs.cfb_siblings.PathNames.{same-from}
+use Rattle.cfb_volume.specs.cfb_listing.ObjectLaws.{BecomesTree}
+use Rattle.cfb_volume.specs.cfb_mini.State.{MiniState, bytes_of, cases_of, entries_of, tables_in}
 use Rattle.cfb_volume.specs.cfb_content.Contents.{KeepsContent, KeepsFixedHeader, len_of}
 use Rattle.cfb_volume.proofs.cfb_content.FixedHeader.{header-then}
 use Rattle.cfb_volume.proofs.cfb_content.Kept.{keeps-then}
 use Rattle.cfb_volume.proofs.cfb_content.Outlines.{no-root-stream}
 use Rattle.cfb_agreement.specs.Changes.{KeepsParts, KeepsStreams}
 use Rattle.cfb_agreement.specs.Files.{Agrees, FileState, Holds, SameSetting, failures_of, is_failed}
-use Rattle.cfb_entry_changes.specs.Clearing.{ClearsStorage}
-use Rattle.cfb_entry_changes.proofs.Emptied.{cleared-has-outline, cleared-is-balanced, cleared-is-found}
+use Rattle.cfb_agreement.specs.Clearing.{ClearsStorage}
+use Rattle.cfb_agreement.proofs.Emptied.{cleared-has-outline, cleared-is-balanced, cleared-is-found}
 use Rattle.cfb_volume.specs.Clearing.{EmptiesStorage, EmptiesStreams, KeepsStreamsBeside, KeepsStreamsBut, emptied_at}
-use Rattle.cfb_volume.proofs.cfb_objects.Balance.{content-keeps-balance}
+use Rattle.cfb_volume.proofs.cfb_listing.Balance.{content-keeps-balance}
 use Rattle.cfb_volume.proofs.InsideNames.{inside-stands}
 use Rattle.cfb_volume.proofs.Insides.{inside-stays, inside-stream, inside-unique, storage-stays}
 use Rattle.cfb_agreement.proofs.InTurn.{setting-then}

@@ -13,9 +13,9 @@ use Rattle.cfb_format.specs.Tree.{nothing}
 use Rattle.cfb_format.proofs.Unique.{IsOutline-unique}
 use Rattle.cfb_volume.specs.cfb_rules.CallChanges.{content_changed_at, tree_changed_at}
 use Rattle.cfb_volume.specs.cfb_siblings.Paths.{number_from}
-use Rattle.cfb_volume.proofs.cfb_trees.PathNames.{same-from}
+use Rattle.cfb_volume.proofs.cfb_siblings.PathNames.{same-from}
 use Rattle.cfb_volume.specs.cfb_entries.EntryList.{AreInOrder}
-use Rattle.cfb_volume.specs.cfb_mini_sectors.State.{MiniState, bytes_of, cases_of, content_of, entries_of, tables_in}
+use Rattle.cfb_volume.specs.cfb_mini.State.{MiniState, bytes_of, cases_of, content_of, entries_of, tables_in}
 use Rattle.cfb_volume.specs.cfb_content.Contents.{IsStreamOf, KeepsContent, MovesContent, len_of}
 use Rattle.cfb_volume.proofs.cfb_content.FixedHeader.{header-then}
 use Rattle.cfb_volume.proofs.cfb_content.Kept.{keeps-then, nothing-is-moved}

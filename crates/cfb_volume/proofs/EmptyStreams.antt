@@ -9,18 +9,18 @@ use Rattle.cfb_format.specs.Reading.{IsOutline, Outline, stream_numbers}
 use Rattle.cfb_format.specs.Siblings.{entry_at}
 use Rattle.cfb_format.proofs.Unique.{IsOutline-unique}
 use Rattle.cfb_volume.specs.cfb_entries.declared.fields.Fields.{Fields}
-use Rattle.cfb_volume.specs.cfb_mini_sectors.State.{MiniState, cases_of, entries_of}
+use Rattle.cfb_volume.specs.cfb_mini.State.{MiniState, cases_of, entries_of}
 use Rattle.cfb_volume.specs.cfb_content.Contents.{len_of}
 use Rattle.cfb_volume.specs.cfb_resizing.Turning.{TrimsChain}
-use Rattle.cfb_entry_changes.specs.Clearing.{ClearsStorage}
-use Rattle.cfb_entry_changes.specs.Marking.{MarksEntry}
-use Rattle.cfb_entry_changes.specs.Putting.{PutsObject}
-use Rattle.cfb_entry_changes.specs.Standing.{StreamsStand}
-use Rattle.cfb_entry_changes.specs.Taking.{TakesObject}
-use Rattle.cfb_entry_changes.proofs.Emptied.{left, new_is, stands-still}
-use Rattle.cfb_entry_changes.proofs.Entries.{kept-links, streams}
-use Rattle.cfb_entry_changes.proofs.Marked as marked
-use Rattle.cfb_entry_changes.proofs.Taken as taken
+use Rattle.cfb_agreement.specs.Clearing.{ClearsStorage}
+use Rattle.cfb_agreement.specs.Marking.{MarksEntry}
+use Rattle.cfb_agreement.specs.Putting.{PutsObject}
+use Rattle.cfb_agreement.specs.Standing.{StreamsStand}
+use Rattle.cfb_agreement.specs.Taking.{TakesObject}
+use Rattle.cfb_agreement.proofs.Emptied.{left, new_is, stands-still}
+use Rattle.cfb_agreement.proofs.Entries.{kept-links, streams}
+use Rattle.cfb_agreement.proofs.Marked as marked
+use Rattle.cfb_agreement.proofs.Taken as taken
 use Rattle.cfb_agreement.specs.Files.{EmptyStartAtEnd}
 
 -- ---- other entries

@@ -7,7 +7,7 @@ use Rattle.cfb_format.specs.Full.{CanTake, HasRoom, free_count, given_back_for, 
 use Rattle.cfb_format.specs.Soundness.{mini_stream_sectors}
 use Rattle.cfb_volume.specs.cfb_tables.Tables.{sizes_of}
 use Rattle.cfb_volume.proofs.cfb_tables.SizeLemmas.{room-for-none}
-use Rattle.cfb_volume.specs.cfb_mini_sectors.State.{HoldsMini, MiniState, mini_stream_of, parts_of, tables_in, version_of}
+use Rattle.cfb_volume.specs.cfb_mini.State.{HoldsMini, MiniState, mini_stream_of, parts_of, tables_in, version_of}
 use Rattle.cfb_volume.specs.cfb_content.Contents.{IsTooLongFor}
 use Rattle.cfb_format.proofs.FullChains.{quotient_none}
 use Rattle.cfb_volume.proofs.cfb_resizing.TurnedInMinis.{no-bytes-lack}

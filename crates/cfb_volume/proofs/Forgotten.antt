@@ -4,8 +4,8 @@ use Rattle.cfb_format.specs.Names.{Cases}
 use Rattle.cfb_format.specs.Tree.{Objects, Tree, nothing}
 use Rattle.cfb_volume.specs.cfb_rules.CallChanges.{changed_at, content_changed_at, same_storage, tree_changed_at, with_content, with_fields}
 use Rattle.cfb_volume.specs.cfb_rules.Finding.{last_name, parent_names}
-use Rattle.cfb_sequences.proofs.Changes.{inside-same, inside-twice}
-use Rattle.cfb_sequences.proofs.Removals.{fields-behind}
+use Rattle.cfb_rules.proofs.Changes.{inside-same, inside-twice}
+use Rattle.cfb_rules.proofs.Removals.{fields-behind}
 
 module _ (cases : Cases) where
   abbrev emptied : List (List ℕ) → Objects → Objects

@@ -18,18 +18,18 @@ use Rattle.cfb_volume.specs.cfb_alloc.Frame.{Spares}
 use Rattle.cfb_volume.specs.cfb_directory.Inserting.{InsertsObject, KeepsSectorsIfFree}
 use Rattle.cfb_volume.specs.cfb_directory.State.{IsFullForEntry}
 use Rattle.cfb_volume.specs.cfb_directory.Steps.{IsDirectoryNotHeld}
-use Rattle.cfb_volume.specs.cfb_objects.Laws.{BecomesTree}
-use Rattle.cfb_volume.proofs.cfb_objects.Balance.{all-stay-balanced}
-use Rattle.cfb_volume.specs.cfb_mini_sectors.Held.{with_table}
-use Rattle.cfb_volume.specs.cfb_mini_sectors.State.{HoldsMini, IsChangeable, MiniState, bytes_of, cases_of, entries_of, parts_of, table_of, tables_in}
-use Rattle.cfb_volume.specs.cfb_mini_sectors.Steps.{KeepsLimits, KeepsMini, StopsShort}
+use Rattle.cfb_volume.specs.cfb_listing.ObjectLaws.{BecomesTree}
+use Rattle.cfb_volume.proofs.cfb_listing.Balance.{all-stay-balanced}
+use Rattle.cfb_volume.specs.cfb_mini.Held.{with_table}
+use Rattle.cfb_volume.specs.cfb_mini.State.{HoldsMini, IsChangeable, MiniState, bytes_of, cases_of, entries_of, parts_of, table_of, tables_in}
+use Rattle.cfb_volume.specs.cfb_mini.Steps.{KeepsLimits, KeepsMini, StopsShort}
 use Rattle.cfb_volume.specs.cfb_content.Contents.{KeepsFixedHeader}
-use Rattle.cfb_entry_changes.specs.Putting.{PutsObject, WritesObject}
-use Rattle.cfb_entry_changes.proofs.Entries.{put-has-outline, put-is-balanced, put-is-exact, put-is-snug-mini}
-use Rattle.cfb_entry_changes.proofs.Fullness.{full-for-entry-is-full}
-use Rattle.cfb_entry_changes.proofs.Joined.{put-storage-joins-tree, put-stream-joins-tree}
-use Rattle.cfb_entry_changes.proofs.Sound.{put-is-changeable, put-is-snug, put-loses-none}
-use Rattle.cfb_entry_changes.proofs.Spared.{put-keeps-streams}
+use Rattle.cfb_agreement.specs.Putting.{PutsObject, WritesObject}
+use Rattle.cfb_agreement.proofs.Entries.{put-has-outline, put-is-balanced, put-is-exact, put-is-snug-mini}
+use Rattle.cfb_agreement.proofs.Fullness.{full-for-entry-is-full}
+use Rattle.cfb_agreement.proofs.Joined.{put-storage-joins-tree, put-stream-joins-tree}
+use Rattle.cfb_agreement.proofs.Sound.{put-is-changeable, put-is-snug, put-loses-none}
+use Rattle.cfb_agreement.proofs.Spared.{put-keeps-streams}
 use Rattle.cfb_agreement.specs.Changes.{KeepsParts, KeepsStreams, StaysOrFails, object_added_at}
 use Rattle.cfb_agreement.specs.Files.{Agrees, FileState, Holds, IsAsBefore, IsCounted, IsFullFile, is_failed}
 use Rattle.cfb_agreement.proofs.Flags.{flags-not-read, parts-flagged}

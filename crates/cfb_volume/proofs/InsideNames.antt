@@ -13,8 +13,8 @@ use Rattle.cfb_volume.specs.cfb_siblings.Painted.{times_in}
 use Rattle.cfb_volume.specs.cfb_siblings.Paths.{number_from}
 use Rattle.cfb_volume.proofs.cfb_siblings.NameFacts.{same-itself}
 use Rattle.cfb_volume.proofs.cfb_siblings.Tallies.{counted, hit-cases, hit-same, tally-append}
-use Rattle.cfb_volume.proofs.cfb_trees.PathDown.{Down, Step, down-after, down-number, number-down}
-use Rattle.cfb_volume.specs.cfb_mini_sectors.State.{MiniState, cases_of, entries_of}
+use Rattle.cfb_volume.proofs.cfb_siblings.PathDown.{Down, Step, down-after, down-number, number-down}
+use Rattle.cfb_volume.specs.cfb_mini.State.{MiniState, cases_of, entries_of}
 use Rattle.cfb_volume.specs.Clearing.{StandBelow}
 
 -- they lead on to each number of a part of what is in the storage n

@@ -13,9 +13,9 @@ use Rattle.cfb_volume.specs.cfb_siblings.Laws.{SameLinks}
 use Rattle.cfb_volume.specs.cfb_siblings.Painted.{times_in}
 use Rattle.cfb_volume.proofs.cfb_siblings.Outlines.{siblings-numbers}
 use Rattle.cfb_volume.proofs.cfb_siblings.Tallies.{counted, present}
-use Rattle.cfb_volume.proofs.cfb_trees.Kept.{SameNode, children-kept, contents-kept}
-use Rattle.cfb_volume.proofs.cfb_trees.Members.{stream-kind, stream-reached}
-use Rattle.cfb_volume.proofs.cfb_trees.Standing.{at-within, stands, stands-held, stands-inner}
+use Rattle.cfb_volume.proofs.cfb_siblings.TreesKept.{SameNode, children-kept, contents-kept}
+use Rattle.cfb_volume.proofs.cfb_siblings.Members.{stream-kind, stream-reached}
+use Rattle.cfb_volume.proofs.cfb_siblings.Standing.{at-within, stands, stands-held, stands-inner}
 use Rattle.cfb_volume.proofs.cfb_entries.Cleared.{stands-inside, top-apart}
 
 module _ (cases : Cases) (es : List Entry) (top : ℕ) where

@@ -1,18 +1,13 @@
-pub use Rattle.cfb_entry_changes.proofs.cfb_rules
-pub use Rattle.cfb_agreement.proofs.cfb_mini_changes
-pub use Rattle.cfb_growing.proofs.cfb_resizing
-pub use Rattle.cfb_agreement.proofs.cfb_mini_sectors
-pub use Rattle.cfb_entry_changes.proofs.cfb_siblings
-pub use Rattle.cfb_entry_changes.proofs.cfb_trees
-pub use Rattle.cfb_entry_changes.proofs.cfb_entries
-pub use Rattle.cfb_entry_changes.proofs.cfb_tables
-pub use Rattle.cfb_entry_changes.proofs.cfb_directory
-pub use Rattle.cfb_entry_changes.proofs.cfb_mini
-pub use Rattle.cfb_entry_changes.proofs.cfb_objects
-pub use Rattle.cfb_entry_changes.proofs.cfb_content
+pub use Rattle.cfb_agreement.proofs.cfb_rules
+pub use Rattle.cfb_agreement.proofs.cfb_mini
+pub use Rattle.cfb_resizing.proofs as cfb_resizing
+pub use Rattle.cfb_agreement.proofs.cfb_siblings
+pub use Rattle.cfb_agreement.proofs.cfb_entries
+pub use Rattle.cfb_agreement.proofs.cfb_tables
+pub use Rattle.cfb_agreement.proofs.cfb_directory
+pub use Rattle.cfb_agreement.proofs.cfb_listing
+pub use Rattle.cfb_agreement.proofs.cfb_content
 pub use Rattle.cfb_agreement.proofs as cfb_agreement
-pub use Rattle.cfb_sequences.proofs as cfb_sequences
-pub use Rattle.cfb_entry_changes.proofs as cfb_entry_changes
 pub mod Settings
 pub mod EmptyStreams
 pub mod LostEntries

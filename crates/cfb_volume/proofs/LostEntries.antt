@@ -9,23 +9,23 @@ use Rattle.cfb_format.specs.Reading.{IsOutline, Outline, numbers}
 use Rattle.cfb_format.specs.Siblings.{entry_at}
 use Rattle.cfb_format.proofs.Members.{Contains-here, Contains-or}
 use Rattle.cfb_format.proofs.Unique.{Below-unique}
-use Rattle.cfb_volume.specs.cfb_trees.Changes.{ButFields}
-use Rattle.cfb_volume.specs.cfb_trees.Reached.{IsReached}
-use Rattle.cfb_volume.proofs.cfb_trees.Reached.{below-reached, root-is-reached, root-or-below}
-use Rattle.cfb_volume.proofs.cfb_trees.Same.{set-fields}
-use Rattle.cfb_volume.proofs.cfb_trees.Standing.{reached-is-parent}
+use Rattle.cfb_volume.specs.cfb_siblings.Changes.{ButFields}
+use Rattle.cfb_volume.specs.cfb_siblings.Reached.{IsReached}
+use Rattle.cfb_volume.proofs.cfb_siblings.Reached.{below-reached, root-is-reached, root-or-below}
+use Rattle.cfb_volume.proofs.cfb_siblings.Same.{set-fields}
+use Rattle.cfb_volume.proofs.cfb_siblings.Standing.{reached-is-parent}
 use Rattle.cfb_volume.specs.cfb_entries.Fields.{entry_with_fields}
 use Rattle.cfb_volume.specs.cfb_entries.declared.fields.Fields.{Fields}
 use Rattle.cfb_volume.specs.cfb_directory.State.{with_room}
-use Rattle.cfb_volume.specs.cfb_mini_sectors.State.{MiniState, cases_of, entries_of}
-use Rattle.cfb_entry_changes.specs.Clearing.{ClearsStorage}
-use Rattle.cfb_entry_changes.specs.Marking.{MarksEntry}
-use Rattle.cfb_entry_changes.specs.Putting.{PutsObject}
-use Rattle.cfb_entry_changes.specs.Taking.{TakesObject}
-use Rattle.cfb_entry_changes.proofs.Emptied.{cleared-has-outline}
-use Rattle.cfb_entry_changes.proofs.Entries.{has-more, put-has-outline, put-is-new, same}
-use Rattle.cfb_entry_changes.proofs.Marked.{marked-has-outline}
-use Rattle.cfb_entry_changes.proofs.Taken.{taken-has-outline}
+use Rattle.cfb_volume.specs.cfb_mini.State.{MiniState, cases_of, entries_of}
+use Rattle.cfb_agreement.specs.Clearing.{ClearsStorage}
+use Rattle.cfb_agreement.specs.Marking.{MarksEntry}
+use Rattle.cfb_agreement.specs.Putting.{PutsObject}
+use Rattle.cfb_agreement.specs.Taking.{TakesObject}
+use Rattle.cfb_agreement.proofs.Emptied.{cleared-has-outline}
+use Rattle.cfb_agreement.proofs.Entries.{has-more, put-has-outline, put-is-new, same}
+use Rattle.cfb_agreement.proofs.Marked.{marked-has-outline}
+use Rattle.cfb_agreement.proofs.Taken.{taken-has-outline}
 use Rattle.cfb_agreement.specs.Changes.{LosesNoEntry}
 use Rattle.cfb_agreement.specs.Files.{IsLostEntry}
 

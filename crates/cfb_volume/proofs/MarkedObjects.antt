@@ -17,20 +17,20 @@ use Rattle.cfb_volume.specs.cfb_tables.Refused.{ChangeRefused}
 use Rattle.cfb_volume.specs.cfb_alloc.Frame.{Spares}
 use Rattle.cfb_volume.specs.cfb_directory.State.{HoldsDirectory}
 use Rattle.cfb_volume.specs.cfb_directory.Steps.{KeepsWholeHeader}
-use Rattle.cfb_volume.specs.cfb_trees.Reached.{IsReached}
-use Rattle.cfb_volume.proofs.cfb_trees.Members.{reached-is-used, reached-is-within}
-use Rattle.cfb_volume.specs.cfb_objects.Laws.{BecomesTree}
-use Rattle.cfb_volume.proofs.cfb_objects.Balance.{all-stay-balanced}
-use Rattle.cfb_volume.specs.cfb_mini_sectors.State.{HoldsMini, IsChangeable, MiniState, bytes_of, cases_of, entries_of, table_of, version_of}
-use Rattle.cfb_volume.specs.cfb_mini_sectors.Steps.{StopsShort}
+use Rattle.cfb_volume.specs.cfb_siblings.Reached.{IsReached}
+use Rattle.cfb_volume.proofs.cfb_siblings.Members.{reached-is-used, reached-is-within}
+use Rattle.cfb_volume.specs.cfb_listing.ObjectLaws.{BecomesTree}
+use Rattle.cfb_volume.proofs.cfb_listing.Balance.{all-stay-balanced}
+use Rattle.cfb_volume.specs.cfb_mini.State.{HoldsMini, IsChangeable, MiniState, bytes_of, cases_of, entries_of, table_of, version_of}
+use Rattle.cfb_volume.specs.cfb_mini.Steps.{StopsShort}
 use Rattle.cfb_agreement.specs.Changes.{KeepsParts}
 use Rattle.cfb_agreement.specs.Files.{FileState, Holds}
 use Rattle.cfb_agreement.proofs.Flags.{flags-not-read}
 use Rattle.cfb_agreement.proofs.HeldBytes.{changeable-is-held}
 use Rattle.cfb_volume.specs.cfb_content.Contents.{len_of}
-use Rattle.cfb_entry_changes.specs.Kept.{AllStayBalanced, FindsTheSame}
-use Rattle.cfb_entry_changes.specs.Marking.{GivesFields, MarksEntry, WritesFields}
-use Rattle.cfb_entry_changes.proofs.Marked.{marked-changes-tree, marked-has-outline, marked-is-balanced, marked-is-changeable, marked-is-found, marked-is-snug, marked-is-snug-mini, marked-keeps-root, marked-loses-none}
+use Rattle.cfb_agreement.specs.Kept.{AllStayBalanced, FindsTheSame}
+use Rattle.cfb_agreement.specs.Marking.{GivesFields, MarksEntry, WritesFields}
+use Rattle.cfb_agreement.proofs.Marked.{marked-changes-tree, marked-has-outline, marked-is-balanced, marked-is-changeable, marked-is-found, marked-is-snug, marked-is-snug-mini, marked-keeps-root, marked-loses-none}
 use Rattle.cfb_volume.proofs.EmptyStreams.{marked-at-end}
 use Rattle.cfb_volume.proofs.LostEntries.{marked-loses-no-entry}
 use Rattle.cfb_volume.proofs.InsertedObjects.{ended, file_with, parts-ended}

@@ -11,16 +11,16 @@ use Rattle.cfb_codecs.specs.EntryModel.{new_entry}
 use Rattle.cfb_volume.specs.cfb_tables.Changes.{NoneFree}
 use Rattle.cfb_volume.specs.cfb_tables.Tables.{TableState}
 use Rattle.cfb_volume.specs.cfb_entries.EntryList.{has_free}
-use Rattle.cfb_volume.proofs.cfb_trees.PathReached.{reached-is-found}
+use Rattle.cfb_volume.proofs.cfb_siblings.PathReached.{reached-is-found}
 use Rattle.cfb_volume.proofs.cfb_directory.NamesFound.{inserted-is-found}
 use Rattle.cfb_volume.specs.cfb_siblings.Laws.{grown_by}
-use Rattle.cfb_volume.specs.cfb_mini_sectors.State.{MiniState, cases_of, entries_of, tables_in, version_of}
+use Rattle.cfb_volume.specs.cfb_mini.State.{MiniState, cases_of, entries_of, tables_in, version_of}
 use Rattle.cfb_volume.specs.cfb_siblings.Paths.{number_from}
-use Rattle.cfb_entry_changes.specs.Putting.{PutsObject}
-use Rattle.cfb_entry_changes.proofs.Entries.{either, kept-links, reached, streams}
-use Rattle.cfb_entry_changes.specs.Kept.{KeepsFound}
-use Rattle.cfb_entry_changes.specs.Standing.{StandStill}
-use Rattle.cfb_entry_changes.proofs.Taken.{same-content}
+use Rattle.cfb_agreement.specs.Putting.{PutsObject}
+use Rattle.cfb_agreement.proofs.Entries.{either, kept-links, reached, streams}
+use Rattle.cfb_agreement.specs.Kept.{KeepsFound}
+use Rattle.cfb_agreement.specs.Standing.{StandStill}
+use Rattle.cfb_agreement.proofs.Taken.{same-content}
 use Rattle.cfb_volume.specs.Slots.{TakesSlot, used_count}
 use Rattle.cfb_volume.proofs.UsedSlots.{grown-used, one-more-used}
 use Rattle.cfb_format.specs.Full.{is_unallocated}

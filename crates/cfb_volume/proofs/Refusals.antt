@@ -6,8 +6,8 @@ use Rattle.cfb_format.specs.declared.error.Error.TheVariants.{AlreadyExists, Fai
 use Rattle.cfb_format.specs.Full.{IsFull}
 use Rattle.cfb_format.specs.Refused.{AfterMedium, IsBreak, IsMemory}
 use Rattle.cfb_volume.specs.cfb_tables.Refused.{ChangeRefused}
-use Rattle.cfb_volume.specs.cfb_mini_sectors.State.{MiniState, parts_of, tables_in}
-use Rattle.cfb_volume.specs.cfb_mini_sectors.Steps.{StopsShort}
+use Rattle.cfb_volume.specs.cfb_mini.State.{MiniState, parts_of, tables_in}
+use Rattle.cfb_volume.specs.cfb_mini.Steps.{StopsShort}
 use Rattle.cfb_volume.specs.cfb_resizing.Turning.{StopsOrBegun, StopsOrIsFull}
 use Rattle.cfb_agreement.specs.Files.{FileState}
 use Rattle.cfb_volume.proofs.ContentSteps.{file_on}

@@ -19,7 +19,7 @@ use Rattle.cfb_outline.specs.Outlines.{IsReachedStorage}
 use Rattle.cfb_volume.specs.cfb_siblings.Children.{HasChildren, IsChildNamed, KeepsBalance}
 use Rattle.cfb_volume.specs.cfb_rules.CallChanges.{content_changed_at, removed_at}
 use Rattle.cfb_volume.specs.cfb_rules.Finding.{last_name, parent_names}
-use Rattle.cfb_sequences.proofs.Removals.{removed-own}
+use Rattle.cfb_rules.proofs.Removals.{removed-own}
 use Rattle.cfb_volume.specs.cfb_siblings.Laws.{SameLinks}
 use Rattle.cfb_volume.specs.cfb_siblings.Paths.{number_from}
 use Rattle.cfb_volume.specs.cfb_siblings.Painted.{times_in}
@@ -28,13 +28,13 @@ use Rattle.cfb_volume.proofs.cfb_siblings.NameFacts.{later-not-same}
 use Rattle.cfb_volume.proofs.cfb_siblings.Tallies.{all-at, counted, hit-cases, hit-same, tally-append}
 use Rattle.cfb_volume.specs.cfb_alloc.Frame.{Spares}
 use Rattle.cfb_volume.specs.cfb_tables.Refused.{ChangeRefused}
-use Rattle.cfb_volume.specs.cfb_trees.Paths.{number_after}
-use Rattle.cfb_volume.proofs.cfb_trees.Members.{streams-are-by-kind}
+use Rattle.cfb_volume.specs.cfb_siblings.TreePaths.{number_after}
+use Rattle.cfb_volume.proofs.cfb_siblings.Members.{streams-are-by-kind}
 use Rattle.cfb_volume.specs.cfb_entries.EntryList.{RemovesEntry}
 use Rattle.cfb_volume.specs.cfb_directory.Steps.{KeepsWholeHeader}
-use Rattle.cfb_volume.specs.cfb_objects.Laws.{BecomesTree}
-use Rattle.cfb_volume.specs.cfb_mini_sectors.State.{HoldsMini, IsChangeable, MiniState, bytes_of, cases_of, content_of, entries_of, table_of, tables_in}
-use Rattle.cfb_volume.specs.cfb_mini_sectors.Steps.{KeepsLimits, KeepsMini, StopsShort}
+use Rattle.cfb_volume.specs.cfb_listing.ObjectLaws.{BecomesTree}
+use Rattle.cfb_volume.specs.cfb_mini.State.{HoldsMini, IsChangeable, MiniState, bytes_of, cases_of, content_of, entries_of, table_of, tables_in}
+use Rattle.cfb_volume.specs.cfb_mini.Steps.{KeepsLimits, KeepsMini, StopsShort}
 use Rattle.cfb_volume.specs.cfb_mini.MiniSectors.{IsStill}
 use Rattle.cfb_volume.specs.cfb_content.Contents.{IsStreamOf, KeepsOthers, MovesContent, len_of}
 use Rattle.cfb_volume.proofs.cfb_content.Kept.{nothing-is-moved, others-kept-then}
@@ -45,13 +45,13 @@ use Rattle.cfb_agreement.proofs.ContentChanges.{content-becomes-tree}
 use Rattle.cfb_agreement.proofs.Flags.{as-before-same, flags-not-read}
 use Rattle.cfb_agreement.proofs.HeldBytes.{changeable-is-held}
 use Rattle.cfb_agreement.proofs.Parts.{parts-same, parts-then}
-use Rattle.cfb_volume.proofs.cfb_objects.Balance.{fields-keep-balance}
-use Rattle.cfb_entry_changes.proofs.Spared.{put-keeps-streams}
-use Rattle.cfb_entry_changes.specs.Kept.{AllStayBalancedBut, FindsAllBut}
-use Rattle.cfb_entry_changes.specs.Taking.{TakesObject, WritesRemoval}
-use Rattle.cfb_entry_changes.proofs.Moved.{moved-fields, moved-is-found}
-use Rattle.cfb_entry_changes.proofs.Taken.{taken-has-outline, taken-is-changeable, taken-is-not-found, taken-is-snug, taken-is-snug-mini, taken-keeps-root, taken-leaves-tree, taken-loses-none}
-use Rattle.cfb_entry_changes.proofs.TakenBalance.{taken-is-balanced}
+use Rattle.cfb_volume.proofs.cfb_listing.Balance.{fields-keep-balance}
+use Rattle.cfb_agreement.proofs.Spared.{put-keeps-streams}
+use Rattle.cfb_agreement.specs.Kept.{AllStayBalancedBut, FindsAllBut}
+use Rattle.cfb_agreement.specs.Taking.{TakesObject, WritesRemoval}
+use Rattle.cfb_agreement.proofs.Moved.{moved-fields, moved-is-found}
+use Rattle.cfb_agreement.proofs.Taken.{taken-has-outline, taken-is-changeable, taken-is-not-found, taken-is-snug, taken-is-snug-mini, taken-keeps-root, taken-leaves-tree, taken-loses-none}
+use Rattle.cfb_agreement.proofs.TakenBalance.{taken-is-balanced}
 use Rattle.cfb_format.specs.Refused.{IsBreak}
 use Rattle.cfb_volume.specs.Removing.{WasEmptied}
 use Rattle.cfb_volume.proofs.Balances.{all-but-balanced}

@@ -16,20 +16,20 @@ use Rattle.cfb_format.proofs.Unique.{Below-unique, IsOutline-unique}
 use Rattle.cfb_outline.specs.Outlines.{IsReachedStorage}
 use Rattle.cfb_volume.specs.cfb_rules.CallChanges.{removed_at, tree_changed_at}
 use Rattle.cfb_volume.specs.cfb_rules.Finding.{last_name, parent_names}
-use Rattle.cfb_sequences.proofs.Removals.{removed-below}
+use Rattle.cfb_rules.proofs.Removals.{removed-below}
 use Rattle.cfb_volume.specs.cfb_siblings.Children.{HasChildren, IsChildNamed}
 use Rattle.cfb_volume.specs.cfb_siblings.Laws.{SameLinks}
 use Rattle.cfb_volume.specs.cfb_siblings.Paths.{number_from}
 use Rattle.cfb_volume.specs.cfb_siblings.Painted.{times_in}
 use Rattle.cfb_volume.proofs.cfb_siblings.Kept.{below-kept}
 use Rattle.cfb_volume.proofs.cfb_siblings.Tallies.{present}
-use Rattle.cfb_volume.specs.cfb_trees.Reached.{IsReached}
-use Rattle.cfb_volume.proofs.cfb_trees.Members.{reached-is-object, reached-is-used, streams-are-by-kind, used-is-within}
-use Rattle.cfb_volume.proofs.cfb_trees.PathDown.{same-some}
-use Rattle.cfb_volume.proofs.cfb_trees.Reached.{below-reached, root-is-reached, root-or-below}
-use Rattle.cfb_volume.proofs.cfb_trees.Standing.{reached-is-parent}
-use Rattle.cfb_volume.specs.cfb_objects.Laws.{BecomesTree}
-use Rattle.cfb_volume.specs.cfb_mini_sectors.State.{MiniState, bytes_of, cases_of, entries_of, tables_in}
+use Rattle.cfb_volume.specs.cfb_siblings.Reached.{IsReached}
+use Rattle.cfb_volume.proofs.cfb_siblings.Members.{reached-is-object, reached-is-used, streams-are-by-kind, used-is-within}
+use Rattle.cfb_volume.proofs.cfb_siblings.PathDown.{same-some}
+use Rattle.cfb_volume.proofs.cfb_siblings.Reached.{below-reached, root-is-reached, root-or-below}
+use Rattle.cfb_volume.proofs.cfb_siblings.Standing.{reached-is-parent}
+use Rattle.cfb_volume.specs.cfb_listing.ObjectLaws.{BecomesTree}
+use Rattle.cfb_volume.specs.cfb_mini.State.{MiniState, bytes_of, cases_of, entries_of, tables_in}
 use Rattle.cfb_volume.specs.cfb_content.Contents.{KeepsContent, KeepsOthers}
 use Rattle.cfb_volume.proofs.cfb_content.Kept.{keeps-then}
 use Rattle.cfb_volume.proofs.cfb_content.Outlines.{no-root-stream}

@@ -6,7 +6,7 @@ use Rattle.cfb_format.specs.declared.error.Error.{Error}
 use Rattle.cfb_format.specs.declared.error.Error.TheVariants.{AlreadyExists, Failed, Full, InvalidData, InvalidInput, Medium, Memory, NotFound, Unsound}
 use Rattle.cfb_format.specs.declared.medium.MediumFault.{MediumFault}
 use Rattle.cfb_format.specs.Refused.{CountsError, CountsFailure, IsBreak}
-use Rattle.cfb_volume.specs.cfb_mini_sectors.State.{MiniState}
+use Rattle.cfb_volume.specs.cfb_mini.State.{MiniState}
 use Rattle.cfb_volume.specs.cfb_content.Contents.{KeepsContent, KeepsFixedHeader}
 use Rattle.cfb_format.specs.DirectoryEntry.{Entry}
 use Rattle.cfb_volume.proofs.cfb_content.FixedHeader.{header-then}

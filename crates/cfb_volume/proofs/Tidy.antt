@@ -6,26 +6,26 @@ use Rattle.cfb_format.specs.declared.validate.Validation.{Validation}
 use Rattle.cfb_format.specs.declared.validate.Validation.TheVariants.{Strict}
 use Rattle.cfb_volume.specs.cfb_tables.Listed.{ends_of, gained}
 use Rattle.cfb_volume.specs.cfb_tables.Tables.{AreExactTables, TableState}
-use Rattle.cfb_volume.specs.cfb_trees.Balance.{AreAllBalanced}
+use Rattle.cfb_volume.specs.cfb_siblings.Balance.{AreAllBalanced}
 use Rattle.cfb_volume.specs.cfb_alloc.Frame.{Spares}
 use Rattle.cfb_volume.specs.cfb_alloc.ListedChain.{Lengthens}
 use Rattle.cfb_volume.specs.cfb_entries.EntryList.{has_free}
 use Rattle.cfb_volume.specs.cfb_directory.Inserting.{KeepsSectorsIfFree, SparesRest, WritesDirectory}
 use Rattle.cfb_volume.specs.cfb_directory.Steps.{KeepsWholeHeader}
-use Rattle.cfb_volume.specs.cfb_mini_sectors.State.{HoldsMini, IsChangeable, MiniState, bytes_of, cases_of, entries_of, table_of, tables_in}
-use Rattle.cfb_volume.specs.cfb_mini_sectors.Steps.{IsSnugMini, KeepsLimits}
+use Rattle.cfb_volume.specs.cfb_mini.State.{HoldsMini, IsChangeable, MiniState, bytes_of, cases_of, entries_of, table_of, tables_in}
+use Rattle.cfb_volume.specs.cfb_mini.Steps.{IsSnugMini, KeepsLimits}
 use Rattle.cfb_volume.specs.cfb_mini.MiniSectors.{IsOfWholeSectors}
 use Rattle.cfb_volume.proofs.cfb_mini.WholeFiles.{same-whole, taken-whole}
 use Rattle.cfb_volume.specs.cfb_content.Contents.{AreSnug, LosesNone}
 use Rattle.cfb_volume.proofs.cfb_content.DirCount.{count-stays}
-use Rattle.cfb_entry_changes.specs.Standing.{KeepsAllButEntries}
-use Rattle.cfb_entry_changes.proofs.Entries.{either}
+use Rattle.cfb_agreement.specs.Standing.{KeepsAllButEntries}
+use Rattle.cfb_agreement.proofs.Entries.{either}
 use Rattle.cfb_agreement.specs.Changes.{KeepsParts, LosesNoEntry}
 use Rattle.cfb_agreement.specs.Files.{EmptyStartAtEnd, IsCounted}
 use Rattle.cfb_agreement.proofs.ContentChanges.{same-counted}
 use Rattle.cfb_agreement.proofs.Parts.{none-freed}
-use Rattle.cfb_volume.proofs.cfb_mini_sectors.MinifatGrown.{below_words}
-use Rattle.cfb_volume.proofs.cfb_mini_changes.MiniExtended.{header-whole}
+use Rattle.cfb_volume.proofs.cfb_mini.MinifatGrown.{below_words}
+use Rattle.cfb_volume.proofs.cfb_mini.MiniExtended.{header-whole}
 
 -- where the tables stay the file is a whole number of sectors still
 tables-whole : (v : Validation) (old new : MiniState) → HoldsMini v new → tables_in new ≡ tables_in old → length (bytes_of old) ≤ length (bytes_of new)

@@ -14,9 +14,9 @@ use Rattle.cfb_format.specs.Full.{is_unallocated}
 use Rattle.cfb_format.specs.Names.{Cases}
 use Rattle.cfb_format.specs.Siblings.{entry_at}
 use Rattle.cfb_format.proofs.Members.{Contains-or}
-use Rattle.cfb_entry_changes.proofs.Entries.{either}
+use Rattle.cfb_agreement.proofs.Entries.{either}
 use Rattle.cfb_volume.specs.cfb_entries.EntryList.{has_free}
-use Rattle.cfb_volume.specs.cfb_mini_sectors.State.{MiniState, entries_of, version_of}
+use Rattle.cfb_volume.specs.cfb_mini.State.{MiniState, entries_of, version_of}
 use Rattle.cfb_volume.specs.cfb_siblings.Children.{HasInserted}
 use Rattle.cfb_volume.specs.cfb_siblings.Laws.{grown_by}
 use Rattle.cfb_volume.specs.Slots.{TakesSlot, TakesSlotsOf, used_count}

@@ -1,7 +1,7 @@
 -- What calls on a file answer.
 use Rattle.std.specs.Prelude.{ℕ, ◌≡◌, ◌⊎◌, List, true}
 use Rattle.cfb_format.specs.Siblings.{entry_at}
-use Rattle.cfb_volume.specs.cfb_mini_sectors.State.{content_of, entries_of}
+use Rattle.cfb_volume.specs.cfb_mini.State.{content_of, entries_of}
 use Rattle.cfb_volume.specs.cfb_mini.MiniSectors.{IsStill}
 use Rattle.cfb_agreement.specs.Files.{FileState, is_failed}
 

@@ -7,7 +7,7 @@ use Rattle.cfb_agreement.specs.Files.{FileState, is_failed, Agrees, Holds, SameS
 use Rattle.cfb_agreement.specs.Changes.{StaysOrFails, KeepsParts, KeepsStreams}
 use Rattle.cfb_volume.specs.cfb_content.Contents.{KeepsFixedHeader}
 use Rattle.cfb_agreement.specs.Laws.{with_flags}
-use Rattle.cfb_volume.specs.cfb_mini_sectors.State.{entries_of}
+use Rattle.cfb_volume.specs.cfb_mini.State.{entries_of}
 use Rattle.cfb_volume.specs.Answers.{StaysInMemoryOrFails}
 
 -- the file is sound, and no change of it broke off

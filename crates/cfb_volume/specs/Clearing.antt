@@ -14,10 +14,10 @@ use Rattle.cfb_outline.specs.Outlines.{HasInside, IsReachedStorage}
 use Rattle.cfb_volume.specs.cfb_rules.CallChanges.{removed_at, tree_changed_at}
 use Rattle.cfb_volume.specs.cfb_rules.Finding.{last_name, parent_names}
 use Rattle.cfb_volume.specs.cfb_siblings.Paths.{number_from}
-use Rattle.cfb_volume.specs.cfb_objects.Laws.{BecomesTree}
-use Rattle.cfb_volume.specs.cfb_mini_sectors.State.{MiniState, bytes_of, cases_of, entries_of, tables_in}
+use Rattle.cfb_volume.specs.cfb_listing.ObjectLaws.{BecomesTree}
+use Rattle.cfb_volume.specs.cfb_mini.State.{MiniState, bytes_of, cases_of, entries_of, tables_in}
 use Rattle.cfb_volume.specs.cfb_content.Contents.{KeepsContent, KeepsFixedHeader, len_of}
-use Rattle.cfb_entry_changes.specs.Kept.{AllStayBalanced, AllStayBalancedBut}
+use Rattle.cfb_agreement.specs.Kept.{AllStayBalanced, AllStayBalancedBut}
 use Rattle.cfb_agreement.specs.Changes.{KeepsParts, StaysOrFails}
 use Rattle.cfb_agreement.specs.Files.{Agrees, FileState, Holds, SameSetting, failures_of, is_failed, GrowsTightly}
 use Rattle.cfb_volume.specs.Answers.{StaysInMemoryOrFails}

@@ -9,13 +9,13 @@ use Rattle.cfb_format.specs.Refused.{AfterMedium, IsBreak}
 use Rattle.cfb_agreement.specs.Files.{FileState, Holds, GrowsTightly, IsFullFile, is_failed}
 use Rattle.cfb_agreement.specs.Changes.{object_added_at}
 use Rattle.cfb_volume.specs.cfb_content.Contents.{len_of}
-use Rattle.cfb_volume.specs.cfb_mini_sectors.State.{bytes_of, cases_of, entries_of, tables_in}
-use Rattle.cfb_volume.specs.cfb_objects.Laws.{BecomesTree}
+use Rattle.cfb_volume.specs.cfb_mini.State.{bytes_of, cases_of, entries_of, tables_in}
+use Rattle.cfb_volume.specs.cfb_listing.ObjectLaws.{BecomesTree}
 use Rattle.cfb_volume.specs.cfb_rules.Finding.{last_name, parent_names}
 use Rattle.cfb_volume.specs.cfb_siblings.Paths.{number_from}
-use Rattle.cfb_volume.specs.cfb_trees.Reached.{IsReached}
-use Rattle.cfb_entry_changes.specs.Kept.{AllStayBalanced, KeepsFound}
-use Rattle.cfb_entry_changes.specs.Standing.{StandStill}
+use Rattle.cfb_volume.specs.cfb_siblings.Reached.{IsReached}
+use Rattle.cfb_agreement.specs.Kept.{AllStayBalanced, KeepsFound}
+use Rattle.cfb_agreement.specs.Standing.{StandStill}
 use Rattle.cfb_volume.specs.cfb_tables.Changes.{NoneFree}
 use Rattle.cfb_volume.specs.cfb_directory.State.{IsFullForEntry}
 use Rattle.cfb_volume.specs.cfb_tables.Refused.{ChangeRefused}

@@ -9,13 +9,13 @@ use Rattle.cfb_agreement.specs.Files.{FileState, Holds}
 use Rattle.cfb_volume.specs.cfb_entries.declared.fields.Fields.{Fields}
 use Rattle.cfb_volume.specs.cfb_content.Contents.{len_of}
 use Rattle.cfb_volume.specs.cfb_entries.Fields.{entry_with_fields, entries_with_fields}
-use Rattle.cfb_volume.specs.cfb_mini_sectors.State.{cases_of, entries_of, version_of, bytes_of, tables_in}
-use Rattle.cfb_volume.specs.cfb_trees.Reached.{IsReached}
-use Rattle.cfb_entry_changes.specs.Marking.{GivesFields}
-use Rattle.cfb_volume.specs.cfb_objects.Laws.{BecomesTree}
+use Rattle.cfb_volume.specs.cfb_mini.State.{cases_of, entries_of, version_of, bytes_of, tables_in}
+use Rattle.cfb_volume.specs.cfb_siblings.Reached.{IsReached}
+use Rattle.cfb_agreement.specs.Marking.{GivesFields}
+use Rattle.cfb_volume.specs.cfb_listing.ObjectLaws.{BecomesTree}
 use Rattle.cfb_volume.specs.cfb_rules.CallChanges.{fields_changed_at}
 use Rattle.cfb_volume.specs.cfb_siblings.Paths.{number_from}
-use Rattle.cfb_entry_changes.specs.Kept.{AllStayBalanced, FindsTheSame}
+use Rattle.cfb_agreement.specs.Kept.{AllStayBalanced, FindsTheSame}
 
 -- the entry is reached, and the fields that it may be given leave its content where it is, as long as it is, and the entry valid
 pub record CanSetFields (given : Fields → Type 0) (file : FileState) (number : ℕ) : Type 0 where

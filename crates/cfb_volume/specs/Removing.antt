@@ -8,14 +8,14 @@ use Rattle.cfb_format.specs.Siblings.{entry_at}
 use Rattle.cfb_format.specs.Reading.{IsOutline, Outline, numbers}
 use Rattle.cfb_format.specs.Refused.{AfterMedium, IsBreak, CountsFailure}
 use Rattle.cfb_agreement.specs.Files.{FileState, Holds, GrowsTightly}
-use Rattle.cfb_volume.specs.cfb_mini_sectors.State.{IsChangeable, MiniState, entries_of, tables_in, cases_of, bytes_of, table_of}
-use Rattle.cfb_volume.specs.cfb_mini_sectors.Steps.{KeepsLimits}
+use Rattle.cfb_volume.specs.cfb_mini.State.{IsChangeable, MiniState, entries_of, tables_in, cases_of, bytes_of, table_of}
+use Rattle.cfb_volume.specs.cfb_mini.Steps.{KeepsLimits}
 use Rattle.cfb_volume.specs.cfb_content.Contents.{KeepsOthers, MovesContent, len_of, LeavesZeros, KeepsFixedHeader}
 use Rattle.cfb_agreement.specs.Changes.{KeepsParts}
 use Rattle.cfb_outline.specs.Outlines.{IsReachedStorage}
 use Rattle.cfb_volume.specs.cfb_siblings.Children.{HasChildren, IsChildNamed}
-use Rattle.cfb_entry_changes.specs.Kept.{AllStayBalancedBut, FindsAllBut}
-use Rattle.cfb_volume.specs.cfb_objects.Laws.{BecomesTree}
+use Rattle.cfb_agreement.specs.Kept.{AllStayBalancedBut, FindsAllBut}
+use Rattle.cfb_volume.specs.cfb_listing.ObjectLaws.{BecomesTree}
 use Rattle.cfb_volume.specs.cfb_rules.CallChanges.{removed_at}
 use Rattle.cfb_volume.specs.cfb_rules.Finding.{last_name, parent_names}
 use Rattle.cfb_volume.specs.cfb_siblings.Paths.{number_from}

@@ -4,7 +4,7 @@ use Rattle.cfb_format.specs.Bytes.{entries_per_sector}
 use Rattle.cfb_format.specs.DirectoryEntry.{Entry}
 use Rattle.cfb_format.specs.Full.{is_unallocated}
 use Rattle.cfb_volume.specs.cfb_entries.EntryList.{has_free}
-use Rattle.cfb_volume.specs.cfb_mini_sectors.State.{MiniState, entries_of, tables_in, version_of}
+use Rattle.cfb_volume.specs.cfb_mini.State.{MiniState, entries_of, tables_in, version_of}
 
 -- how many of these slots hold an object
 abbrev pub used_count : List Entry → ℕ

@@ -8,7 +8,7 @@ use Rattle.cfb_format.specs.Refused.{IsBreak, AfterMedium, CountsFailure, IsInva
 use Rattle.cfb_format.specs.declared.error.Error.TheVariants.{Full}
 use Rattle.cfb_agreement.specs.Files.{FileState, Holds, IsAsBefore, SameSetting, is_failed, failures_of}
 use Rattle.cfb_volume.specs.cfb_content.Contents.{IsStreamOf, len_of, MovesContent, ErasesMinis, IsTooLongFor}
-use Rattle.cfb_volume.specs.cfb_mini_sectors.State.{version_of, tables_in, entries_of}
+use Rattle.cfb_volume.specs.cfb_mini.State.{version_of, tables_in, entries_of}
 use Rattle.cfb_agreement.specs.Changes.{ChangesOneContent}
 use Rattle.cfb_volume.specs.cfb_rules.StreamCalls.{resized}
 use Rattle.cfb_volume.specs.cfb_resizing.Turning.{LeavesNoMinis}

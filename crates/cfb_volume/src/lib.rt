@@ -10,4 +10,4 @@ mod removing;
 pub mod volume;
 
 // What crates above name of those below.
-pub use cfb_growing::Fields;
+pub use cfb_resizing::Fields;

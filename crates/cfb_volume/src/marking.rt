@@ -10,20 +10,20 @@ ghost use Rattle.cfb_format.specs.Tree.{StorageInfo, StreamInfo};
 ghost use Rattle.cfb_volume.specs.cfb_entries.Fields.{entries_with_fields, entry_with_fields, fields_in};
 ghost use Rattle.cfb_volume.specs.cfb_rules.CallChanges.{fields_changed_at};
 ghost use Rattle.cfb_volume.specs.cfb_siblings.Paths.{number_from};
-ghost use Rattle.cfb_volume.specs.cfb_trees.Reached.{IsReached};
-ghost use Rattle.cfb_volume.specs.cfb_objects.Laws.{BecomesTree};
-ghost use Rattle.cfb_volume.specs.cfb_mini_sectors.State.{bytes_of, cases_of, entries_of, tables_in, version_of};
+ghost use Rattle.cfb_volume.specs.cfb_siblings.Reached.{IsReached};
+ghost use Rattle.cfb_volume.specs.cfb_listing.ObjectLaws.{BecomesTree};
+ghost use Rattle.cfb_volume.specs.cfb_mini.State.{bytes_of, cases_of, entries_of, tables_in, version_of};
 ghost use Rattle.cfb_volume.specs.cfb_content.Contents.{KeepsFixedHeader, len_of};
 ghost use Rattle.cfb_agreement.specs.Changes.{KeepsParts, KeepsStreams, StaysOrFails};
 ghost use Rattle.cfb_agreement.specs.Files.{Agrees, Holds, SameSetting, failures_of, is_failed};
-ghost use Rattle.cfb_entry_changes.specs.Kept.{AllStayBalanced, FindsTheSame};
-ghost use Rattle.cfb_entry_changes.specs.Marking.{GivesFields};
+ghost use Rattle.cfb_agreement.specs.Kept.{AllStayBalanced, FindsTheSame};
+ghost use Rattle.cfb_agreement.specs.Marking.{GivesFields};
 ghost use Rattle.cfb_volume.specs.Answers.{StaysInMemoryOrFails};
 
 use crate::volume::Volume;
 use cfb_format::error::Error;
 use cfb_format::medium::Medium;
-use cfb_growing::Fields;
+use cfb_resizing::Fields;
 use std::alloc::Allocator as Heap;
 
 impl<F: Medium, A: Heap> Volume<F, A> {

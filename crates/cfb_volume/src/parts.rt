@@ -3,7 +3,7 @@ ghost use Rattle.std.specs.Prelude.{◌≡◌};
 
 use crate::volume::Volume;
 use cfb_format::medium::ReadMedium;
-use cfb_growing::MiniAllocator;
+use cfb_resizing::MiniAllocator;
 use std::alloc::Allocator as Heap;
 
 impl<F: ReadMedium, A: Heap> Volume<F, A> {

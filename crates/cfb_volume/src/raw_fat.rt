@@ -3,7 +3,7 @@ ghost use Rattle.std.specs.Prelude.{◌≡◌, false, IsTrue, IfErr, IfOk, OnOk}
 ghost use Rattle.cfb_format.specs.Refused.{CountsFailure};
 ghost use Rattle.cfb_reading.specs.RawFat.{HasFatSectors, raw_words};
 ghost use Rattle.cfb_volume.specs.cfb_tables.Refused.{ChangeRefused};
-ghost use Rattle.cfb_volume.specs.cfb_mini_sectors.State.{bytes_of, table_of};
+ghost use Rattle.cfb_volume.specs.cfb_mini.State.{bytes_of, table_of};
 ghost use Rattle.cfb_volume.specs.cfb_mini.MiniSectors.{IsStill};
 ghost use Rattle.cfb_agreement.specs.Files.{IsAsBefore, failures_of, is_failed};
 ghost use Rattle.cfb_volume.specs.Answers.{IsAsBeforeInMemory};
@@ -11,8 +11,8 @@ ghost use Rattle.cfb_volume.specs.Answers.{IsAsBeforeInMemory};
 use crate::volume::Volume;
 use cfb_format::error::Error;
 use cfb_format::medium::ReadMedium;
-use cfb_growing::MiniAllocator;
 use cfb_reading::raw_fat::read_raw_fat;
+use cfb_resizing::MiniAllocator;
 use std::alloc::Allocator as Heap;
 
 impl<F: ReadMedium, A: Heap + Clone> Volume<F, A> {

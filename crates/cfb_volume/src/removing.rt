@@ -12,12 +12,12 @@ ghost use Rattle.cfb_volume.specs.cfb_rules.CallChanges.{removed_at};
 ghost use Rattle.cfb_volume.specs.cfb_rules.Finding.{last_name, parent_names};
 ghost use Rattle.cfb_volume.specs.cfb_siblings.Children.{HasChildren, IsChildNamed};
 ghost use Rattle.cfb_volume.specs.cfb_siblings.Paths.{number_from};
-ghost use Rattle.cfb_volume.specs.cfb_objects.Laws.{BecomesTree};
-ghost use Rattle.cfb_volume.specs.cfb_mini_sectors.State.{IsChangeable, bytes_of, cases_of, entries_of, table_of, tables_in};
+ghost use Rattle.cfb_volume.specs.cfb_listing.ObjectLaws.{BecomesTree};
+ghost use Rattle.cfb_volume.specs.cfb_mini.State.{IsChangeable, bytes_of, cases_of, entries_of, table_of, tables_in};
 ghost use Rattle.cfb_volume.specs.cfb_mini.MiniSectors.{IsStill};
 ghost use Rattle.cfb_volume.specs.cfb_content.Changed.{MovesAlone, SparesOthers};
 ghost use Rattle.cfb_volume.specs.cfb_content.Contents.{KeepsFixedHeader, KeepsOthers, LeavesZeros, len_of};
-ghost use Rattle.cfb_entry_changes.specs.Kept.{AllStayBalancedBut, FindsAllBut};
+ghost use Rattle.cfb_agreement.specs.Kept.{AllStayBalancedBut, FindsAllBut};
 ghost use Rattle.cfb_agreement.specs.Changes.{KeepsParts, StaysOrFails};
 ghost use Rattle.cfb_agreement.specs.Files.{Agrees, Holds, GrowsTightly, SameSetting, failures_of, is_failed};
 ghost use Rattle.cfb_volume.specs.Removing.{StaysOrGaveBack, WasEmptied, HasChildNamed, RemovesObject, OtherStreamsStay, TakesNoSector, RemoveRefused, ChangesOwnContent, GivesContentBack, EmptyingRefused};
@@ -28,7 +28,8 @@ use crate::volume::Volume;
 use cfb_format::error::Error;
 use cfb_format::medium::Medium;
 use cfb_format::objtype::ObjType;
-use cfb_growing::{MiniAllocator, resize_content};
+use cfb_resizing::MiniAllocator;
+use cfb_resizing::resizing::resize_content;
 use std::alloc::Allocator as Heap;
 
 /// Gives the content of a stream back; a storage has none. What was begun is not ended.

@@ -6,3 +6,5 @@ pub mod Stored
 pub mod WholeWrites
 pub mod WholePuts
 pub mod WholeReads
+pub mod Worked
+pub mod PartsStored

@@ -7,7 +7,7 @@ use Rattle.cfb_format.specs.Names.{Cases}
 use Rattle.cfb_format.specs.Tree.{Tree}
 use Rattle.cfb_format.proofs.Unique.{Means-unique}
 use Rattle.cfb_rules.specs.Lists.{creates, on_stream}
-use Rattle.cfb_whole_streams.specs.cfb_mini_sectors.State.{bytes_of, cases_of}
+use Rattle.cfb_whole_streams.specs.cfb_mini.State.{bytes_of, cases_of}
 use Rattle.cfb_whole_streams.specs.cfb_agreement.Files.{Agrees, FileState}
 use Rattle.cfb_whole_streams.specs.cfb_path_changes.Answers.{MeansTree, setting_of}
 use Rattle.cfb_commands.specs.Promised.{promised}

@@ -18,13 +18,13 @@ use Rattle.cfb_rules.specs.Refusal.{Refusal, failed_earlier, invalid_data, inval
 use Rattle.cfb_rules.specs.Runs.{BlamesOneOf, CallRuns, Causes, Closes, FollowsRules, IsBroken, IsStreamBroken, Setting, StreamCallRuns, StreamOnFailed, StreamRun, TreeState, opened_by_path, stream_fields}
 use Rattle.cfb_rules.specs.StreamCalls.{Moves, ReadToEnd, StreamReply, StreamSetting, StreamState, StreamStep, got, not_done, opened, read_to_end}
 use Rattle.cfb_rules.proofs.DoneSteps.{allowed_object, done_step}
-use Rattle.cfb_whole_streams.specs.cfb_mini_sectors.State.{cases_of}
+use Rattle.cfb_whole_streams.specs.cfb_mini.State.{cases_of}
 use Rattle.cfb_whole_streams.specs.cfb_agreement.Files.{FileState, failures_of, is_failed}
 use Rattle.cfb_whole_streams.specs.cfb_path_changes.Answers.{Answers, MeansTree, RunsOn, causes_of_call, setting_of, state_with}
 use Rattle.cfb_whole_streams.specs.cfb_compound_file.Asking.{IsOfOpeningStream}
 use Rattle.cfb_whole_streams.specs.cfb_compound_file.OpenedStreams.{BeginsAt, IsOpenedAt}
 use Rattle.cfb_whole_streams.specs.cfb_compound_file.StreamAnswers.{IsStreamRefused, OpenStream, StreamRunsBy, causes_of_reading, closing_of, run_in, stored_in, stream_in}
-use Rattle.cfb_whole_streams.specs.cfb_stream_buffer.Contents.{stream_setting_of}
+use Rattle.cfb_whole_streams.specs.cfb_stream_window.Contents.{stream_setting_of}
 use Rattle.cfb_commands.specs.Commands.{refusal_of_error}
 use Rattle.cfb_commands.proofs.Errors.{known}
 use Rattle.cfb_whole_streams.specs.cfb_stream_window.Windows.{Runs, Suits, Window}

@@ -13,7 +13,7 @@ use Rattle.cfb_rules.specs.StreamCalls.{Moves, StreamCall, StreamReply, StreamSe
 use Rattle.cfb_whole_streams.specs.cfb_agreement.Changes.{StaysOrFails}
 use Rattle.cfb_whole_streams.specs.cfb_agreement.Files.{Agrees, FileState, SameSetting}
 use Rattle.cfb_whole_streams.proofs.cfb_compound_file.StoredStreams.{agrees_as_before}
-use Rattle.cfb_whole_streams.specs.cfb_stream_buffer.Contents.{stream_setting_of}
+use Rattle.cfb_whole_streams.specs.cfb_stream_window.Contents.{stream_setting_of}
 use Rattle.cfb_whole_streams.specs.cfb_stream_window.Windows.{Runs}
 use Rattle.cfb_whole_streams.specs.cfb_path_changes.Answers.{IsRefusedBy, causes_of}
 use Rattle.cfb_whole_streams.specs.cfb_compound_file.StreamAnswers.{OpenStream, StreamRunsOn, run_in, stored_in}

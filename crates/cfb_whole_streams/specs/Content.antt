@@ -12,7 +12,7 @@ use Rattle.cfb_rules.specs.Lists.{CommandReply, creates, on_stream, replied, str
 use Rattle.cfb_rules.specs.Refusal.{Refusal}
 use Rattle.cfb_rules.specs.Runs.{StreamCallRuns, StreamRun, opened_by_path}
 use Rattle.cfb_rules.specs.StreamCalls.{StreamCall, StreamReply, answered, count, got, not_done, offset, read_to_end, ready, write}
-use Rattle.cfb_whole_streams.specs.cfb_mini_sectors.State.{cases_of}
+use Rattle.cfb_whole_streams.specs.cfb_mini.State.{cases_of}
 use Rattle.cfb_whole_streams.specs.cfb_agreement.Files.{Agrees, FileState, SameSetting, failures_of, is_failed}
 use Rattle.cfb_whole_streams.specs.cfb_path_changes.Answers.{Answers, AnswersNot, MeansTree, setting_of}
 use Rattle.cfb_whole_streams.specs.cfb_compound_file.Stored.{kept_of}

@@ -1,5 +1,4 @@
-pub use Rattle.cfb_commands.specs.cfb_mini_sectors
-pub use Rattle.cfb_commands.specs.cfb_stream_buffer
+pub use Rattle.cfb_commands.specs.cfb_mini
 pub use Rattle.cfb_commands.specs.cfb_stream_window
 pub use Rattle.cfb_commands.specs.cfb_agreement
 pub use Rattle.cfb_commands.specs.cfb_path_changes
@@ -7,3 +6,4 @@ pub use Rattle.cfb_commands.specs.cfb_compound_file
 pub mod Told
 pub mod Content
 pub mod Laws
+pub mod Parts

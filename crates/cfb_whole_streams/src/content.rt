@@ -89,7 +89,7 @@ pub fn write_stream<F: Medium, A: Heap + Clone>(
 /// # Errors
 ///
 /// As the first `write` that fails. Some of the first bytes may be written then.
-pub fn write_all<F: Medium, A: Heap + Clone>(
+pub(crate) fn write_all<F: Medium, A: Heap + Clone>(
     stream: &mut Stream<'_, F, A>,
     bytes: &[u8],
 ) -> Result<(), Error>

@@ -10,8 +10,8 @@ ghost use Rattle.cfb_mini.specs.cfb_entries.Clearing.{HasCleared};
 ghost use Rattle.cfb_mini.specs.cfb_directory.Clearing.{KeepsSlotsOutside};
 ghost use Rattle.cfb_mini.specs.cfb_directory.State.{HoldsDirectory};
 ghost use Rattle.cfb_mini.specs.cfb_directory.Steps.{IsDirectoryNotHeld, KeepsOtherSectors, KeepsWholeHeader};
-ghost use Rattle.cfb_mini.specs.cfb_mini_sectors.State.{HoldsMini, cases_of, entries_of, table_of, tables_in};
-ghost use Rattle.cfb_mini.specs.cfb_mini_sectors.Steps.{KeepsLimits, KeepsMini, StopsShort};
+ghost use Rattle.cfb_mini.specs.State.{HoldsMini, cases_of, entries_of, table_of, tables_in};
+ghost use Rattle.cfb_mini.specs.Steps.{KeepsLimits, KeepsMini, StopsShort};
 
 use crate::mini_allocator::MiniAllocator;
 use cfb_format::error::Error;

@@ -6,18 +6,18 @@ ghost use Rattle.cfb_format.specs.Medium.{part, written};
 ghost use Rattle.cfb_format.specs.Refused.{CountsFailure, IsInvalidData};
 ghost use Rattle.cfb_sectors.specs.Sectors.{IsMediumError};
 ghost use Rattle.cfb_mini.specs.cfb_alloc.Frame.{Spares};
-ghost use Rattle.cfb_mini.specs.cfb_mini_sectors.State.{HoldsMini, bytes_of, mini_place, mini_stream_of, table_of};
-ghost use Rattle.cfb_mini.specs.cfb_mini_sectors.Steps.{SparesMini, StopsShort};
+ghost use Rattle.cfb_mini.specs.State.{HoldsMini, bytes_of, mini_place, mini_stream_of, table_of};
+ghost use Rattle.cfb_mini.specs.Steps.{SparesMini, StopsShort};
 ghost use Rattle.cfb_mini.specs.MiniRuns.{ChangesMiniStretch, HasTheMinis, IsMiniStretch};
-ghost use Rattle.cfb_mini_changes.specs.MiniSectors.{ChangesFileOnly, HasMiniByte, HasMiniSector, IsStill};
+ghost use Rattle.cfb_mini.specs.MiniSectors.{ChangesFileOnly, HasMiniByte, HasMiniSector, IsStill};
 
 use crate::mini_allocator::{MiniAllocator, no_mini_sector, no_mini_stream};
 use crate::mini_runs::stretch_len;
+use cfb_chains::reading::read_run;
+use cfb_chains::writing::write_run;
 use cfb_format::consts::MINI_SECTOR_LEN;
 use cfb_format::error::Error;
 use cfb_format::medium::{Medium, ReadMedium};
-use cfb_runs::reading::read_run;
-use cfb_runs::writing::write_run;
 use std::alloc::Allocator as Heap;
 
 impl<F: ReadMedium, A: Heap> MiniAllocator<F, A> {

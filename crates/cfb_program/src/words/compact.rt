@@ -8,7 +8,7 @@ use crate::output::Output;
 use crate::refusal::{About, Refusal, tell_cut};
 use crate::system::System;
 use cfb::{CompoundFile, Error, Medium, ReadMedium};
-use cfb_append_buffer::buffer::AppendBuffer;
+use cfb_files::buffer::AppendBuffer;
 use cfb_tool::cuts::{cut_of, stream_by_entry};
 use std::alloc::Global;
 use std::io;

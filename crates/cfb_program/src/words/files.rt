@@ -5,7 +5,7 @@ ghost use Rattle.cfb_journal.specs.Disk.{IsOpened};
 use crate::refusal::{Place as Blamed, Refusal};
 use crate::system::System;
 use cfb::{CompoundFile, Error, FileReadMedium, Medium, MediumFault, ReadMedium, seeded_options};
-use cfb_append_buffer::buffer::AppendBuffer;
+use cfb_files::buffer::AppendBuffer;
 use cfb_journal::disk::Disk;
 use cfb_journal::looking::Recovered;
 use cfb_journal::recovery::RecoveryError;

@@ -9,7 +9,7 @@ use crate::refusal::Refusal;
 use crate::shown::Shown;
 use crate::system::System;
 use cfb::{CompoundFile, Entry, Error, Extent, Medium, ReadMedium, Salvaged, seeded_options};
-use cfb_append_buffer::buffer::AppendBuffer;
+use cfb_files::buffer::AppendBuffer;
 use cfb_mending::mending::mended;
 use std::alloc::Global;
 use std::io;

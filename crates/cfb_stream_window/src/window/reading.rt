@@ -5,13 +5,13 @@ ghost use Rattle.cfb_stream_window.specs.cfb_rules.StreamCalls.{read, fill_buf, 
 ghost use Rattle.cfb_format.specs.Refused.{IsBreak};
 ghost use Rattle.cfb_stream_window.specs.Windows.{Carries, ReadBrokeOff, IsLost, Unreadable, IsSettled, StandsInside, settled, window_settled, window_at, WentTo, target_of, whence_of, IsReadable, Appended, ReadPast};
 ghost use Rattle.cfb_stream_window.specs.Answers.{IsOpen, IsReady, RunsOn, IsRefusedOn, ClosesOn, IsClosingRefused, GoesOn, HeedsFlags, HeedsWritingOut, LacksRoomToWriteOut};
-ghost use Rattle.cfb_stream_buffer.specs.Touched.{HasKeptFlags, IsRead, IsWritten};
+ghost use Rattle.cfb_stream_window.specs.Touched.{HasKeptFlags, IsRead, IsWritten};
 
 use super::{STRAIGHT, Window};
+use crate::content::Contents;
 use crate::pieces::make_space;
+use crate::whole::{give_up, write_all};
 use cfb_format::error::{Detail, Error};
-use cfb_stream_buffer::content::Contents;
-use cfb_stream_buffer::whole::{give_up, write_all};
 use std::alloc::Allocator;
 use std::io::SeekFrom;
 

@@ -5,14 +5,14 @@ ghost use Rattle.cfb_format.specs.Refused.{IsMemory, IsBreak};
 ghost use Rattle.cfb_stream_window.specs.cfb_rules.StreamCalls.{write, count};
 ghost use Rattle.cfb_stream_window.specs.Windows.{Carries, WriteBrokeOff, LengthBrokeOff, IsLengthened, IsSettled, HasBufferRoom, window_kept, window_past, window_within, WroteStraight, Resized};
 ghost use Rattle.cfb_stream_window.specs.Answers.{HasRoomForBoth, HeedsFlags, IsOpen, IsReady, IsTouched, InTurn, LacksRoomBehind, LacksRoomToWrite, LacksRoomToWriteOut, RunsOn, IsRefusedOn, RunsSettingLen, IsLengthRefusedOn, GoesOn, WritesOutFirst};
-ghost use Rattle.cfb_stream_buffer.specs.Contents.{Fails, TakesLen};
-ghost use Rattle.cfb_stream_buffer.specs.Touched.{HasKeptFlags, IsWritten};
+ghost use Rattle.cfb_stream_window.specs.Contents.{Fails, TakesLen};
+ghost use Rattle.cfb_stream_window.specs.Touched.{HasKeptFlags, IsWritten};
 
 use super::{STRAIGHT, Window};
+use crate::content::Contents;
 use crate::pieces::is_fault;
+use crate::whole::give_up;
 use cfb_format::error::{Detail, Error};
-use cfb_stream_buffer::content::Contents;
-use cfb_stream_buffer::whole::give_up;
 use std::alloc::Allocator;
 
 impl<A: Allocator> Window<A> {

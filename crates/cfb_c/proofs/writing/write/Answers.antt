@@ -2,7 +2,7 @@ use Rattle.std.proofs.Common.{ℕ, List, chars, refl, subst}
 use Rattle.std.specs.Prelude.{Err, Ok}
 use Rattle.std.proofs.lemmas.Result.{err_from_is_err_and}
 use Rattle.cfb_format.specs.Memory.{is_refused_growth}
-use Rattle.cfb_stream_parts.specs.Parts.{WritesPart}
+use Rattle.cfb_whole_streams.specs.Parts.{WritesPart}
 use Rattle.cfb_c.proofs.writing.write.Goals as goal
 
 pub returns-in_err-write_at : goal.returns-in_err-write_at

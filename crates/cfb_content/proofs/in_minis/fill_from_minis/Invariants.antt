@@ -1,6 +1,6 @@
 use Rattle.std.proofs.Common.{length, ◌-◌, ◌+◌, ◌≡◌, ℕ, ◌<◌, ◌≤◌}
 use Rattle.std.specs.Prelude.{IsTrue, slice_index}
-use Rattle.cfb_content.specs.cfb_mini_sectors.State.{bytes_of}
+use Rattle.cfb_content.specs.cfb_mini.State.{bytes_of}
 use Rattle.cfb_mini.specs.MiniSectors.{IsStill}
 use Rattle.cfb_content.specs.Contents.{mini_place_along}
 use Rattle.cfb_content.proofs.in_minis.fill_from_minis.Given as goal

@@ -3,7 +3,7 @@ use Rattle.std.specs.Prelude.{IsTrue, slice_index}
 use Rattle.std.proofs.lemmas.Result.{err_from_is_err_and}
 use Rattle.cfb_sectors.specs.Sectors.{SectorFile}
 use Rattle.cfb_content.proofs.cfb_alloc.Spared.{spares_refl}
-use Rattle.cfb_content.specs.cfb_mini_sectors.State.{bytes_of, mini_stream_of, table_of}
+use Rattle.cfb_content.specs.cfb_mini.State.{bytes_of, mini_stream_of, table_of}
 use Rattle.cfb_mini.proofs.MiniWritten.{spares-mini-refl}
 use Rattle.cfb_content.specs.Contents.{mini_place_along}
 use Rattle.cfb_content.specs.Parts.{ChangesOnlyPlaces}
@@ -12,7 +12,7 @@ use Rattle.cfb_content.proofs.MinisPut.{file-in-turn, minis-spared, placed-there
 use Rattle.cfb_content.proofs.PlacedWrites.{only_refl, only_then, piece_at, piece_long}
 use Rattle.cfb_mini.specs.MiniRuns.{ChangesMiniStretch}
 use Rattle.cfb_content.proofs.in_minis.put_in_minis.Goals as goal
-use Rattle.cfb_content.proofs.cfb_table_words.Along.{StandsTo, stands_none, stands_on}
+use Rattle.cfb_content.proofs.cfb_alloc.Along.{StandsTo, stands_none, stands_on}
 
 pub loop-done-init : goal.loop-done-init
 loop-done-init g c =

@@ -3,13 +3,13 @@ use Rattle.std.specs.Prelude.{IsTrue, slice_index}
 use Rattle.std.specs.List.{IsDistinct}
 use Rattle.cfb_format.specs.declared.validate.Validation.{Validation}
 use Rattle.cfb_content.specs.cfb_alloc.Frame.{Spares}
-use Rattle.cfb_content.specs.cfb_mini_sectors.State.{HoldsMini, bytes_of, mini_stream_of, table_of}
-use Rattle.cfb_content.specs.cfb_mini_sectors.Steps.{SparesMini}
+use Rattle.cfb_content.specs.cfb_mini.State.{HoldsMini, bytes_of, mini_stream_of, table_of}
+use Rattle.cfb_content.specs.cfb_mini.Steps.{SparesMini}
 use Rattle.cfb_mini.specs.MiniSectors.{ChangesFileOnly}
 use Rattle.cfb_content.specs.Contents.{mini_place_along}
 use Rattle.cfb_content.specs.Parts.{ChangesOnlyPlaces}
 use Rattle.cfb_content.proofs.in_minis.put_in_minis.Given as goal
-use Rattle.cfb_content.proofs.cfb_table_words.Along.{StandsTo}
+use Rattle.cfb_content.proofs.cfb_alloc.Along.{StandsTo}
 
 abbrev pub invariant-loop-done : goal.invariant-loop-done
 invariant-loop-done g l = record {

@@ -2,7 +2,7 @@ use Rattle.std.proofs.Common.{ℕ, List, sym, ◌∙◌, subst, arith}
 use Rattle.cfb_format.proofs.Unique.{IsChain-unique}
 use Rattle.cfb_content.specs.Parts.{IsThereInMinis}
 use Rattle.cfb_content.proofs.in_minis.whole_mini_chain.Goals as goal
-use Rattle.cfb_content.proofs.cfb_mini_changes.MiniExtended.{invalid-refused}
+use Rattle.cfb_content.proofs.cfb_mini.MiniExtended.{invalid-refused}
 
 pub returns-then-there-len-clause-err : goal.returns-then-there-len-clause-err
 returns-then-there-len-clause-err g c =

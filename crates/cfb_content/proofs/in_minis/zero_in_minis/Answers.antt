@@ -2,7 +2,7 @@ use Rattle.std.proofs.Common.{◌≡◌, ◌-◌, ℕ, List, refl, ap, ◌∙◌
 use Rattle.std.specs.Prelude.{IsTrue}
 use Rattle.std.proofs.lemmas.List.{length-replicate}
 use Rattle.cfb_content.proofs.cfb_alloc.Spared.{spares_refl}
-use Rattle.cfb_content.specs.cfb_mini_sectors.State.{bytes_of, mini_stream_of, table_of}
+use Rattle.cfb_content.specs.cfb_mini.State.{bytes_of, mini_stream_of, table_of}
 use Rattle.cfb_mini.proofs.MiniWritten.{spares-mini-refl}
 use Rattle.cfb_content.specs.Contents.{mini_place_along}
 use Rattle.cfb_content.specs.Parts.{ChangesOnlyPlaces, StandAlong}
@@ -10,8 +10,8 @@ use Rattle.cfb_content.proofs.MinisPut.{file-in-turn, minis-once, minis-spared, 
 use Rattle.cfb_content.proofs.PlacedWrites.{only_refl, only_then}
 use Rattle.cfb_content.proofs.PutAlong.{zeros-on, zeros-put}
 use Rattle.cfb_content.proofs.in_minis.zero_in_minis.Goals as goal
-use Rattle.cfb_content.proofs.cfb_table_words.Along.{stands_none}
-use Rattle.cfb_runs.proofs.Along.{zeros_stand}
+use Rattle.cfb_content.proofs.cfb_alloc.Along.{stands_none}
+use Rattle.cfb_chains.proofs.Along.{zeros_stand}
 
 pub loop-at-init : goal.loop-at-init
 loop-at-init g c =

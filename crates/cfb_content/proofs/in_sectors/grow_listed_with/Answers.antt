@@ -6,7 +6,7 @@ use Rattle.std.proofs.lemmas.List.{length-drop, length-take}
 use Rattle.std.proofs.lemmas.Result.{err_from_is_err_and}
 use Rattle.cfb_format.specs.Bytes.{sector_len}
 use Rattle.cfb_sectors.specs.declared.sector.SectorInit.TheVariants.{Zero}
-use Rattle.cfb_content.proofs.cfb_table_words.FilledSectors.{filled_whole_each}
+use Rattle.cfb_content.proofs.cfb_alloc.FilledSectors.{filled_whole_each}
 use Rattle.cfb_tables.specs.Changes.{AreDisjoint}
 use Rattle.cfb_tables.specs.Listed.{ends_of, gained}
 use Rattle.cfb_tables.specs.Tables.{TableState, first_or_end}
@@ -18,7 +18,7 @@ use Rattle.cfb_content.proofs.cfb_alloc.Frames.{spares-less}
 use Rattle.cfb_chains.proofs.ChainLists.{ends_among}
 use Rattle.cfb_chains.proofs.PlacedBytes.{kept_there}
 use Rattle.cfb_chains.proofs.Sparing.{gained_spared}
-use Rattle.cfb_content.proofs.cfb_mini_sectors.HeldMini.{no-tables}
+use Rattle.cfb_content.proofs.cfb_mini.HeldMini.{no-tables}
 use Rattle.cfb_mini.proofs.WholeFiles.{same-whole, taken-whole}
 use Rattle.cfb_content.proofs.GrownWith.{chain-stays, first-is, front-in, front-placed, header-left, rest-fits, some-more, with-kept, with-put, with-zeros}
 use Rattle.cfb_content.proofs.in_sectors.grow_listed_with.Goals as goal

@@ -4,7 +4,7 @@ use Rattle.cfb_format.proofs.Unique.{IsChain-unique}
 use Rattle.cfb_content.specs.cfb_alloc.Alloc.{AllocatorState}
 use Rattle.cfb_content.specs.Parts.{IsThereInSectors}
 use Rattle.cfb_content.proofs.listed.open_whole_chain.Goals as goal
-use Rattle.cfb_content.proofs.cfb_mini_changes.MiniExtended.{invalid-refused}
+use Rattle.cfb_content.proofs.cfb_mini.MiniExtended.{invalid-refused}
 
 pub there_in_chain-there-requires : goal.there_in_chain-there-requires
 there_in_chain-there-requires g c =

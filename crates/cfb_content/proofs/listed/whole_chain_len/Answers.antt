@@ -2,7 +2,7 @@ use Rattle.std.proofs.Common.{ℕ, List, subst}
 use Rattle.cfb_format.proofs.Unique.{IsChain-unique}
 use Rattle.cfb_content.specs.Parts.{IsThereInSectors}
 use Rattle.cfb_content.proofs.listed.whole_chain_len.Goals as goal
-use Rattle.cfb_content.proofs.cfb_mini_changes.MiniExtended.{invalid-refused}
+use Rattle.cfb_content.proofs.cfb_mini.MiniExtended.{invalid-refused}
 
 pub there_in_chain-there-requires : goal.there_in_chain-there-requires
 there_in_chain-there-requires g c = record { chain = (c.args.start, c.in-Some.ensures) }

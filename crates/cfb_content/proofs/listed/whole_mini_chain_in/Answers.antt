@@ -3,7 +3,7 @@ use Rattle.cfb_format.specs.Chain.{IsChain}
 use Rattle.cfb_format.proofs.Unique.{IsChain-unique}
 use Rattle.cfb_content.specs.Parts.{IsThereInMinis}
 use Rattle.cfb_content.proofs.listed.whole_mini_chain_in.Goals as goal
-use Rattle.cfb_content.proofs.cfb_mini_changes.MiniExtended.{invalid-refused}
+use Rattle.cfb_content.proofs.cfb_mini.MiniExtended.{invalid-refused}
 
 pub returns-then-there-len-clause-err : goal.returns-then-there-len-clause-err
 returns-then-there-len-clause-err g c =

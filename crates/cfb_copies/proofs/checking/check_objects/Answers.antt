@@ -1,6 +1,6 @@
 use Rattle.std.proofs.Common.{◌≡◌, sym, ◌∙◌, arith, false, true}
 use Rattle.std.specs.Prelude.{None}
-use Rattle.cfb_copies.specs.cfb_mini_sectors.State.{content_of, entries_of}
+use Rattle.cfb_copies.specs.cfb_mini.State.{content_of, entries_of}
 use Rattle.cfb_places.specs.declared.walk.Place.{Place}
 use Rattle.cfb_places.specs.Laws.{IsWholeAt}
 use Rattle.cfb_places.specs.Places.{placed_in}

@@ -6,7 +6,7 @@ use Rattle.cfb_format.specs.Bytes.{max_stream_len}
 use Rattle.cfb_format.specs.DirectoryEntry.{Entry}
 use Rattle.cfb_format.specs.Names.{is_forbidden_character}
 use Rattle.cfb_format.specs.Siblings.{entry_at}
-use Rattle.cfb_copies.specs.cfb_mini_sectors.State.{entries_of, version_of}
+use Rattle.cfb_copies.specs.cfb_mini.State.{entries_of, version_of}
 use Rattle.cfb_copies.specs.Steps.{CanBeLike}
 use Rattle.cfb_copies.proofs.Stored.{held_free, held_short, le_true, valid_name}
 use Rattle.cfb_copies.proofs.checking.is_allowed.Goals as goal

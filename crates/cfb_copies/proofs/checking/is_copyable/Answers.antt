@@ -4,7 +4,7 @@ use Rattle.std.proofs.lemmas.Bool.Decides.{nat_tests}
 use Rattle.cfb_format.specs.declared.objtype.ObjType.TheVariants.{Stream}
 use Rattle.cfb_format.specs.DirectoryEntry.{Entry}
 use Rattle.cfb_format.specs.Siblings.{entry_at}
-use Rattle.cfb_copies.specs.cfb_mini_sectors.State.{entries_of}
+use Rattle.cfb_copies.specs.cfb_mini.State.{entries_of}
 use Rattle.cfb_copies.proofs.checking.is_copyable.Goals as goal
 
 eq_of : (a b : ℕ) (r : Bool) → r ≡ nat_eq a b → r ≡ true → a ≡ b

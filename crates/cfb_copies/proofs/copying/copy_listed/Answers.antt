@@ -5,8 +5,8 @@ use Rattle.cfb_format.specs.DirectoryEntry.{Entry}
 use Rattle.cfb_format.specs.Siblings.{entry_at}
 use Rattle.cfb_format.specs.Tree.{Tree}
 use Rattle.cfb_format.proofs.Unique.{Means-unique}
-use Rattle.cfb_built.specs.Copied.{parts_copied}
-use Rattle.cfb_copies.specs.cfb_mini_sectors.State.{bytes_of, cases_of}
+use Rattle.cfb_places.specs.Copied.{parts_copied}
+use Rattle.cfb_copies.specs.cfb_mini.State.{bytes_of, cases_of}
 use Rattle.cfb_places.specs.Places.{number_at, parent_at, placed_in}
 use Rattle.cfb_copies.specs.Copies.{parts_in_file}
 use Rattle.cfb_copies.specs.Steps.{HasRoomOnTheWay, IsNewIn, TakesName}

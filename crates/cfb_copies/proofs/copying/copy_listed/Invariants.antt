@@ -2,8 +2,8 @@ use Rattle.std.proofs.Common.{◌≡◌, length, drop, IsTrue}
 use Rattle.cfb_format.specs.Meaning.{Means}
 use Rattle.cfb_format.specs.Reading.{IsOutline, Outline}
 use Rattle.cfb_format.specs.Tree.{Tree}
-use Rattle.cfb_built.specs.Copied.{parts_copied}
-use Rattle.cfb_copies.specs.cfb_mini_sectors.State.{bytes_of, cases_of, entries_of}
+use Rattle.cfb_places.specs.Copied.{parts_copied}
+use Rattle.cfb_copies.specs.cfb_mini.State.{bytes_of, cases_of, entries_of}
 use Rattle.cfb_copies.specs.cfb_agreement.Files.{failures_of}
 use Rattle.cfb_copies.specs.Copies.{AreNumbered, AreReady, IsOnTheWay, parts_in_file}
 use Rattle.cfb_copies.specs.Steps.{GrowsTree, HasRoomOnTheWay, IsReadOnly}

@@ -11,13 +11,13 @@ use Rattle.cfb_format.specs.Meaning.{Means, storage_info}
 use Rattle.cfb_format.specs.Names.{Cases}
 use Rattle.cfb_format.specs.Siblings.{entry_at}
 use Rattle.cfb_format.specs.Tree.{StorageInfo, Tree}
-use Rattle.cfb_built.specs.Copied.{parts_copied}
+use Rattle.cfb_places.specs.Copied.{parts_copied}
 use Rattle.cfb_copies.specs.cfb_rules.CallChanges.{fields_changed_at, same_stream}
 use Rattle.cfb_copies.specs.cfb_entries.declared.fields.Fields.{Fields}
 use Rattle.cfb_copies.specs.cfb_entries.Fields.{entry_with_fields, fields_in}
-use Rattle.cfb_copies.specs.cfb_entry_changes.Marking.{GivesFields}
-use Rattle.cfb_copies.specs.cfb_objects.Laws.{BecomesTree}
-use Rattle.cfb_copies.specs.cfb_mini_sectors.State.{bytes_of, cases_of, entries_of, version_of}
+use Rattle.cfb_copies.specs.cfb_agreement.Marking.{GivesFields}
+use Rattle.cfb_copies.specs.cfb_listing.ObjectLaws.{BecomesTree}
+use Rattle.cfb_copies.specs.cfb_mini.State.{bytes_of, cases_of, entries_of, version_of}
 use Rattle.cfb_copies.specs.Copies.{AreReady, parts_in_file}
 use Rattle.cfb_copies.specs.Steps.{HasRoomOnTheWay, fields_like}
 use Rattle.cfb_copies.proofs.Faults.{medium_breaks, medium_not_full}

@@ -7,7 +7,7 @@ use Rattle.cfb_format.specs.DirectoryEntry.{Entry}
 use Rattle.cfb_format.specs.Reading.{IsOutline}
 use Rattle.cfb_format.specs.Siblings.{entry_at}
 use Rattle.cfb_outline.specs.Outlines.{IsReachedStorage}
-use Rattle.cfb_copies.specs.cfb_mini_sectors.State.{cases_of, entries_of}
+use Rattle.cfb_copies.specs.cfb_mini.State.{cases_of, entries_of}
 use Rattle.cfb_places.specs.declared.walk.Place.{Place}
 use Rattle.cfb_copies.specs.Copies.{AreCopyable, AreReadable, IsNotPrepared, ListsObjects}
 use Rattle.cfb_copies.proofs.Prepared.{can_be_copied, has_room_in, is_too_large_in, no_room, not_prepared, readable_whole}

@@ -1,6 +1,6 @@
 use Rattle.std.proofs.Common.{sym, ◌∙◌, subst, arith}
 use Rattle.cfb_copies.specs.declared.keeping.Keep.{Keep}
-use Rattle.cfb_copies.specs.cfb_mini_sectors.State.{content_of, entries_of}
+use Rattle.cfb_copies.specs.cfb_mini.State.{content_of, entries_of}
 use Rattle.cfb_copies.specs.Steps.{IsKeptAt}
 use Rattle.cfb_copies.proofs.Appended.{content_most}
 use Rattle.cfb_copies.proofs.keeping.kept_len.Goals as goal

@@ -7,8 +7,8 @@ use Rattle.cfb_format.specs.Bytes.{max_stream_len}
 use Rattle.cfb_format.specs.DirectoryEntry.{Entry}
 use Rattle.cfb_format.specs.Siblings.{entry_at}
 use Rattle.cfb_copies.specs.cfb_rules.Finding.{last_name, parent_names}
-use Rattle.cfb_copies.specs.cfb_objects.Laws.{BecomesTree}
-use Rattle.cfb_copies.specs.cfb_mini_sectors.State.{bytes_of, cases_of, content_of, entries_of}
+use Rattle.cfb_copies.specs.cfb_listing.ObjectLaws.{BecomesTree}
+use Rattle.cfb_copies.specs.cfb_mini.State.{bytes_of, cases_of, content_of, entries_of}
 use Rattle.cfb_copies.specs.cfb_content.Contents.{len_of}
 use Rattle.cfb_copies.specs.Steps.{CanBeLike, IsNewIn, LeadToEntry, TakesName, like_added}
 use Rattle.cfb_copies.proofs.Adding.{new_stream_of}

@@ -9,11 +9,11 @@ use Rattle.cfb_format.specs.Siblings.{entry_at}
 use Rattle.cfb_codecs.specs.EntryModel.{entry_of}
 use Rattle.cfb_copies.specs.cfb_entries.declared.fields.Fields.{Fields}
 use Rattle.cfb_copies.specs.cfb_entries.Fields.{entry_with_fields, fields_in}
-use Rattle.cfb_copies.specs.cfb_trees.Reached.{IsObject}
-use Rattle.cfb_copies.specs.cfb_objects.Laws.{BecomesTree}
-use Rattle.cfb_copies.specs.cfb_mini_sectors.State.{bytes_of, cases_of, entries_of, version_of}
-use Rattle.cfb_copies.specs.cfb_entry_changes.Kept.{KeepsFound}
-use Rattle.cfb_copies.specs.cfb_entry_changes.Marking.{GivesFields}
+use Rattle.cfb_copies.specs.cfb_siblings.Reached.{IsObject}
+use Rattle.cfb_copies.specs.cfb_listing.ObjectLaws.{BecomesTree}
+use Rattle.cfb_copies.specs.cfb_mini.State.{bytes_of, cases_of, entries_of, version_of}
+use Rattle.cfb_copies.specs.cfb_agreement.Kept.{KeepsFound}
+use Rattle.cfb_copies.specs.cfb_agreement.Marking.{GivesFields}
 use Rattle.cfb_copies.specs.Steps.{IsLikeIn, TakesName, fields_like, like_added}
 use Rattle.cfb_copies.proofs.Adding.{like_joins, set_like}
 use Rattle.cfb_copies.proofs.Faults.{break_at_all, counted_gives, full_why, medium_breaks, medium_not_full}

@@ -4,7 +4,7 @@ use Rattle.cfb_codecs.specs.EntryModel.{entries_of as entries_in}
 use Rattle.cfb_format.specs.declared.objtype.ObjType.TheVariants.{Stream}
 use Rattle.cfb_format.specs.DirectoryEntry.{Entry}
 use Rattle.cfb_format.specs.Siblings.{entry_at}
-use Rattle.cfb_copies.specs.cfb_mini_sectors.State.{entries_of}
+use Rattle.cfb_copies.specs.cfb_mini.State.{entries_of}
 use Rattle.cfb_copies.specs.Steps.{TakesName}
 use Rattle.cfb_copies.proofs.Adding.{children_as, takes_told, within_list}
 use Rattle.cfb_copies.proofs.Growing.{ordered}

@@ -2,8 +2,8 @@ use Rattle.std.proofs.Common.{◌≡◌, ◌++◌, List, [], ◌∷◌, sym, ◌
 use Rattle.cfb_format.specs.declared.objtype.ObjType.TheVariants.{Stream}
 use Rattle.cfb_format.specs.DirectoryEntry.{Entry}
 use Rattle.cfb_format.specs.Siblings.{entry_at}
-use Rattle.cfb_copy_sizes.specs.declared.cut.Extent.{Extent}
-use Rattle.cfb_copies.specs.cfb_mini_sectors.State.{content_of, entries_of}
+use Rattle.cfb_places.specs.declared.cut.Extent.{Extent}
+use Rattle.cfb_copies.specs.cfb_mini.State.{content_of, entries_of}
 use Rattle.cfb_copies.proofs.Extents.{none-there, one-at}
 use Rattle.cfb_copies.proofs.salvaging.add_extent.Goals as goal
 

@@ -3,7 +3,7 @@ use Rattle.std.proofs.lemmas.List.{take_all}
 use Rattle.cfb_places.specs.declared.walk.Place.{Place}
 use Rattle.cfb_places.specs.Places.{placed_in}
 use Rattle.std.specs.Prelude.{None}
-use Rattle.cfb_copies.specs.cfb_mini_sectors.State.{content_of, entries_of}
+use Rattle.cfb_copies.specs.cfb_mini.State.{content_of, entries_of}
 use Rattle.cfb_copies.specs.Steps.{IsCopyable}
 use Rattle.cfb_copies.proofs.Extents.{along-more, extents_along, told_all}
 use Rattle.cfb_copies.proofs.Prepared.{all_more, listed_stands}

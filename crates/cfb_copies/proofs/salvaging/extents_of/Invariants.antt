@@ -1,6 +1,6 @@
 use Rattle.std.proofs.Common.{◌≡◌, ◌<◌, ℕ, get_or, map, take, IsTrue}
 use Rattle.cfb_places.specs.declared.walk.Place.{Place}
-use Rattle.cfb_copies.specs.cfb_mini_sectors.State.{content_of, entries_of}
+use Rattle.cfb_copies.specs.cfb_mini.State.{content_of, entries_of}
 use Rattle.cfb_copies.specs.cfb_agreement.Files.{Holds}
 use Rattle.cfb_copies.specs.Steps.{IsCopyable}
 use Rattle.cfb_copies.proofs.Extents.{extents_along}

@@ -3,8 +3,8 @@ use Rattle.std.proofs.lemmas.Result.{err_from_is_err_and}
 use Rattle.cfb_format.specs.declared.error.Error.{Error}
 use Rattle.cfb_format.specs.DirectoryEntry.{Entry}
 use Rattle.cfb_format.specs.Reading.{IsOutline}
-use Rattle.cfb_copy_sizes.specs.declared.cut.Extent.{Extent}
-use Rattle.cfb_copies.specs.cfb_mini_sectors.State.{cases_of}
+use Rattle.cfb_places.specs.declared.cut.Extent.{Extent}
+use Rattle.cfb_copies.specs.cfb_mini.State.{cases_of}
 use Rattle.cfb_places.specs.declared.walk.Place.{Place}
 use Rattle.cfb_copies.specs.Copies.{AreCopyable, ListsObjects}
 use Rattle.cfb_copies.specs.Salvaged.{IsFullOrMemory, TellsExtents}

@@ -7,7 +7,7 @@ use Rattle.cfb_format.specs.DirectoryEntry.{Entry, IsValidEntry}
 use Rattle.cfb_format.specs.Names.{utf16_units, max_name_len}
 use Rattle.cfb_format.specs.Siblings.{entry_at}
 use Rattle.cfb_codecs.specs.EntryModel.{entry_of, entries_of}
-use Rattle.cfb_directory.proofs.cfb_trees.Members.{reached-is-used}
+use Rattle.cfb_directory.proofs.cfb_siblings.Members.{reached-is-used}
 use Rattle.cfb_alloc.specs.Alloc.{AllocatorState, HoldsTables}
 use Rattle.cfb_alloc.specs.Agreement.{HasSectors}
 use Rattle.cfb_alloc.specs.InSector.{IsNoTableSector}

@@ -4,11 +4,11 @@ use Rattle.cfb_format.proofs.Unique.{IsOutline-unique}
 use Rattle.cfb_format.specs.Reading.{Outline}
 use Rattle.cfb_index.specs.Index.{Lists, number_under}
 use Rattle.cfb_siblings.proofs.Held.{raw-in}
-use Rattle.cfb_trees.specs.Children.{IsChildIn}
-use Rattle.cfb_trees.proofs.Members.{reached-is-within}
-use Rattle.cfb_trees.proofs.Reached.{below-reached}
-use Rattle.cfb_trees.proofs.InStorages.{child-below}
-use Rattle.cfb_trees.proofs.Standing.{reached-is-parent}
+use Rattle.cfb_siblings.specs.TreeChildren.{IsChildIn}
+use Rattle.cfb_siblings.proofs.Members.{reached-is-within}
+use Rattle.cfb_siblings.proofs.Reached.{below-reached}
+use Rattle.cfb_siblings.proofs.InStorages.{child-below}
+use Rattle.cfb_siblings.proofs.Standing.{reached-is-parent}
 use Rattle.cfb_entries.specs.Covering.{ArePut, entry_names}
 use Rattle.cfb_entries.proofs.Built.{built-lists}
 use Rattle.cfb_entries.proofs.Indexed.{all-listed, put-into-none}

@@ -1,7 +1,7 @@
 use Rattle.std.proofs.Common.{◌≡◌, ap, ◌∙◌, sym, subst, List, ℕ}
 use Rattle.std.specs.Prelude.{Some, chars}
 use Rattle.cfb_codecs.specs.EntryModel.{entries_of}
-use Rattle.cfb_entries.specs.cfb_keys.Keys.{IsShort, key_in}
+use Rattle.cfb_entries.specs.cfb_index.Keys.{IsShort, key_in}
 use Rattle.cfb_index.specs.Index.{Updates}
 use Rattle.cfb_siblings.proofs.Held.{name-read}
 use Rattle.cfb_entries.specs.Covering.{entry_names}

@@ -7,8 +7,8 @@ use Rattle.cfb_format.specs.declared.objtype.ObjType.TheVariants.{Stream}
 use Rattle.cfb_format.specs.DirectoryEntry.{Entry}
 use Rattle.cfb_format.specs.Siblings.{entry_at}
 use Rattle.cfb_extract.specs.cfb_agreement.Files.{is_failed}
-use Rattle.cfb_extract.specs.cfb_mini_sectors.State.{entries_of}
-use Rattle.cfb_walks.specs.Walks.{AreWithin}
+use Rattle.cfb_extract.specs.cfb_mini.State.{entries_of}
+use Rattle.cfb_outline.specs.Walks.{AreWithin}
 use Rattle.cfb_compound_file.proofs.Numbers.{no-stream-by-test, storage-in-list, stream-by-test}
 use Rattle.cfb_extract.proofs.cfb_path_changes.Numbers.{object-within}
 use Rattle.cfb_extract.proofs.Meaning.{all-cuts, all-items, alone-cuts, alone-items, list-within}

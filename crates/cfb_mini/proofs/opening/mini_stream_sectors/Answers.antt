@@ -6,7 +6,7 @@ use Rattle.cfb_format.specs.DirectoryEntry.{Entry}
 use Rattle.cfb_format.specs.Siblings.{entry_at}
 use Rattle.cfb_mini.specs.cfb_tables.Changes.{NoChain}
 use Rattle.cfb_mini.specs.cfb_alloc.Alloc.{AllocatorState}
-use Rattle.cfb_mini.proofs.cfb_mini_sectors.MiniStreams.{stream-is-chain}
+use Rattle.cfb_mini.proofs.MiniStreams.{stream-is-chain}
 use Rattle.cfb_mini.proofs.MiniOpening.{stream-is-none}
 use Rattle.cfb_mini.proofs.opening.mini_stream_sectors.Goals as goal
 use Rattle.cfb_mini.proofs.opening.mini_stream_sectors.Goals.{else-root-eq0-via-then-root-eq0+else-root-gt-MAX_REGULAR_SECTOR, else-root-eq0-via-else-root-eq0}

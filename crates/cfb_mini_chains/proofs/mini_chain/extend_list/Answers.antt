@@ -3,7 +3,7 @@ use Rattle.cfb_tables.specs.Listed.{ends_of, gained}
 use Rattle.cfb_tables.specs.Tables.{first_or_end}
 use Rattle.cfb_mini_chains.proofs.cfb_alloc.ChainView.{chain_few, only_first}
 use Rattle.cfb_chains.proofs.ChainLists.{after_map, ends_among, listed_chain, listed_found, start_is}
-use Rattle.cfb_mini_sectors.proofs.MiniFrames.{spares-less}
+use Rattle.cfb_mini.proofs.MiniFrames.{spares-less}
 use Rattle.cfb_mini_chains.proofs.MiniChainAnswers.{on_err}
 use Rattle.cfb_mini_chains.proofs.MiniChainLists.{ends_a_chain, first_stays, lengthened}
 use Rattle.cfb_mini_chains.proofs.mini_chain.extend_list.Goals as goal

@@ -5,7 +5,7 @@ use Rattle.std.specs.Prelude.{slice_index}
 use Rattle.cfb_format.specs.Medium.{written}
 use Rattle.cfb_mini.proofs.MiniKnown.{mini-or-not}
 use Rattle.cfb_mini.specs.MiniRuns.{ChangesMiniStretch}
-use Rattle.cfb_mini_sectors.specs.State.{bytes_of, table_of}
+use Rattle.cfb_mini.specs.State.{bytes_of, table_of}
 use Rattle.cfb_mini_chains.specs.MiniRunsAlong.{place_along_minis}
 use Rattle.cfb_mini_chains.proofs.MiniChainAnswers.{invalid_reason, medium_reason}
 use Rattle.cfb_mini_chains.proofs.MiniChainRuns.{run_changes, run_minis, run_together}

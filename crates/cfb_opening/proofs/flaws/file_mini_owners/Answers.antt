@@ -1,7 +1,7 @@
 use Rattle.std.proofs.Common.{List, sym, subst, ◌∙◌}
 use Rattle.cfb_format.specs.DirectoryEntry.{Entry}
 use Rattle.cfb_format.specs.Reading.{IsOutline}
-use Rattle.cfb_opening.specs.cfb_mini_sectors.State.{reading_of}
+use Rattle.cfb_opening.specs.cfb_mini.State.{reading_of}
 use Rattle.cfb_opening.proofs.flaws.file_mini_owners.Goals as goal
 
 pub returns-clause-exact : goal.returns-clause-exact

@@ -1,6 +1,6 @@
 use Rattle.std.proofs.Common.{◌∙◌, ap, sym, subst, rules}
 use Rattle.std.proofs.lemmas.Result.{err_from_is_err_and}
-use Rattle.cfb_opening.specs.cfb_mini_sectors.State.{MiniState, cases_of, table_of, tables_in}
+use Rattle.cfb_opening.specs.cfb_mini.State.{MiniState, cases_of, table_of, tables_in}
 use Rattle.cfb_opening.specs.Opened.{IsOpened}
 use Rattle.cfb_opening.proofs.OpenedFile.{opened}
 use Rattle.cfb_opening.proofs.opening.open_file.Goals as goal

@@ -4,7 +4,7 @@ use Rattle.cfb_format.specs.Reading.{IsOutline}
 use Rattle.cfb_sectors.specs.Sectors.{SectorFile}
 use Rattle.cfb_alloc.specs.Alloc.{AllocatorState}
 use Rattle.cfb_opening.specs.cfb_directory.State.{DirectoryState}
-use Rattle.cfb_opening.specs.cfb_mini_sectors.State.{reading_of}
+use Rattle.cfb_opening.specs.cfb_mini.State.{reading_of}
 use Rattle.cfb_opening.proofs.OpenedFile.{reads}
 use Rattle.cfb_opening.proofs.soundness.is_sound.Goals as goal
 

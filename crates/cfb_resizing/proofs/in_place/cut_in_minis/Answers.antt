@@ -12,7 +12,7 @@ use Rattle.cfb_resizing.specs.Turning.{Turns}
 use Rattle.cfb_content.proofs.DirCount.{count-stays}
 use Rattle.cfb_content.proofs.FixedHeader.{spared-keeps-header}
 use Rattle.cfb_resizing.proofs.CutShort.{mini-cut-takes-few}
-use Rattle.cfb_resizing.specs.cfb_mini_sectors.State.{MiniState, bytes_of, table_of}
+use Rattle.cfb_resizing.specs.cfb_mini.State.{MiniState, bytes_of, table_of}
 use Rattle.cfb_content.proofs.Changed.{spares-same}
 use Rattle.cfb_resizing.proofs.LengthenedMinis.{not-both}
 use Rattle.cfb_resizing.proofs.Tightness.{sizes-tight}

@@ -9,7 +9,7 @@ use Rattle.cfb_resizing.specs.cfb_alloc.Alloc.{AllocatorState}
 use Rattle.cfb_resizing.specs.cfb_alloc.ListedChain.{Shortens}
 use Rattle.cfb_resizing.proofs.cfb_alloc.ListedLemmas.{can_shorten}
 use Rattle.cfb_resizing.proofs.cfb_alloc.BrokenSpared.{after_any}
-use Rattle.cfb_resizing.proofs.cfb_mini_sectors.MiniStreams.{begins}
+use Rattle.cfb_resizing.proofs.cfb_mini.MiniStreams.{begins}
 use Rattle.cfb_resizing.specs.cfb_mini.MiniSectors.{IsOfWholeSectors}
 use Rattle.cfb_resizing.proofs.cfb_mini.WholeFiles.{same-whole}
 use Rattle.cfb_content.proofs.WholeStreams.{not-whole, whole-as}

@@ -3,8 +3,8 @@ use Rattle.std.specs.Prelude.{Contains}
 use Rattle.std.proofs.lemmas.Result.{err_from_is_err_and}
 use Rattle.cfb_format.specs.Full.{rounded_up}
 use Rattle.cfb_tables.specs.Tables.{first_or_end}
-use Rattle.cfb_resizing.specs.cfb_mini_sectors.State.{HoldsMini, MiniState, bytes_of, table_of}
-use Rattle.cfb_resizing.specs.cfb_mini_sectors.Steps.{IsNotHeld, IsSnugMini}
+use Rattle.cfb_resizing.specs.cfb_mini.State.{HoldsMini, MiniState, bytes_of, table_of}
+use Rattle.cfb_resizing.specs.cfb_mini.Steps.{IsNotHeld, IsSnugMini}
 use Rattle.cfb_resizing.specs.cfb_mini.MiniSectors.{HasMiniSector, IsOfWholeSectors}
 use Rattle.cfb_resizing.proofs.cfb_mini.MiniExtended.{invalid-refused}
 use Rattle.cfb_content.proofs.StreamEntry.{stream-inside}

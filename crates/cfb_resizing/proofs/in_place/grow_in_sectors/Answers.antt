@@ -6,7 +6,7 @@ use Rattle.cfb_format.specs.Full.{rounded_up}
 use Rattle.cfb_tables.specs.Tables.{first_or_end}
 use Rattle.cfb_resizing.specs.cfb_alloc.Alloc.{AllocatorState, HoldsTables}
 use Rattle.cfb_resizing.specs.cfb_alloc.ListedChain.{Lengthens}
-use Rattle.cfb_resizing.proofs.cfb_mini_sectors.MiniStreams.{begins}
+use Rattle.cfb_resizing.proofs.cfb_mini.MiniStreams.{begins}
 use Rattle.cfb_resizing.specs.cfb_mini.MiniSectors.{IsOfWholeSectors}
 use Rattle.cfb_content.proofs.WholeStreams.{not-whole}
 use Rattle.cfb_content.proofs.DirCount.{table-count}

@@ -10,8 +10,8 @@ use Rattle.cfb_tables.proofs.ListedLemmas.{chain_ends}
 use Rattle.cfb_resizing.proofs.cfb_alloc.Answering.{all_ok, on_ok}
 use Rattle.cfb_resizing.proofs.cfb_chains.ChainLists.{ends_among}
 use Rattle.cfb_resizing.specs.cfb_mini_table.MiniTable.{TakesMini}
-use Rattle.cfb_resizing.specs.cfb_mini_sectors.State.{bytes_of, table_of}
-use Rattle.cfb_resizing.proofs.cfb_mini_sectors.MiniFrames.{spares-less}
+use Rattle.cfb_resizing.specs.cfb_mini.State.{bytes_of, table_of}
+use Rattle.cfb_resizing.proofs.cfb_mini.MiniFrames.{spares-less}
 use Rattle.cfb_resizing.proofs.cfb_mini.WholeFiles.{same-whole}
 use Rattle.cfb_content.proofs.Changing.{growth-stays}
 use Rattle.cfb_content.proofs.DirCount.{minis-outside}
@@ -20,7 +20,7 @@ use Rattle.cfb_resizing.proofs.Tightness.{file-around, file-mini, file-system}
 use Rattle.cfb_resizing.proofs.SnugMinis.{extended-snug, file-snug}
 use Rattle.cfb_resizing.proofs.in_place.lengthen_in_minis.Goals as goal
 use Rattle.cfb_tables.proofs.Refusals.{refused-as}
-use Rattle.cfb_resizing.proofs.cfb_mini_sectors.BothGrown.{both-outside}
+use Rattle.cfb_resizing.proofs.cfb_mini.BothGrown.{both-outside}
 
 pub zero_in_minis-requires : goal.zero_in_minis-requires
 zero_in_minis-requires g c =

@@ -9,7 +9,7 @@ use Rattle.cfb_resizing.proofs.cfb_alloc.Answering.{all_ok, on_ok}
 use Rattle.cfb_resizing.proofs.cfb_alloc.Frames.{spares-less}
 use Rattle.cfb_resizing.proofs.cfb_chains.ChainLists.{ends_among}
 use Rattle.cfb_resizing.proofs.cfb_chains.Sparing.{gained_spared}
-use Rattle.cfb_resizing.proofs.cfb_mini_sectors.HeldMini.{no-tables}
+use Rattle.cfb_resizing.proofs.cfb_mini.HeldMini.{no-tables}
 use Rattle.cfb_resizing.proofs.cfb_mini.WholeFiles.{same-whole, taken-whole}
 use Rattle.cfb_content.proofs.GrownWith.{header-left}
 use Rattle.cfb_resizing.proofs.LengthenedSectors.{lacking-is, lengthened-padded, tail-placed}

@@ -1,6 +1,6 @@
 use Rattle.std.proofs.Common.{List, ℕ, ◌++◌, length, subst}
 use Rattle.cfb_sectors.specs.declared.sector.SectorInit.TheVariants.{Zero}
-use Rattle.cfb_resizing.proofs.cfb_table_words.FilledSectors.{filled_whole_each}
+use Rattle.cfb_resizing.proofs.cfb_alloc.FilledSectors.{filled_whole_each}
 use Rattle.cfb_tables.specs.Listed.{ends_of, gained}
 use Rattle.cfb_resizing.specs.cfb_alloc.Alloc.{ChangesSectors}
 use Rattle.cfb_resizing.specs.cfb_alloc.Frame.{Spares}

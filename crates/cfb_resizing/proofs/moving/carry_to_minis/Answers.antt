@@ -13,10 +13,10 @@ use Rattle.cfb_resizing.proofs.cfb_alloc.HeldOrder.{held-usable}
 use Rattle.cfb_resizing.specs.cfb_alloc.Frame.{Spares}
 use Rattle.cfb_resizing.proofs.cfb_alloc.Answering.{all_ok, on_ok}
 use Rattle.cfb_resizing.specs.cfb_mini_table.MiniTable.{TakesMini}
-use Rattle.cfb_resizing.specs.cfb_mini_sectors.State.{MiniState, bytes_of, table_of, tables_in}
-use Rattle.cfb_resizing.specs.cfb_mini_sectors.Steps.{SparesMini, system_sectors}
-use Rattle.cfb_resizing.specs.cfb_mini_sectors.Growing.{KeepsOutsideMini}
-use Rattle.cfb_resizing.specs.cfb_mini_sectors.Held.{with_table}
+use Rattle.cfb_resizing.specs.cfb_mini.State.{MiniState, bytes_of, table_of, tables_in}
+use Rattle.cfb_resizing.specs.cfb_mini.Steps.{SparesMini, system_sectors}
+use Rattle.cfb_resizing.specs.cfb_mini.Growing.{KeepsOutsideMini}
+use Rattle.cfb_resizing.specs.cfb_mini.Held.{with_table}
 use Rattle.cfb_resizing.proofs.cfb_mini.WholeFiles.{same-whole}
 use Rattle.cfb_content.proofs.DirCount.{minis-outside, outside-other}
 use Rattle.cfb_resizing.proofs.BegunInSectors.{no-chain}
@@ -27,7 +27,7 @@ use Rattle.cfb_resizing.proofs.Tightness.{file-mini, file-system}
 use Rattle.cfb_resizing.proofs.SnugMinis.{extended-snug, file-snug, table-snug}
 use Rattle.cfb_resizing.proofs.moving.carry_to_minis.Goals as goal
 use Rattle.cfb_tables.proofs.Refusals.{refused-as}
-use Rattle.cfb_resizing.proofs.cfb_mini_sectors.BothGrown.{both-outside}
+use Rattle.cfb_resizing.proofs.cfb_mini.BothGrown.{both-outside}
 
 pub put_in_minis-requires : goal.put_in_minis-requires
 put_in_minis-requires g c =

@@ -4,9 +4,9 @@ use Rattle.cfb_tables.specs.Tables.{IsTooFew, TableState}
 use Rattle.cfb_resizing.specs.cfb_alloc.Alloc.{AllocatorState, ChangesSectors, IsUsable}
 use Rattle.cfb_resizing.proofs.cfb_alloc.Answering.{all_ok, on_both, on_ok}
 use Rattle.cfb_resizing.specs.cfb_alloc.ListedChain.{Lengthens}
-use Rattle.cfb_resizing.specs.cfb_mini_sectors.Growing.{KeepsOutsideMini}
-use Rattle.cfb_resizing.specs.cfb_mini_sectors.State.{bytes_of, table_of, tables_in}
-use Rattle.cfb_resizing.proofs.cfb_mini_sectors.HeldShortened.{usable-left}
+use Rattle.cfb_resizing.specs.cfb_mini.Growing.{KeepsOutsideMini}
+use Rattle.cfb_resizing.specs.cfb_mini.State.{bytes_of, table_of, tables_in}
+use Rattle.cfb_resizing.proofs.cfb_mini.HeldShortened.{usable-left}
 use Rattle.cfb_resizing.specs.cfb_mini.MiniSectors.{IsOfWholeSectors}
 use Rattle.cfb_resizing.proofs.cfb_mini.WholeFiles.{same-whole}
 use Rattle.cfb_content.proofs.DirCount.{outside-other}
@@ -15,7 +15,7 @@ use Rattle.cfb_resizing.proofs.CarriedToSectors.{carried-apart, carried-around, 
 use Rattle.cfb_resizing.proofs.Erased.{begun-zeros}
 use Rattle.cfb_resizing.proofs.SnugMinis.{freed-snug, table-snug}
 use Rattle.cfb_resizing.proofs.moving.carry_to_sectors.Goals as goal
-use Rattle.cfb_resizing.proofs.cfb_mini_sectors.BothGrown.{both-outside}
+use Rattle.cfb_resizing.proofs.cfb_mini.BothGrown.{both-outside}
 
 pub returns-clause-carried : goal.returns-clause-carried
 returns-clause-carried g c v held =

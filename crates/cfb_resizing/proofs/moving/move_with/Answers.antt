@@ -2,8 +2,8 @@ use Rattle.std.proofs.Common.{◌∙◌, ap, sym, subst, length, arith}
 use Rattle.std.proofs.lemmas.Result.{err_from_is_err_and}
 use Rattle.cfb_tables.specs.Tables.{first_or_end}
 use Rattle.cfb_resizing.specs.cfb_alloc.Alloc.{AllocatorState}
-use Rattle.cfb_resizing.specs.cfb_mini_sectors.State.{HoldsMini, MiniState, bytes_of, table_of}
-use Rattle.cfb_resizing.specs.cfb_mini_sectors.Held.{with_table}
+use Rattle.cfb_resizing.specs.cfb_mini.State.{HoldsMini, MiniState, bytes_of, table_of}
+use Rattle.cfb_resizing.specs.cfb_mini.Held.{with_table}
 use Rattle.cfb_resizing.specs.cfb_mini.MiniSectors.{IsStill, IsOfWholeSectors}
 use Rattle.cfb_content.proofs.StreamEntry.{stream-inside}
 use Rattle.cfb_content.proofs.WholeStreams.{not-whole-minis}
@@ -12,7 +12,7 @@ use Rattle.cfb_content.proofs.DirCount.{count-since}
 use Rattle.cfb_content.proofs.FixedHeader.{bytes-keep-header, spared-since-keeps-header}
 use Rattle.cfb_resizing.proofs.MovedToSectors.{move-asked, move-enough, move-fits, move-held, move-lacks, move-moved, move-others, move-starts, still-around, still-kept, still-stops, still-tight, whole-first, whole-last, whole-long}
 use Rattle.cfb_resizing.proofs.TurnedInSectors.{not-usable}
-use Rattle.cfb_resizing.specs.cfb_mini_sectors.Steps.{IsSnugMini}
+use Rattle.cfb_resizing.specs.cfb_mini.Steps.{IsSnugMini}
 use Rattle.cfb_content.proofs.Changed.{spares-same, spares-as}
 use Rattle.cfb_resizing.proofs.moving.move_with.Goals as goal
 use Rattle.cfb_tables.proofs.Refusals.{refused-as}

@@ -12,7 +12,7 @@ use Rattle.cfb_resizing.specs.cfb_alloc.Alloc.{AllocatorState}
 use Rattle.cfb_resizing.proofs.cfb_alloc.Answering.{on_both}
 use Rattle.cfb_resizing.specs.cfb_directory.Growing.{ArePlaced}
 use Rattle.cfb_resizing.proofs.cfb_directory.Placed.{held_places}
-use Rattle.cfb_resizing.specs.cfb_mini_sectors.State.{HoldsMini, IsChangeable, content_of, entries_of, tables_in, table_of}
+use Rattle.cfb_resizing.specs.cfb_mini.State.{HoldsMini, IsChangeable, content_of, entries_of, tables_in, table_of}
 use Rattle.cfb_content.specs.Contents.{IsNotChangeable, IsTooLongFor, len_of}
 use Rattle.cfb_content.specs.Laws.{LacksNumbersFor}
 use Rattle.cfb_content.proofs.Fullness.{enough-is-not-too-long, lack-is-too-long}
@@ -36,7 +36,7 @@ use Rattle.cfb_resizing.proofs.PutBehind.{tight-then}
 use Rattle.cfb_resizing.proofs.LengthenedMinis.{not-both}
 use Rattle.cfb_resizing.proofs.resizing.resize_content.Goals as goal
 use Rattle.cfb_tables.proofs.Refusals.{refused-as}
-use Rattle.cfb_resizing.proofs.cfb_mini_changes.MiniExtended.{invalid-refused, limits-then}
+use Rattle.cfb_resizing.proofs.cfb_mini.MiniExtended.{invalid-refused, limits-then}
 
 pub content_in-len-requires : goal.content_in-len-requires
 content_in-len-requires g c = record { inside = stream-inside c.args.mini.now c.args.entry c.requires.stream }

@@ -1,8 +1,8 @@
 use Rattle.std.proofs.Common.{◌≡◌, ℕ, List, true, false, refl, sym, ◌∙◌, subst}
 use Rattle.cfb_resizing.specs.cfb_alloc.Alloc.{AllocatorState}
 use Rattle.cfb_resizing.proofs.cfb_mini.MiniGiven.{can-answered, held-can}
-use Rattle.cfb_resizing.specs.cfb_mini_sectors.Giving.{CanGiveBack}
-use Rattle.cfb_resizing.specs.cfb_mini_sectors.State.{mini_stream_of}
+use Rattle.cfb_resizing.specs.cfb_mini.Giving.{CanGiveBack}
+use Rattle.cfb_resizing.specs.cfb_mini.State.{mini_stream_of}
 use Rattle.cfb_resizing.proofs.RoomForMove.{all-can}
 use Rattle.cfb_resizing.proofs.room.check_room.Goals as goal
 

@@ -5,7 +5,7 @@ use Rattle.std.proofs.lemmas.List.Sorted.{IsNonDecreasingBy-from_sort}
 use Rattle.cfb_format.specs.Bytes.{free_sector}
 use Rattle.cfb_format.specs.Fat.{without_end}
 use Rattle.cfb_format.specs.Full.{freed}
-use Rattle.cfb_resizing.specs.cfb_mini_sectors.State.{MiniState}
+use Rattle.cfb_resizing.specs.cfb_mini.State.{MiniState}
 use Rattle.cfb_resizing.proofs.RoomForMove.{left-few, room-found}
 use Rattle.cfb_resizing.proofs.room.room_behind.Goals as goal
 

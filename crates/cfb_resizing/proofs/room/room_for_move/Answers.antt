@@ -5,7 +5,7 @@ use Rattle.std.proofs.lemmas.List.{nil_from_length}
 use Rattle.std.proofs.lemmas.Result.{IfOk-weaker, err_from_is_err_and}
 use Rattle.cfb_tables.specs.Room.{IsTooFewAfter}
 use Rattle.cfb_resizing.specs.cfb_alloc.Alloc.{AllocatorState}
-use Rattle.cfb_resizing.specs.cfb_mini_sectors.State.{tables_in}
+use Rattle.cfb_resizing.specs.cfb_mini.State.{tables_in}
 use Rattle.cfb_content.specs.Contents.{mini_sectors_owned}
 use Rattle.cfb_content.specs.Room.{ComesFree, room_given}
 use Rattle.cfb_content.proofs.StreamEntry.{stream-inside}

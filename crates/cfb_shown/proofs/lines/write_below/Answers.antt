@@ -7,7 +7,7 @@ use Rattle.cfb_codecs.specs.EntryModel.{entries_of, entry_of}
 use Rattle.cfb_format.specs.DirectoryEntry.{Entry}
 use Rattle.cfb_format.specs.Siblings.{entry_at}
 use Rattle.cfb_listing.specs.Told.{entry_info}
-use Rattle.cfb_walks.specs.declared.walk.Walked.{Walked}
+use Rattle.cfb_outline.specs.declared.walk.Walked.{Walked}
 use Rattle.cfb_shown.specs.Along.{Deepens, Fits, path_below, paths_to, told_along}
 use Rattle.cfb_shown.specs.Lines.{line_in}
 use Rattle.cfb_shown.specs.Trails.{level_room, path_room, paths_of}

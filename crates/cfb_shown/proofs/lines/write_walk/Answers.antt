@@ -7,9 +7,9 @@ use Rattle.cfb_format.specs.Siblings.{entry_at}
 use Rattle.cfb_listing.specs.Told.{entry_info}
 use Rattle.cfb_listing.proofs.Walked.{walks-stream}
 use Rattle.cfb_shown.specs.cfb_outline.Outlines.{IsReachedStorage}
-use Rattle.cfb_walks.specs.declared.walk.Walked.{Walked}
-use Rattle.cfb_walks.specs.Walks.{AreWithin}
-use Rattle.cfb_walks.proofs.Within.{inside-within}
+use Rattle.cfb_outline.specs.declared.walk.Walked.{Walked}
+use Rattle.cfb_outline.specs.Walks.{AreWithin}
+use Rattle.cfb_outline.proofs.Within.{inside-within}
 use Rattle.cfb_shown.specs.Along.{Deepens, Fits}
 use Rattle.cfb_shown.specs.Lines.{line_in}
 use Rattle.cfb_shown.specs.Trails.{level_room, path_room, paths_of}

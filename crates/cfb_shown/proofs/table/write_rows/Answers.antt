@@ -2,7 +2,7 @@ use Rattle.std.proofs.Common.{◌⊎◌, inl, inr, ◌∙◌, ◌+◌, ◌<◌, 
 use Rattle.std.proofs.lemmas.Result.{err_from_is_err_and}
 use Rattle.cfb_codecs.specs.EntryModel.{entries_of, entry_of}
 use Rattle.cfb_format.specs.DirectoryEntry.{Entry}
-use Rattle.cfb_walks.specs.declared.walk.Walked.{Walked}
+use Rattle.cfb_outline.specs.declared.walk.Walked.{Walked}
 use Rattle.cfb_shown.specs.Along.{Deepens}
 use Rattle.cfb_shown.specs.Trails.{level_room, path_room, paths_of}
 use Rattle.cfb_shown.proofs.Along.{deeper, fits-later, fits-more, has-room, never-lacks}

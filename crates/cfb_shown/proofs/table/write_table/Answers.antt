@@ -4,9 +4,9 @@ use Rattle.cfb_codecs.specs.EntryModel.{entries_of, entry_of}
 use Rattle.cfb_format.specs.DirectoryEntry.{Entry}
 use Rattle.cfb_format.specs.Siblings.{entry_at}
 use Rattle.cfb_shown.specs.cfb_outline.Outlines.{IsReachedStorage}
-use Rattle.cfb_walks.specs.declared.walk.Walked.{Walked}
-use Rattle.cfb_walks.specs.Walks.{AreWithin}
-use Rattle.cfb_walks.proofs.Within.{inside-within}
+use Rattle.cfb_outline.specs.declared.walk.Walked.{Walked}
+use Rattle.cfb_outline.specs.Walks.{AreWithin}
+use Rattle.cfb_outline.proofs.Within.{inside-within}
 use Rattle.cfb_shown.specs.Along.{Deepens, Fits}
 use Rattle.cfb_shown.specs.Trails.{level_room, path_room, paths_of}
 use Rattle.cfb_shown.proofs.Along.{fits-more, inside-deepens}

@@ -1,7 +1,7 @@
 use Rattle.std.proofs.Common.{◌+◌, ◌∙◌, false, drop, get_or}
 use Rattle.std.proofs.lemmas.List.{at_drop_all}
 use Rattle.cfb_codecs.specs.EntryModel.{entries_of}
-use Rattle.cfb_walks.specs.declared.walk.Walked.{Walked}
+use Rattle.cfb_outline.specs.declared.walk.Walked.{Walked}
 use Rattle.cfb_shown.specs.Trees.{bytes_along}
 use Rattle.cfb_shown.proofs.TreeLines.{all-counted, bytes-step, capped-is-small, next-of}
 use Rattle.cfb_shown.proofs.tree.count_bytes.Goals as goal

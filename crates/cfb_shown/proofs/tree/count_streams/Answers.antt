@@ -1,7 +1,7 @@
 use Rattle.std.proofs.Common.{◌+◌, ◌∙◌, false, arith, drop, get_or}
 use Rattle.std.proofs.lemmas.List.{at_drop_all}
 use Rattle.cfb_codecs.specs.EntryModel.{entries_of}
-use Rattle.cfb_walks.specs.declared.walk.Walked.{Walked}
+use Rattle.cfb_outline.specs.declared.walk.Walked.{Walked}
 use Rattle.cfb_shown.specs.Trees.{streams_along}
 use Rattle.cfb_shown.proofs.TreeLines.{next-of, streams-step}
 use Rattle.cfb_shown.proofs.tree.count_streams.Goals as goal

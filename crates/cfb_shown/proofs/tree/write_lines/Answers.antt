@@ -3,7 +3,7 @@ use Rattle.std.proofs.KnownBytes.{Appends-nil, Appends-trans}
 use Rattle.std.proofs.lemmas.List.{at_drop_all, length-append, length-take}
 use Rattle.std.specs.Io.KnownBytes.{Appends}
 use Rattle.cfb_codecs.specs.EntryModel.{entries_of, entry_of}
-use Rattle.cfb_walks.specs.declared.walk.Walked.{Walked}
+use Rattle.cfb_outline.specs.declared.walk.Walked.{Walked}
 use Rattle.cfb_shown.specs.Trees.{entry_text, lead, lines_along}
 use Rattle.cfb_shown.proofs.Pieces.{as-text}
 use Rattle.cfb_shown.proofs.TreeLines.{lines-step, next-of}

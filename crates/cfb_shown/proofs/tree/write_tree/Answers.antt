@@ -4,9 +4,9 @@ use Rattle.std.proofs.lemmas.List.{length-map}
 use Rattle.cfb_codecs.specs.EntryModel.{entries_of, entry_of}
 use Rattle.cfb_format.specs.DirectoryEntry.{Entry}
 use Rattle.cfb_format.specs.Siblings.{entry_at}
-use Rattle.cfb_walks.specs.declared.walk.Walked.{Walked}
-use Rattle.cfb_walks.specs.Walks.{AreWithin}
-use Rattle.cfb_walks.proofs.Within.{inside-within}
+use Rattle.cfb_outline.specs.declared.walk.Walked.{Walked}
+use Rattle.cfb_outline.specs.Walks.{AreWithin}
+use Rattle.cfb_outline.proofs.Within.{inside-within}
 use Rattle.cfb_shown.specs.Trees.{at_most_said, bytes_along, counts_text, entry_text, len_said, lines_along, storages_along, streams_along}
 use Rattle.cfb_shown.proofs.Pieces.{as-text}
 use Rattle.cfb_shown.proofs.TreeShown.{below_first, not-stream, shows-inside, shows-stream, storage-reached, stream-is}

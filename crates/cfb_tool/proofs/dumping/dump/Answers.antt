@@ -4,7 +4,7 @@ use Rattle.std.proofs.lemmas.List.{take-append-drop, take_all, take_more}
 use Rattle.std.proofs.lemmas.Result.{err_from_is_err_and}
 use Rattle.cfb_format.specs.Bytes.{version_number}
 use Rattle.cfb_rules.specs.Calls.{EntryInfo, entries, walk}
-use Rattle.cfb_tool.specs.cfb_mini_sectors.State.{version_of}
+use Rattle.cfb_tool.specs.cfb_mini.State.{version_of}
 use Rattle.cfb_tool.specs.cfb_path_changes.Answers.{Answers}
 use Rattle.cfb_tool.specs.Dumping.{CanBeDumped, comment_line}
 use Rattle.cfb_tool.specs.Sending.{IsSent}

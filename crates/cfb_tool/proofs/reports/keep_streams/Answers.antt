@@ -1,6 +1,6 @@
 use Rattle.std.proofs.Common.{rules}
 use Rattle.std.proofs.lemmas.Fn.{filter_same}
-use Rattle.cfb_reports.specs.Leading.{is_stream_info}
+use Rattle.cfb_shown.specs.Leading.{is_stream_info}
 use Rattle.cfb_tool.proofs.reports.keep_streams.Goals as goal
 
 pub returns : goal.returns

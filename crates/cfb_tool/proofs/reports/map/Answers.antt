@@ -1,4 +1,4 @@
-use Rattle.cfb_reports.specs.Names.{path_of}
+use Rattle.cfb_shown.specs.Names.{path_of}
 use Rattle.cfb_tool.proofs.reports.map.Goals as goal
 
 pub returns-clause-told : goal.returns-clause-told

@@ -7,9 +7,9 @@ use Rattle.cfb_format.specs.declared.validate.Validation.{Validation}
 use Rattle.cfb_format.specs.declared.validate.Validation.TheVariants.{Strict}
 use Rattle.cfb_format.specs.DirectoryEntry.{Entry}
 use Rattle.cfb_volume.specs.cfb_entries.EntryList.{AreInOrder}
-use Rattle.cfb_volume.proofs.cfb_trees.Members.{reached-is-within}
-use Rattle.cfb_volume.proofs.cfb_trees.Reached.{below-reached}
-use Rattle.cfb_volume.specs.cfb_mini_sectors.State.{HoldsMini, cases_of, entries_of}
+use Rattle.cfb_volume.proofs.cfb_siblings.Members.{reached-is-within}
+use Rattle.cfb_volume.proofs.cfb_siblings.Reached.{below-reached}
+use Rattle.cfb_volume.specs.cfb_mini.State.{HoldsMini, cases_of, entries_of}
 use Rattle.cfb_volume.specs.cfb_content.Contents.{IsNotChangeable, IsStreamOf, IsTooLongFor, len_of}
 use Rattle.cfb_volume.proofs.cfb_content.Changed.{moves-same, spares-same}
 use Rattle.cfb_volume.proofs.cfb_content.Erased.{emptied-zeros}

@@ -9,7 +9,7 @@ use Rattle.cfb_tables.specs.Tables.{HasTaken}
 use Rattle.cfb_tables.proofs.PreparedLemmas.{chain-one}
 use Rattle.cfb_tables.proofs.TakenLemmas.{taken-none}
 use Rattle.cfb_alloc.proofs.Spared.{spares_refl, spares_unchanged, taken_written}
-use Rattle.cfb_table_words.proofs.FilledSectors.{filled_each}
+use Rattle.cfb_alloc.proofs.FilledSectors.{filled_each}
 use Rattle.cfb_alloc.proofs.alloc.Allocator.append_by.Goals as goal
 
 pub returns-in_err-before-clause-others : goal.returns-in_err-before-clause-others

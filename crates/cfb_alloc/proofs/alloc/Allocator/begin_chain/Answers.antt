@@ -4,7 +4,7 @@ use Rattle.cfb_alloc.specs.Alloc.{AllocatorState}
 use Rattle.cfb_tables.specs.Tables.{IsTooFew}
 use Rattle.cfb_alloc.proofs.AllocLemmas.{others_refl, others_unchanged, placed_reserved, placed_written, places_known, others_written, held_counted, fats_apart_shown, clean_taken, fats_known, difats_known, refused_changed}
 use Rattle.cfb_alloc.proofs.Spared.{spares_refl, spares_unchanged, taken_written}
-use Rattle.cfb_table_words.proofs.FilledSectors.{filled_each}
+use Rattle.cfb_alloc.proofs.FilledSectors.{filled_each}
 use Rattle.cfb_alloc.proofs.alloc.Allocator.begin_chain.Goals as goal
 use Rattle.cfb_format.proofs.Members.{Contains-here}
 

@@ -6,7 +6,7 @@ use Rattle.cfb_format.specs.Chain.{IsChain}
 use Rattle.cfb_tables.specs.Tables.{HasTaken, first_or_end}
 use Rattle.cfb_tables.proofs.TakenLemmas.{taken-nothing}
 use Rattle.cfb_alloc.proofs.Spared.{spares_refl, spares_unchanged, taken_written}
-use Rattle.cfb_table_words.proofs.FilledSectors.{filled_each}
+use Rattle.cfb_alloc.proofs.FilledSectors.{filled_each}
 use Rattle.cfb_alloc.proofs.alloc.Allocator.begin_chain_by.Goals as goal
 use Rattle.cfb_format.proofs.Walks.{chain_of}
 

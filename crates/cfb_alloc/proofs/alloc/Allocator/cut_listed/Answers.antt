@@ -1,7 +1,7 @@
 use Rattle.std.proofs.Common.{subst, arith}
 use Rattle.cfb_tables.specs.Clean.{IsUnnamed}
-use Rattle.cfb_table_words.proofs.Answering.{all_ok}
-use Rattle.cfb_table_words.proofs.FrameLemmas.{changes_refl}
+use Rattle.cfb_alloc.proofs.Answering.{all_ok}
+use Rattle.cfb_alloc.proofs.FrameLemmas.{changes_refl}
 use Rattle.cfb_alloc.proofs.Frames.{spares-less}
 use Rattle.cfb_alloc.proofs.Spared.{spares_refl}
 use Rattle.cfb_alloc.proofs.FreeingLemmas.{made_though}

@@ -7,7 +7,7 @@ use Rattle.cfb_alloc.proofs.AllocLemmas.{others_refl, others_unchanged, placed_r
 use Rattle.cfb_alloc.proofs.FreeingLemmas.{breaks_by_medium}
 use Rattle.cfb_tables.proofs.AttachLemmas.{last-known, extended}
 use Rattle.cfb_alloc.proofs.Spared.{last_among, spares_refl, spares_unchanged, taken_for_chain}
-use Rattle.cfb_table_words.proofs.FilledSectors.{filled_each}
+use Rattle.cfb_alloc.proofs.FilledSectors.{filled_each}
 use Rattle.cfb_alloc.proofs.alloc.Allocator.extend_chain.Goals as goal
 use Rattle.cfb_format.proofs.Members.{Contains-here}
 

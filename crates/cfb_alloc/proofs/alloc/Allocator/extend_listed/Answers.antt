@@ -1,5 +1,5 @@
-use Rattle.cfb_table_words.proofs.Answering.{on_ok}
-use Rattle.cfb_table_words.proofs.FilledSectors.{filled_each}
+use Rattle.cfb_alloc.proofs.Answering.{on_ok}
+use Rattle.cfb_alloc.proofs.FilledSectors.{filled_each}
 use Rattle.cfb_tables.specs.Listed.{gained}
 use Rattle.cfb_alloc.proofs.alloc.Allocator.extend_listed.Goals as goal
 

@@ -6,13 +6,13 @@ use Rattle.cfb_format.specs.Chain.{IsChain}
 use Rattle.cfb_format.specs.Refused.{CountsFailure}
 use Rattle.cfb_alloc.specs.cfb_sectors.Sectors.{SectorFile}
 use Rattle.cfb_alloc.proofs.cfb_sectors.SectorLemmas.{SectorStays_refl}
-use Rattle.cfb_table_words.specs.Along.{AreFilledFrom}
+use Rattle.cfb_alloc.specs.Along.{AreFilledFrom}
 use Rattle.cfb_alloc.specs.Alloc.{AllocatorState}
 use Rattle.cfb_tables.specs.Tables.{HasTaken, first_or_end}
-use Rattle.cfb_table_words.proofs.Answering.{all_err, if_err, on_ok}
+use Rattle.cfb_alloc.proofs.Answering.{all_err, if_err, on_ok}
 use Rattle.cfb_tables.specs.Listed.{EndsChain, ends_of, gained}
 use Rattle.cfb_alloc.specs.ListedChain.{Lengthens}
-use Rattle.cfb_table_words.proofs.FrameLemmas.{changes_refl}
+use Rattle.cfb_alloc.proofs.FrameLemmas.{changes_refl}
 use Rattle.cfb_alloc.proofs.AllocLemmas.{changes_unchanged, changes_written, clean_taken, difats_known, fats_apart_shown, fats_kept_shown, fats_known, fats_unchanged, held_counted, others_refl, others_unchanged, others_written, placed_reserved, placed_written, shown_below, shown_taken, touched_below}
 use Rattle.cfb_alloc.proofs.ListedLemmas.{behind_none, lengthened_none, shown_ends, shown_gained, ends_few}
 use Rattle.cfb_alloc.proofs.Spared.{spares_refl, spares_unchanged, taken_written}

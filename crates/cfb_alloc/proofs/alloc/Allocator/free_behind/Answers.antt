@@ -1,11 +1,11 @@
 use Rattle.std.proofs.Common.{refl, ap, sym, subst, []}
 use Rattle.cfb_format.specs.Chain.{IsChain}
 use Rattle.cfb_alloc.specs.Alloc.{AllocatorState, HoldsTables}
-use Rattle.cfb_table_words.specs.Holding.{HoldsBut}
+use Rattle.cfb_alloc.specs.Holding.{HoldsBut}
 use Rattle.cfb_tables.specs.Clean.{IsClean, IsUnnamed}
 use Rattle.cfb_tables.specs.Tables.{first_or_end}
 use Rattle.cfb_alloc.specs.cfb_sectors.Sectors.{SectorFile}
-use Rattle.cfb_table_words.proofs.Answering.{on_ok}
+use Rattle.cfb_alloc.proofs.Answering.{on_ok}
 use Rattle.cfb_alloc.proofs.FreeingLemmas.{changes_said, placed_changed}
 use Rattle.cfb_alloc.proofs.ListedLemmas.{shown_cut, cut_below, listed_cut_clean, listed_cut_holds, listed_cut_spares}
 use Rattle.cfb_alloc.proofs.alloc.Allocator.free_behind.Goals as goal

@@ -2,15 +2,15 @@ use Rattle.std.proofs.Common.{refl, arith, ap, sym, subst, [], ◌++◌, ℕ, Li
 use Rattle.std.specs.Prelude.{Contains}
 use Rattle.cfb_format.specs.Chain.{IsChain}
 use Rattle.cfb_alloc.specs.Alloc.{AllocatorState, HoldsTables}
-use Rattle.cfb_table_words.specs.Holding.{HoldsBut}
+use Rattle.cfb_alloc.specs.Holding.{HoldsBut}
 use Rattle.cfb_tables.specs.Clean.{IsClean, IsUnnamed}
 use Rattle.cfb_alloc.specs.cfb_sectors.Sectors.{SectorFile}
-use Rattle.cfb_table_words.proofs.Answering.{on_ok}
+use Rattle.cfb_alloc.proofs.Answering.{on_ok}
 use Rattle.cfb_tables.proofs.ChainLemmas.{members-busy}
 use Rattle.cfb_alloc.proofs.EmptyChain.{none_freed}
 use Rattle.cfb_alloc.proofs.ChainView.{chain_found}
 use Rattle.cfb_tables.proofs.CleanLemmas.{freed-clean}
-use Rattle.cfb_table_words.proofs.FrameLemmas.{changes_refl}
+use Rattle.cfb_alloc.proofs.FrameLemmas.{changes_refl}
 use Rattle.cfb_alloc.proofs.FreeingLemmas.{nothing_said, placed_changed, changes_said, freed_holds}
 use Rattle.cfb_alloc.proofs.Spared.{spares_refl, spares_unchanged, freed_written}
 use Rattle.cfb_alloc.proofs.alloc.Allocator.free_chain.Goals as goal

@@ -4,15 +4,15 @@ use Rattle.std.proofs.lemmas.Result.{err_from_is_err_and}
 use Rattle.cfb_format.specs.declared.version.Version.{Version}
 use Rattle.cfb_format.specs.Chain.{value, IsChain}
 use Rattle.cfb_alloc.specs.Alloc.{AllocatorState, HoldsTables}
-use Rattle.cfb_table_words.specs.Holding.{ChangesSectors, HoldsBut}
+use Rattle.cfb_alloc.specs.Holding.{ChangesSectors, HoldsBut}
 use Rattle.cfb_tables.specs.Changes.{GivesBack}
 use Rattle.cfb_tables.specs.Clean.{IsClean}
 use Rattle.cfb_alloc.specs.cfb_sectors.Sectors.{SectorFile}
 use Rattle.cfb_tables.specs.Tables.{TableState, GivesBackChain}
-use Rattle.cfb_table_words.proofs.Answering.{all_ok, on_ok}
+use Rattle.cfb_alloc.proofs.Answering.{all_ok, on_ok}
 use Rattle.cfb_tables.proofs.ChainLemmas.{members-busy}
 use Rattle.cfb_tables.proofs.CleanLemmas.{cut-clean}
-use Rattle.cfb_table_words.proofs.FrameLemmas.{changes_refl, changes_trans}
+use Rattle.cfb_alloc.proofs.FrameLemmas.{changes_refl, changes_trans}
 use Rattle.cfb_alloc.proofs.FreeingLemmas.{nothing_said, placed_changed, changes_said, cut_holds, no_next-no_chain, invalid_changed, breaks_back, breaks_by_medium}
 use Rattle.cfb_alloc.proofs.Spared.{spares_refl, spares_unchanged, freed_written}
 use Rattle.cfb_alloc.proofs.alloc.Allocator.free_chain_after.Goals as goal

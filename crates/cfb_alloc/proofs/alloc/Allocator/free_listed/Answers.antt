@@ -1,4 +1,4 @@
-use Rattle.cfb_table_words.proofs.FrameLemmas.{changes_refl}
+use Rattle.cfb_alloc.proofs.FrameLemmas.{changes_refl}
 use Rattle.cfb_alloc.proofs.Spared.{spares_refl}
 use Rattle.cfb_alloc.proofs.alloc.Allocator.free_listed.Goals as goal
 

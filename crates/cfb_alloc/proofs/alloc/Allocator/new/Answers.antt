@@ -5,7 +5,7 @@ use Rattle.std.specs.Vec.{vec_len}
 use Rattle.cfb_format.specs.declared.version.Version.{Version}
 use Rattle.cfb_format.specs.Fat.{fat_value}
 use Rattle.cfb_alloc.specs.Alloc.{AreListed}
-use Rattle.cfb_table_words.specs.Holding.{IsPlaced}
+use Rattle.cfb_alloc.specs.Holding.{IsPlaced}
 use Rattle.cfb_tables.specs.ReadFat.{AcceptsFat}
 use Rattle.cfb_format.specs.declared.validate.Validation.{Validation}
 use Rattle.cfb_tables.specs.Tables.{AreSizes}

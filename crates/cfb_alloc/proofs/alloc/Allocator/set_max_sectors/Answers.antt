@@ -1,6 +1,6 @@
 use Rattle.std.proofs.Common.{sym, subst}
 use Rattle.cfb_tables.specs.Tables.{TableState}
-use Rattle.cfb_table_words.specs.Holding.{IsPlaced}
+use Rattle.cfb_alloc.specs.Holding.{IsPlaced}
 use Rattle.cfb_alloc.specs.Kept.{IsKeptChain}
 use Rattle.cfb_alloc.proofs.alloc.Allocator.set_max_sectors.Goals as goal
 

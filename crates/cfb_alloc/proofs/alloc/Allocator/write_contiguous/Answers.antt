@@ -3,7 +3,7 @@ use Rattle.cfb_format.specs.Medium.{written}
 use Rattle.cfb_alloc.specs.Alloc.{AllocatorState, HoldsTables}
 use Rattle.cfb_alloc.specs.Frame.{LieOutside, table_sectors}
 use Rattle.cfb_alloc.specs.cfb_sectors.Sectors.{place_in_sector, sectors_end}
-use Rattle.cfb_table_words.proofs.Answering.{on_both}
+use Rattle.cfb_alloc.proofs.Answering.{on_both}
 use Rattle.cfb_alloc.proofs.SeekLemmas.{held_written, wrote_inside}
 use Rattle.cfb_alloc.proofs.Spared.{stretch_past, stretch_spares}
 use Rattle.cfb_alloc.proofs.alloc.Allocator.write_contiguous.Goals as goal

@@ -4,7 +4,7 @@ use Rattle.cfb_alloc.specs.cfb_sectors.Sectors.{SectorFile}
 use Rattle.cfb_alloc.specs.cfb_sectors.Words.{with_word}
 use Rattle.cfb_alloc.specs.Alloc.{AllocatorState, HoldsTables}
 use Rattle.cfb_alloc.specs.Frame.{Spares}
-use Rattle.cfb_table_words.proofs.Answering.{on_ok}
+use Rattle.cfb_alloc.proofs.Answering.{on_ok}
 use Rattle.cfb_alloc.proofs.HeaderField.{held_field, field_spares}
 use Rattle.cfb_alloc.proofs.alloc.Allocator.write_header_word.Goals as goal
 

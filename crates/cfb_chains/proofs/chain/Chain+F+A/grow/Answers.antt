@@ -1,4 +1,4 @@
-use Rattle.cfb_runs.proofs.cfb_table_words.FilledSectors.{filled_each}
+use Rattle.cfb_chains.proofs.cfb_alloc.FilledSectors.{filled_each}
 use Rattle.cfb_chains.specs.cfb_tables.Listed.{gained}
 use Rattle.cfb_chains.specs.LentChain.{allocator_of, start_sector_of, ids_of, init_of, version_of}
 use Rattle.cfb_chains.proofs.cfb_alloc.Answering.{on_ok, on_three}

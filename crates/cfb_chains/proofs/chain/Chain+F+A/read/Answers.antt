@@ -3,9 +3,9 @@ use Rattle.std.proofs.lemmas.Result.{err_from_is_err_and}
 use Rattle.cfb_format.specs.Bytes.{sector_len}
 use Rattle.cfb_format.specs.Medium.{part}
 use Rattle.cfb_chains.specs.cfb_tables.Tables.{TableState}
-use Rattle.cfb_runs.specs.Along.{IsReadAtOnce}
-use Rattle.cfb_runs.specs.Runs.{place_along}
-use Rattle.cfb_runs.proofs.Runs.{shorter_run}
+use Rattle.cfb_chains.specs.Along.{IsReadAtOnce}
+use Rattle.cfb_chains.specs.Runs.{place_along}
+use Rattle.cfb_chains.proofs.Runs.{shorter_run}
 use Rattle.cfb_chains.specs.LentChain.{allocator_of, ids_of, position_of, version_of}
 use Rattle.cfb_chains.proofs.ChainBytes.{none_placed}
 use Rattle.cfb_chains.proofs.ChainRuns.{run_content, run_fits, run_is_placed}

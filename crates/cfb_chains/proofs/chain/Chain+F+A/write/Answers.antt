@@ -4,7 +4,7 @@ use Rattle.std.proofs.lemmas.List.{append-nil}
 use Rattle.cfb_format.specs.Medium.{written}
 use Rattle.cfb_sectors.specs.Sectors.{copies, init_bytes}
 use Rattle.cfb_format.specs.Bytes.{sector_len, sector_start}
-use Rattle.cfb_runs.specs.cfb_table_words.Along.{AreFilledFrom}
+use Rattle.cfb_chains.specs.cfb_alloc.Along.{AreFilledFrom}
 use Rattle.cfb_chains.specs.cfb_tables.Listed.{gained, last_or_end}
 use Rattle.cfb_chains.specs.cfb_tables.Tables.{TableState, ending}
 use Rattle.cfb_chains.specs.ChainPlaces.{place_along}

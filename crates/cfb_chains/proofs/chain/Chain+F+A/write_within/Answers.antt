@@ -11,8 +11,8 @@ use Rattle.cfb_chains.specs.cfb_alloc.Frame.{Spares, table_sectors}
 use Rattle.cfb_chains.proofs.cfb_alloc.ChainView.{found_chain, index_inside}
 use Rattle.cfb_chains.proofs.cfb_alloc.Spared.{spares_refl}
 use Rattle.cfb_sectors.proofs.SectorLemmas.{SectorStays_refl}
-use Rattle.cfb_runs.specs.Along.{ChangesOnlyRun}
-use Rattle.cfb_runs.specs.Runs.{IsLongestRun, IsRun, place_along}
+use Rattle.cfb_chains.specs.Along.{ChangesOnlyRun}
+use Rattle.cfb_chains.specs.Runs.{IsLongestRun, IsRun, place_along}
 use Rattle.cfb_chains.specs.LentChain.{allocator_of, ids_of, position_of, start_sector_of, version_of}
 use Rattle.cfb_chains.proofs.ChainRuns.{content_put, run_fits, run_sectors, run_wanted, wrote_run}
 use Rattle.cfb_chains.proofs.LentContent.{no_table_sector}

@@ -14,9 +14,9 @@ use Rattle.cfb_chains.specs.cfb_alloc.Agreement.{HasSectors}
 use Rattle.cfb_chains.specs.cfb_alloc.Frame.{Spares, table_sectors}
 use Rattle.cfb_chains.proofs.cfb_alloc.ChainView.{found_chain, index_inside}
 use Rattle.cfb_chains.proofs.cfb_alloc.Spared.{spares_refl}
-use Rattle.cfb_runs.specs.Along.{ChangesOnlyRun}
-use Rattle.cfb_runs.specs.Runs.{IsLongestRun, IsRun, place_along}
-use Rattle.cfb_runs.proofs.Runs.{rest_short}
+use Rattle.cfb_chains.specs.Along.{ChangesOnlyRun}
+use Rattle.cfb_chains.specs.Runs.{IsLongestRun, IsRun, place_along}
+use Rattle.cfb_chains.proofs.Runs.{rest_short}
 use Rattle.cfb_chains.specs.LentChain.{allocator_of, start_sector_of, ids_of, version_of}
 use Rattle.cfb_chains.proofs.ChainRuns.{all_of_run, content_put, sector_run, tail_few}
 use Rattle.cfb_chains.proofs.ChainContent.{sectors_stay}

@@ -2,7 +2,7 @@ use Rattle.std.proofs.Common.{◌≡◌, ◌∙◌, ◌||◌, chars, ap, subst, 
 use Rattle.std.proofs.lemmas.Result.{err_from_is_err_and}
 use Rattle.cfb_compound_file.specs.cfb_content.Contents.{len_of}
 use Rattle.cfb_compound_file.specs.cfb_rules.Calls.{done}
-use Rattle.cfb_stream_buffer.specs.Buffers.{Buffered}
+use Rattle.cfb_stream_window.specs.Buffers.{Buffered}
 use Rattle.cfb_stream_window.specs.Windows.{window_over}
 use Rattle.cfb_path_changes.specs.Adding.{creation}
 use Rattle.cfb_path_changes.specs.Answers.{IsDoneBy, IsRefusedBy}

@@ -3,7 +3,7 @@ use Rattle.std.proofs.lemmas.Result.{err_from_is_err_and}
 use Rattle.cfb_format.specs.declared.error.Error.{Error}
 use Rattle.cfb_format.specs.declared.error.Error.TheVariants.{Failed, Memory}
 use Rattle.cfb_agreement.specs.Files.{FileState}
-use Rattle.cfb_compound_file.specs.cfb_mini_sectors.State.{table_of}
+use Rattle.cfb_compound_file.specs.cfb_mini.State.{table_of}
 use Rattle.cfb_compound_file.proofs.Flawed.{fat-there, flaws-held, read-none, read-not-failed, read-only, read-refused}
 use Rattle.cfb_compound_file.proofs.StoredStreams.{agrees_as_before}
 use Rattle.cfb_compound_file.proofs.compound_file.CompoundFile.flaws.Goals as goal

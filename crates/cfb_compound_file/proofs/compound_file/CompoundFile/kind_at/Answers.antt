@@ -1,5 +1,5 @@
 use Rattle.std.specs.Prelude.{chars}
-use Rattle.cfb_compound_file.specs.cfb_mini_sectors.State.{cases_of, entries_of}
+use Rattle.cfb_compound_file.specs.cfb_mini.State.{cases_of, entries_of}
 use Rattle.cfb_compound_file.specs.cfb_siblings.Paths.{number_at_path}
 use Rattle.cfb_path_changes.proofs.Numbers.{object-within}
 use Rattle.cfb_compound_file.proofs.Numbers.{kind-is}

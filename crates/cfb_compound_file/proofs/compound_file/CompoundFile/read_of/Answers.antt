@@ -1,7 +1,7 @@
 use Rattle.std.proofs.Common.{length}
 use Rattle.cfb_format.specs.Siblings.{entry_at}
 use Rattle.cfb_compound_file.specs.cfb_content.Contents.{len_of}
-use Rattle.cfb_compound_file.specs.cfb_mini_sectors.State.{entries_of}
+use Rattle.cfb_compound_file.specs.cfb_mini.State.{entries_of}
 use Rattle.cfb_compound_file.specs.cfb_volume.Answers.{content_at}
 use Rattle.cfb_compound_file.proofs.cfb_content.ReadablePlaces.{content-most}
 use Rattle.cfb_compound_file.proofs.ReadParts.{part-read}

@@ -1,5 +1,5 @@
 use Rattle.std.proofs.Common.{ap, subst, sym}
-use Rattle.cfb_compound_file.specs.cfb_mini_sectors.State.{cases_of, entries_of}
+use Rattle.cfb_compound_file.specs.cfb_mini.State.{cases_of, entries_of}
 use Rattle.cfb_compound_file.specs.cfb_content.Contents.{IsTooLongFor}
 use Rattle.cfb_agreement.specs.Files.{FileState}
 use Rattle.cfb_compound_file.specs.Stored.{file_setting_of}

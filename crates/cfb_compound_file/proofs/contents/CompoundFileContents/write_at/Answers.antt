@@ -1,7 +1,7 @@
 use Rattle.std.proofs.lemmas.Grind.{common_steps}
 use Rattle.std.proofs.Common.{◌≡◌, ◌≤◌, ◌∙◌, ap, arith, false, length, sym, true, rules}
 use Rattle.cfb_format.specs.Bytes.{max_stream_len}
-use Rattle.cfb_compound_file.specs.cfb_mini_sectors.State.{MiniState, tables_in}
+use Rattle.cfb_compound_file.specs.cfb_mini.State.{MiniState, tables_in}
 use Rattle.cfb_agreement.specs.Files.{IsFullFile}
 use Rattle.cfb_compound_file.specs.cfb_content.Contents.{len_of}
 use Rattle.cfb_compound_file.specs.Flags.{still_is_tight}

@@ -3,7 +3,7 @@ use Rattle.cfb_format.specs.Reading.{Outline, numbers}
 use Rattle.cfb_codecs.specs.EntryModel.{entries_of}
 use Rattle.cfb_outline.specs.Outlines.{HasInside, IsReachedStorage}
 use Rattle.cfb_siblings.proofs.Held.{entries-length}
-use Rattle.cfb_trees.proofs.Members.{reached-is-within}
+use Rattle.cfb_siblings.proofs.Members.{reached-is-within}
 use Rattle.cfb_entries.specs.EntryList.{EntryList}
 use Rattle.cfb_entries.proofs.Changed.{on-ok, three-or}
 use Rattle.cfb_entries.proofs.Covered.{covers-same}

@@ -2,7 +2,7 @@ use Rattle.std.proofs.Common.{◌∙◌, ap}
 use Rattle.cfb_format.specs.DirectoryEntry.{Entry}
 use Rattle.cfb_extract.specs.cfb_agreement.Files.{FileState}
 use Rattle.cfb_extract.proofs.cfb_agreement.Flags.{as-before-same}
-use Rattle.cfb_extract.specs.cfb_mini_sectors.State.{content_of}
+use Rattle.cfb_extract.specs.cfb_mini.State.{content_of}
 use Rattle.cfb_compound_file.specs.Stored.{kept_of}
 use Rattle.cfb_extract.proofs.extracting.CompoundFileSource.read_piece.Goals as goal
 

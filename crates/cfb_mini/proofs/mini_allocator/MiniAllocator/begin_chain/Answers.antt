@@ -1,7 +1,7 @@
 use Rattle.std.proofs.Common.{[], sym, subst}
 use Rattle.cfb_mini.specs.cfb_tables.Tables.{AreSizes, sizes_of}
 use Rattle.cfb_mini.specs.cfb_alloc.Alloc.{AllocatorState}
-use Rattle.cfb_mini.specs.cfb_mini_sectors.State.{HoldsMini, MiniState}
+use Rattle.cfb_mini.specs.State.{HoldsMini, MiniState}
 use Rattle.cfb_mini.proofs.MiniDirectory.{chains-held}
 use Rattle.cfb_mini.proofs.mini_allocator.MiniAllocator.begin_chain.Goals as goal
 use Rattle.cfb_format.proofs.Members.{Contains-nil}

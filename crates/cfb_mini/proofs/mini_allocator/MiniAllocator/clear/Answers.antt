@@ -4,7 +4,7 @@ use Rattle.cfb_mini.specs.cfb_outline.Outlines.{HasInside, IsReachedStorage}
 use Rattle.cfb_mini.specs.cfb_directory.Clearing.{KeepsSlotsOutside}
 use Rattle.cfb_mini.specs.cfb_directory.State.{HoldsDirectory}
 use Rattle.cfb_mini.specs.cfb_directory.Steps.{KeepsOtherSectors}
-use Rattle.cfb_mini.specs.cfb_mini_sectors.State.{HoldsMini, MiniState, cases_of, entries_of}
+use Rattle.cfb_mini.specs.State.{HoldsMini, MiniState, cases_of, entries_of}
 use Rattle.cfb_mini.proofs.MiniDirectory.{cleared-holds}
 use Rattle.cfb_mini.proofs.mini_allocator.MiniAllocator.clear.Goals as goal
 

@@ -4,16 +4,16 @@ use Rattle.cfb_mini.specs.cfb_alloc.Frame.{Spares}
 use Rattle.cfb_mini.proofs.cfb_alloc.Spared.{spares_refl}
 use Rattle.cfb_mini.specs.cfb_tables.Clean.{IsUnnamed}
 use Rattle.cfb_mini.specs.cfb_tables.Tables.{first_or_end}
-use Rattle.cfb_mini.specs.cfb_mini_sectors.Pieces.{AreZeros}
-use Rattle.cfb_mini.specs.cfb_mini_sectors.State.{HoldsMini, MiniState, mini_place, table_of}
-use Rattle.cfb_mini.specs.cfb_mini_sectors.Steps.{AreStartsUnnamed, BeginsSystem, CanGiveRoomBack, GivesRoomBack, SparesMini, system_sectors}
-use Rattle.cfb_mini.proofs.cfb_mini_sectors.MiniFrames.{nothing-touched}
-use Rattle.cfb_mini_changes.specs.Changing.{mini_of}
-use Rattle.cfb_mini_changes.specs.MiniSectors.{KeepsMiniBytesBut}
-use Rattle.cfb_mini_changes.proofs.LeastAbove.{of-some}
-use Rattle.cfb_mini_changes.proofs.MiniCut.{cut-nothing}
-use Rattle.cfb_mini_changes.proofs.MiniExtended.{some-items}
-use Rattle.cfb_mini_changes.proofs.MiniGiven.{begins-refl}
+use Rattle.cfb_mini.specs.Pieces.{AreZeros}
+use Rattle.cfb_mini.specs.State.{HoldsMini, MiniState, mini_place, table_of}
+use Rattle.cfb_mini.specs.Steps.{AreStartsUnnamed, BeginsSystem, CanGiveRoomBack, GivesRoomBack, SparesMini, system_sectors}
+use Rattle.cfb_mini.proofs.MiniFrames.{nothing-touched}
+use Rattle.cfb_mini.specs.Changing.{mini_of}
+use Rattle.cfb_mini.specs.MiniSectors.{KeepsMiniBytesBut}
+use Rattle.cfb_mini.proofs.LeastAbove.{of-some}
+use Rattle.cfb_mini.proofs.MiniCut.{cut-nothing}
+use Rattle.cfb_mini.proofs.MiniExtended.{some-items}
+use Rattle.cfb_mini.proofs.MiniGiven.{begins-refl}
 use Rattle.cfb_mini.proofs.mini_allocator.MiniAllocator.cut_mini_listed.Goals as goal
 
 pub returns-then-left-len-clause-given_back : goal.returns-then-left-len-clause-given_back

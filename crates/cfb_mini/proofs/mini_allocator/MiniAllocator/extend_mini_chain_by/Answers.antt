@@ -12,9 +12,9 @@ use Rattle.cfb_mini.specs.cfb_tables.Tables.{ending, first_or_end}
 use Rattle.cfb_mini.proofs.cfb_alloc.AllocLemmas.{refused-less}
 use Rattle.cfb_mini.proofs.cfb_alloc.Spared.{spares_refl}
 use Rattle.cfb_mini.specs.cfb_mini_table.MiniTable.{TakesMini}
-use Rattle.cfb_mini.specs.cfb_mini_sectors.State.{mini_stream_of, table_of}
-use Rattle.cfb_mini.specs.cfb_mini_sectors.Steps.{IsNotHeld, IsTooFewFor, IsZeroMini, SparesMini, StopsShortOrFull}
-use Rattle.cfb_mini.proofs.cfb_mini_sectors.MinifatGrown.{same_listed}
+use Rattle.cfb_mini.specs.State.{mini_stream_of, table_of}
+use Rattle.cfb_mini.specs.Steps.{IsNotHeld, IsTooFewFor, IsZeroMini, SparesMini, StopsShortOrFull}
+use Rattle.cfb_mini.proofs.MinifatGrown.{same_listed}
 use Rattle.cfb_mini.proofs.MiniBegun.{ends-at, ends-here}
 use Rattle.cfb_mini.proofs.MiniWritten.{spares-mini-refl}
 use Rattle.cfb_mini.proofs.mini_allocator.MiniAllocator.extend_mini_chain_by.Goals as goal

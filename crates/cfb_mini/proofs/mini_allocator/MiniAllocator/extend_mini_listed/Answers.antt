@@ -2,14 +2,14 @@ use Rattle.std.proofs.Common.{◌≡◌, [], ◌++◌, Some, refl, sym, ◌∙�
 use Rattle.cfb_mini.specs.cfb_alloc.Frame.{Spares}
 use Rattle.cfb_mini.proofs.cfb_alloc.Spared.{spares_refl}
 use Rattle.cfb_mini.specs.cfb_tables.Listed.{ends_of, gained}
-use Rattle.cfb_mini.specs.cfb_mini_sectors.State.{HoldsMini, MiniState, mini_stream_of, table_of}
-use Rattle.cfb_mini.specs.cfb_mini_sectors.Steps.{SparesMini, system_sectors}
-use Rattle.cfb_mini.proofs.cfb_mini_sectors.MinifatGrown.{same_listed}
-use Rattle.cfb_mini.proofs.cfb_mini_sectors.MiniFrames.{nothing-touched}
-use Rattle.cfb_mini_changes.specs.Changing.{mini_of}
-use Rattle.cfb_mini_changes.specs.MiniSectors.{IsOfWholeSectors, KeepsMiniBytesBut}
-use Rattle.cfb_mini_changes.proofs.MiniExtended.{some-items}
-use Rattle.cfb_mini_changes.proofs.LeastAbove.{of-some}
+use Rattle.cfb_mini.specs.State.{HoldsMini, MiniState, mini_stream_of, table_of}
+use Rattle.cfb_mini.specs.Steps.{SparesMini, system_sectors}
+use Rattle.cfb_mini.proofs.MinifatGrown.{same_listed}
+use Rattle.cfb_mini.proofs.MiniFrames.{nothing-touched}
+use Rattle.cfb_mini.specs.Changing.{mini_of}
+use Rattle.cfb_mini.specs.MiniSectors.{IsOfWholeSectors, KeepsMiniBytesBut}
+use Rattle.cfb_mini.proofs.MiniExtended.{some-items}
+use Rattle.cfb_mini.proofs.LeastAbove.{of-some}
 use Rattle.cfb_mini.proofs.mini_allocator.MiniAllocator.extend_mini_listed.Goals as goal
 
 pub returns-then-count-eq0-clause-spares : goal.returns-then-count-eq0-clause-spares

@@ -4,8 +4,8 @@ use Rattle.cfb_mini.specs.cfb_tables.Changes.{AreDisjoint}
 use Rattle.cfb_mini.specs.cfb_tables.Clean.{IsUnnamed}
 use Rattle.cfb_mini.specs.cfb_tables.Tables.{AreSizes, sizes_of}
 use Rattle.cfb_mini.specs.cfb_alloc.Alloc.{AllocatorState}
-use Rattle.cfb_mini.specs.cfb_mini_sectors.State.{HoldsMini, MiniState, tables_in}
-use Rattle.cfb_mini.specs.cfb_mini_sectors.Steps.{system_sectors}
+use Rattle.cfb_mini.specs.State.{HoldsMini, MiniState, tables_in}
+use Rattle.cfb_mini.specs.Steps.{system_sectors}
 use Rattle.cfb_mini.proofs.MiniDirectory.{chains-held}
 use Rattle.cfb_mini.proofs.mini_allocator.MiniAllocator.free_chain.Goals as goal
 

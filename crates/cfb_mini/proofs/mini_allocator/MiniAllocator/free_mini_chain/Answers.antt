@@ -4,14 +4,14 @@ use Rattle.cfb_format.proofs.Unique.{IsChain-unique}
 use Rattle.cfb_mini.specs.cfb_tables.Clean.{IsUnnamed}
 use Rattle.cfb_mini.proofs.cfb_alloc.Spared.{spares_refl}
 use Rattle.cfb_mini.proofs.cfb_mini_table.StateLemmas.{chain-start}
-use Rattle.cfb_mini.specs.cfb_mini_sectors.Pieces.{AreZeros}
-use Rattle.cfb_mini.specs.cfb_mini_sectors.State.{bytes_of, mini_place}
-use Rattle.cfb_mini.specs.cfb_mini_sectors.Steps.{IsInMiniStream, IsZeroMini, SparesMini}
-use Rattle.cfb_mini.proofs.cfb_mini_sectors.MiniStreams.{empty_chain}
-use Rattle.cfb_mini_changes.specs.MiniSectors.{KeepsMiniBytesBut}
+use Rattle.cfb_mini.specs.Pieces.{AreZeros}
+use Rattle.cfb_mini.specs.State.{bytes_of, mini_place}
+use Rattle.cfb_mini.specs.Steps.{IsInMiniStream, IsZeroMini, SparesMini}
+use Rattle.cfb_mini.proofs.MiniStreams.{empty_chain}
+use Rattle.cfb_mini.specs.MiniSectors.{KeepsMiniBytesBut}
 use Rattle.cfb_mini.proofs.MiniBehind.{chain-some}
-use Rattle.cfb_mini_changes.proofs.MiniCut.{cut-nothing}
-use Rattle.cfb_mini_changes.proofs.MiniGiven.{begins-refl}
+use Rattle.cfb_mini.proofs.MiniCut.{cut-nothing}
+use Rattle.cfb_mini.proofs.MiniGiven.{begins-refl}
 use Rattle.cfb_mini.proofs.MiniWritten.{spares-mini-refl}
 use Rattle.cfb_mini.proofs.mini_allocator.MiniAllocator.free_mini_chain.Goals as goal
 use Rattle.cfb_format.proofs.Walks.{chain_of}

@@ -4,13 +4,13 @@ use Rattle.std.proofs.lemmas.Result.{on_ok_weaker}
 use Rattle.cfb_format.specs.Chain.{IsChain}
 use Rattle.cfb_format.proofs.Unique.{IsChain-unique}
 use Rattle.cfb_mini.proofs.cfb_alloc.Spared.{spares_refl}
-use Rattle.cfb_mini.specs.cfb_mini_sectors.Pieces.{AreZeros}
-use Rattle.cfb_mini.specs.cfb_mini_sectors.State.{bytes_of, mini_place}
-use Rattle.cfb_mini.specs.cfb_mini_sectors.Steps.{IsInMiniStream, IsZeroMini, SparesMini}
-use Rattle.cfb_mini_changes.specs.MiniSectors.{KeepsMiniBytesBut}
+use Rattle.cfb_mini.specs.Pieces.{AreZeros}
+use Rattle.cfb_mini.specs.State.{bytes_of, mini_place}
+use Rattle.cfb_mini.specs.Steps.{IsInMiniStream, IsZeroMini, SparesMini}
+use Rattle.cfb_mini.specs.MiniSectors.{KeepsMiniBytesBut}
 use Rattle.cfb_mini.proofs.MiniBehind.{begun-at, cut-behind, ends-at-start, goes-behind, on_ok_then, still-some}
-use Rattle.cfb_mini_changes.proofs.MiniExtended.{invalid-refused}
-use Rattle.cfb_mini_changes.proofs.MiniGiven.{begins-refl}
+use Rattle.cfb_mini.proofs.MiniExtended.{invalid-refused}
+use Rattle.cfb_mini.proofs.MiniGiven.{begins-refl}
 use Rattle.cfb_mini.proofs.MiniWritten.{spares-mini-refl}
 use Rattle.cfb_mini.proofs.mini_allocator.MiniAllocator.free_mini_chain_after.Goals as goal
 use Rattle.cfb_format.proofs.Walks.{chain_of}

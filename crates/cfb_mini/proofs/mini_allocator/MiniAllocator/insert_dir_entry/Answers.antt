@@ -1,7 +1,7 @@
 use Rattle.std.proofs.Common.{sym, subst}
 use Rattle.std.specs.Prelude.{IfOk, OnOk, chars}
 use Rattle.cfb_mini.specs.cfb_directory.Inserting.{CanInsert, InsertsObject, SparesRest, WritesDirectory}
-use Rattle.cfb_mini.specs.cfb_mini_sectors.State.{HoldsMini, MiniState}
+use Rattle.cfb_mini.specs.State.{HoldsMini, MiniState}
 use Rattle.cfb_mini.proofs.MiniDirectory.{inserted-holds}
 use Rattle.cfb_mini.proofs.mini_allocator.MiniAllocator.insert_dir_entry.Goals as goal
 

@@ -2,7 +2,7 @@ use Rattle.std.proofs.Common.{subst}
 use Rattle.cfb_format.specs.Chain.{IsChain}
 use Rattle.cfb_mini.specs.cfb_tables.Refused.{WalkRefused}
 use Rattle.std.proofs.lemmas.Result.{err_from_is_err_and}
-use Rattle.cfb_mini.specs.cfb_mini_sectors.State.{MiniState}
+use Rattle.cfb_mini.specs.State.{MiniState}
 use Rattle.cfb_mini.proofs.mini_allocator.MiniAllocator.mini_chain.Goals as goal
 
 pub returns-clause-ok : goal.returns-clause-ok

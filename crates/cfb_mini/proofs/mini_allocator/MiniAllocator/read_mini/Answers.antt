@@ -1,6 +1,6 @@
 use Rattle.std.proofs.Common.{◌≡◌, ◌+◌, ◌-◌, ◌∙◌, ap}
 use Rattle.cfb_mini.specs.cfb_soundness.Places.{mini_start}
-use Rattle.cfb_mini.specs.cfb_mini_sectors.State.{MiniState, table_of}
+use Rattle.cfb_mini.specs.State.{MiniState, table_of}
 use Rattle.cfb_mini.proofs.MiniPieces.{read-cut, read-rest, read-there, stream-is}
 use Rattle.cfb_mini.proofs.mini_allocator.MiniAllocator.read_mini.Goals as goal
 

@@ -2,8 +2,8 @@ use Rattle.std.proofs.Common.{◌≡◌, ◌+◌, ◌*◌, ◌∙◌, inl, inr, 
 use Rattle.std.proofs.lemmas.Bool.{cases_lt}
 use Rattle.cfb_format.specs.Medium.{part}
 use Rattle.cfb_mini.specs.cfb_alloc.Alloc.{AllocatorState}
-use Rattle.cfb_runs.specs.Runs.{place_along}
-use Rattle.cfb_mini.specs.cfb_mini_sectors.State.{MiniState, bytes_of, mini_place, table_of}
+use Rattle.cfb_chains.specs.Runs.{place_along}
+use Rattle.cfb_mini.specs.State.{MiniState, bytes_of, mini_place, table_of}
 use Rattle.cfb_mini.proofs.MiniPieces.{stream-is}
 use Rattle.cfb_mini.proofs.MiniStretches.{answered_stretch, begun_ok, begun_rest, stretch_first, stretch_of_run, stretch_place}
 use Rattle.cfb_mini.proofs.mini_allocator.MiniAllocator.read_mini_run.Goals as goal

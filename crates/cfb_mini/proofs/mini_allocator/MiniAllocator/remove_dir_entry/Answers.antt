@@ -7,7 +7,7 @@ use Rattle.cfb_mini.specs.cfb_siblings.Children.{HasChildren, IsChildNamed, Keep
 use Rattle.cfb_mini.specs.cfb_entries.EntryList.{RemovesEntry}
 use Rattle.cfb_mini.specs.cfb_directory.State.{HoldsDirectory}
 use Rattle.cfb_mini.specs.cfb_directory.Steps.{KeepsOtherSectors, KeepsOtherSlots}
-use Rattle.cfb_mini.specs.cfb_mini_sectors.State.{HoldsMini, MiniState}
+use Rattle.cfb_mini.specs.State.{HoldsMini, MiniState}
 use Rattle.cfb_mini.proofs.MiniDirectory.{removed-holds}
 use Rattle.cfb_mini.proofs.mini_allocator.MiniAllocator.remove_dir_entry.Goals as goal
 

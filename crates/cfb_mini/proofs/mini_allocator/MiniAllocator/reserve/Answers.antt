@@ -3,11 +3,11 @@ use Rattle.std.proofs.lemmas.Result.{err_from_is_err_and}
 use Rattle.cfb_mini.specs.cfb_tables.Tables.{IsTooFew, TableState}
 use Rattle.cfb_mini.specs.cfb_alloc.Alloc.{AllocatorState, IsUsable}
 use Rattle.cfb_mini.proofs.cfb_alloc.HeldOrder.{held-usable}
-use Rattle.cfb_mini.specs.cfb_mini_sectors.State.{MiniState, table_of, tables_in}
-use Rattle.cfb_mini.specs.cfb_mini_sectors.Steps.{IsNotHeld, IsTooFewAfterFor, mini_stream_lacks, minifat_lacks}
+use Rattle.cfb_mini.specs.State.{MiniState, table_of, tables_in}
+use Rattle.cfb_mini.specs.Steps.{IsNotHeld, IsTooFewAfterFor, mini_stream_lacks, minifat_lacks}
 use Rattle.cfb_mini.proofs.MiniRoom.{given-back-first, refused-as}
 use Rattle.cfb_mini.proofs.cfb_directory.LeastAbove.{least-kept}
-use Rattle.cfb_mini_changes.proofs.LeastAbove.{of-some}
+use Rattle.cfb_mini.proofs.LeastAbove.{of-some}
 use Rattle.cfb_mini.proofs.mini_allocator.MiniAllocator.reserve.Goals as goal
 
 pub returns-in_err-reserve-clause-err : goal.returns-in_err-reserve-clause-err

@@ -1,5 +1,5 @@
 use Rattle.std.proofs.Common.{◌≡◌, ◌+◌, ◌-◌, ◌/◌, sym, subst, arith}
-use Rattle.cfb_mini.specs.cfb_mini_sectors.Steps.{IsTooFewFor}
+use Rattle.cfb_mini.specs.Steps.{IsTooFewFor}
 use Rattle.cfb_mini.proofs.MiniRoom.{nothing-back, refused-is-too-few}
 use Rattle.cfb_mini.proofs.mini_allocator.MiniAllocator.takable.Goals as goal
 

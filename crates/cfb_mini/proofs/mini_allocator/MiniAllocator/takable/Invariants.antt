@@ -1,5 +1,5 @@
 use Rattle.std.proofs.Common.{◌≤◌, ◌<◌, ◌+◌, ◌-◌}
-use Rattle.cfb_mini.specs.cfb_mini_sectors.Steps.{IsTooFewFor}
+use Rattle.cfb_mini.specs.Steps.{IsTooFewFor}
 use Rattle.cfb_mini.proofs.mini_allocator.MiniAllocator.takable.Given as goal
 
 abbrev pub invariant-loop-fits : goal.invariant-loop-fits

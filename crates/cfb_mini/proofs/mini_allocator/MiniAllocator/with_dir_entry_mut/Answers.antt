@@ -5,7 +5,7 @@ use Rattle.cfb_mini.specs.cfb_entries.declared.fields.Fields.{Fields}
 use Rattle.cfb_mini.specs.cfb_entries.Fields.{fields_in, entry_with_fields}
 use Rattle.cfb_mini.specs.cfb_directory.State.{HoldsDirectory}
 use Rattle.cfb_mini.specs.cfb_directory.Steps.{KeepsOtherSectors, KeepsSlotsBut}
-use Rattle.cfb_mini.specs.cfb_mini_sectors.State.{HoldsMini, MiniState, root_len_of, version_of}
+use Rattle.cfb_mini.specs.State.{HoldsMini, MiniState, root_len_of, version_of}
 use Rattle.cfb_mini.proofs.MiniDirectory.{fields-holds}
 use Rattle.cfb_mini.proofs.mini_allocator.MiniAllocator.with_dir_entry_mut.Goals as goal
 

@@ -1,9 +1,9 @@
 use Rattle.std.proofs.Common.{◌≡◌, [], ◌∷◌, length, sym, ◌∙◌, ap, subst}
 use Rattle.std.specs.Prelude.{IfErr, OnOk}
 use Rattle.cfb_mini.proofs.cfb_alloc.Spared.{spares_refl}
-use Rattle.cfb_mini.specs.cfb_mini_sectors.State.{HoldsMini, MiniState, mini_stream_of, table_of}
-use Rattle.cfb_mini.specs.cfb_mini_sectors.Steps.{SparesMini, StopsShort}
-use Rattle.cfb_mini.specs.cfb_mini_sectors.Held.{with_table}
+use Rattle.cfb_mini.specs.State.{HoldsMini, MiniState, mini_stream_of, table_of}
+use Rattle.cfb_mini.specs.Steps.{SparesMini, StopsShort}
+use Rattle.cfb_mini.specs.Held.{with_table}
 use Rattle.cfb_mini.proofs.MiniPieces.{stream-is, write-holds, write-spares, write-stops}
 use Rattle.cfb_mini.proofs.mini_allocator.MiniAllocator.write_mini.Goals as goal
 

@@ -4,9 +4,9 @@ use Rattle.std.proofs.lemmas.List.Elements.{Contains-append_cases}
 use Rattle.cfb_format.specs.Bytes.{sector_len}
 use Rattle.cfb_mini.specs.cfb_alloc.Alloc.{AllocatorState}
 use Rattle.cfb_mini.proofs.cfb_alloc.Spared.{spares_refl}
-use Rattle.cfb_mini.specs.cfb_mini_sectors.State.{HoldsMini, MiniState, mini_stream_of, table_of}
-use Rattle.cfb_mini.specs.cfb_mini_sectors.Steps.{SparesMini}
-use Rattle.cfb_mini.specs.cfb_mini_sectors.Held.{with_table}
+use Rattle.cfb_mini.specs.State.{HoldsMini, MiniState, mini_stream_of, table_of}
+use Rattle.cfb_mini.specs.Steps.{SparesMini}
+use Rattle.cfb_mini.specs.Held.{with_table}
 use Rattle.cfb_mini.specs.MiniRuns.{ChangesMiniStretch}
 use Rattle.cfb_mini.proofs.MiniPieces.{stream-is, write-holds}
 use Rattle.cfb_mini.proofs.MiniStretches.{answered_stretch, change_of_run, header_stays, stretch_first, stretch_of_run, stretch_spares}

@@ -1,8 +1,8 @@
 use Rattle.std.proofs.Common.{arith, rules}
 use Rattle.cfb_mini_chains.proofs.cfb_alloc.Spared.{spares_refl}
 use Rattle.cfb_mini_chains.proofs.cfb_sectors.SectorLemmas.{Stays_refl}
-use Rattle.cfb_mini_sectors.specs.State.{table_of}
-use Rattle.cfb_mini_sectors.specs.Steps.{system_sectors}
+use Rattle.cfb_mini.specs.State.{table_of}
+use Rattle.cfb_mini.specs.Steps.{system_sectors}
 use Rattle.cfb_mini.proofs.MiniWritten.{spares-mini-refl}
 use Rattle.cfb_mini_chains.specs.LentMiniChain.{start_sector_of, ids_of, position_of, state_of}
 use Rattle.cfb_mini_chains.proofs.MiniChainAnswers.{err_both}

@@ -3,7 +3,7 @@ use Rattle.std.specs.Prelude.{slice_index}
 use Rattle.std.proofs.lemmas.Result.{err_from_is_err_and}
 use Rattle.cfb_format.specs.Medium.{part}
 use Rattle.cfb_mini.specs.MiniSectors.{HasMiniByte}
-use Rattle.cfb_mini_sectors.specs.State.{bytes_of, table_of}
+use Rattle.cfb_mini.specs.State.{bytes_of, table_of}
 use Rattle.cfb_mini_chains.specs.LentMiniChain.{ids_of, position_of, state_of}
 use Rattle.cfb_mini_chains.specs.MiniRunsAlong.{StandTogether, place_along_minis}
 use Rattle.cfb_mini_chains.proofs.MiniChainReads.{read_is_placed, together_there}

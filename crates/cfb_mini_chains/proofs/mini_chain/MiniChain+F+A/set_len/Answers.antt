@@ -10,13 +10,13 @@ use Rattle.cfb_tables.specs.Refused.{ChangeRefused}
 use Rattle.cfb_mini_chains.proofs.cfb_alloc.Answering.{all_ok, on_both, on_ok}
 use Rattle.cfb_mini_chains.proofs.cfb_alloc.Spared.{spares_refl}
 use Rattle.cfb_chains.proofs.ChainWrites.{on_if}
-use Rattle.cfb_mini_sectors.specs.Pieces.{AreZeros}
-use Rattle.cfb_mini_sectors.specs.State.{MiniState, bytes_of, mini_place, mini_stream_of, table_of, version_of}
+use Rattle.cfb_mini.specs.Pieces.{AreZeros}
+use Rattle.cfb_mini.specs.State.{MiniState, bytes_of, mini_place, mini_stream_of, table_of, version_of}
 use Rattle.cfb_mini.specs.MiniSectors.{ShortensMini}
-use Rattle.cfb_mini_sectors.specs.Steps.{IsInMiniStream, IsNotHeld, IsTooFewFor, IsZeroMini, SparesMini, system_sectors}
-use Rattle.cfb_mini_sectors.proofs.HeldGrown.{but-long}
-use Rattle.cfb_mini_sectors.proofs.HeldSteps.{held-but}
-use Rattle.cfb_mini_sectors.proofs.MiniFrames.{held-places, spares-then}
+use Rattle.cfb_mini.specs.Steps.{IsInMiniStream, IsNotHeld, IsTooFewFor, IsZeroMini, SparesMini, system_sectors}
+use Rattle.cfb_mini.proofs.HeldGrown.{but-long}
+use Rattle.cfb_mini.proofs.HeldSteps.{held-but}
+use Rattle.cfb_mini.proofs.MiniFrames.{held-places, spares-then}
 use Rattle.cfb_mini.proofs.MiniWritten.{spares-mini-refl}
 use Rattle.cfb_mini_chains.specs.LentMiniChain.{state_of, ids_of, mini_sector_at}
 use Rattle.cfb_mini_chains.proofs.MiniChainAnswers.{err_both, invalid_for, medium_reason, medium_stops, on_err}

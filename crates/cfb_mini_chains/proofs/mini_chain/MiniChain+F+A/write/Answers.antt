@@ -5,10 +5,10 @@ use Rattle.cfb_format.specs.Refused.{CountsFailure}
 use Rattle.cfb_tables.specs.Listed.{gained}
 use Rattle.cfb_mini_chains.proofs.cfb_alloc.Answering.{all_ok}
 use Rattle.cfb_chains.proofs.ChainWrites.{if_ok}
-use Rattle.cfb_mini_sectors.specs.State.{mini_stream_of, table_of}
-use Rattle.cfb_mini_sectors.specs.Steps.{StopsShortOrFull}
+use Rattle.cfb_mini.specs.State.{mini_stream_of, table_of}
+use Rattle.cfb_mini.specs.Steps.{StopsShortOrFull}
 use Rattle.cfb_mini.specs.MiniSectors.{LengthensMini}
-use Rattle.cfb_mini_sectors.proofs.MiniFrames.{held-places, spares-then}
+use Rattle.cfb_mini.proofs.MiniFrames.{held-places, spares-then}
 use Rattle.cfb_mini_chains.specs.LentMiniChain.{state_of, ids_of, left_of, missing_of, position_of}
 use Rattle.cfb_mini_chains.proofs.MiniChainAnswers.{err_both, medium_reason, medium_stops, on_err}
 use Rattle.cfb_mini_chains.proofs.MiniChainBytes.{grown_written, zero_or_more}

@@ -1,5 +1,5 @@
 use Rattle.std.proofs.Common.{◌≤◌, ◌+◌, ℕ, List, refl, ap, length, arith}
-use Rattle.cfb_mini_sectors.specs.State.{mini_stream_of, table_of}
+use Rattle.cfb_mini.specs.State.{mini_stream_of, table_of}
 use Rattle.cfb_mini_chains.specs.LentMiniChain.{ids_of, position_of, state_of}
 use Rattle.cfb_mini_chains.proofs.cfb_alloc.Spared.{spares_refl}
 use Rattle.cfb_mini.proofs.MiniWritten.{spares-mini-refl}

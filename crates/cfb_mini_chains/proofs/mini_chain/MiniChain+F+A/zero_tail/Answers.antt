@@ -3,8 +3,8 @@ use Rattle.std.specs.Prelude.{IfErr}
 use Rattle.cfb_mini_chains.proofs.cfb_alloc.Spared.{spares_refl}
 use Rattle.cfb_tables.specs.Refused.{ChangeRefused}
 use Rattle.cfb_mini.specs.MiniSectors.{HasMiniSector}
-use Rattle.cfb_mini_sectors.specs.State.{mini_stream_of, table_of}
-use Rattle.cfb_mini_sectors.specs.Steps.{SparesMini}
+use Rattle.cfb_mini.specs.State.{mini_stream_of, table_of}
+use Rattle.cfb_mini.specs.Steps.{SparesMini}
 use Rattle.cfb_mini_chains.specs.LentMiniChain.{state_of}
 use Rattle.cfb_mini.proofs.MiniWritten.{spares-mini-refl}
 use Rattle.cfb_mini_chains.proofs.mini_chain.MiniChain+F+A.zero_tail.Goals as goal

@@ -1,5 +1,5 @@
 use Rattle.std.proofs.Common.{◌+◌, ◌∙◌, refl, ap, sym, arith}
-use Rattle.cfb_stream_buffer.specs.Contents.{Stored}
+use Rattle.cfb_stream_window.specs.Contents.{Stored}
 use Rattle.cfb_stream_window.specs.Windows.{Window, LiesOver, window_at}
 use Rattle.cfb_stream_window.proofs.Carrying.{let_go}
 use Rattle.cfb_stream_window.proofs.Reading.{went}

@@ -3,7 +3,7 @@ use Rattle.std.proofs.lemmas.Result.{err_from_is_err_and}
 use Rattle.cfb_format.specs.Refused.{CountsError}
 use Rattle.cfb_stream_window.specs.cfb_rules.StreamCalls.{flush}
 use Rattle.cfb_stream_window.specs.Answers.{IsOpen, IsReady}
-use Rattle.cfb_stream_buffer.specs.Touched.{faults_of}
+use Rattle.cfb_stream_window.specs.Touched.{faults_of}
 use Rattle.cfb_stream_window.proofs.Breaking.{lost_flushing, flush_broken, fault_is, break_untouched}
 use Rattle.cfb_stream_window.proofs.Reading.{flushed_runs}
 use Rattle.cfb_stream_window.proofs.Refusing.{failed_for, lost_for}

@@ -1,6 +1,6 @@
 use Rattle.std.proofs.Common.{◌≡◌, ◌∙◌, ℕ, List, [], ap, false}
-use Rattle.cfb_stream_buffer.specs.Buffers.{Buffered}
-use Rattle.cfb_stream_buffer.specs.Contents.{IsFitting}
+use Rattle.cfb_stream_window.specs.Buffers.{Buffered}
+use Rattle.cfb_stream_window.specs.Contents.{IsFitting}
 use Rattle.cfb_stream_window.specs.Windows.{window_over}
 use Rattle.cfb_stream_window.proofs.Carrying.{opened_state, opened_suits}
 use Rattle.cfb_stream_window.proofs.window.Window.over.Goals as goal

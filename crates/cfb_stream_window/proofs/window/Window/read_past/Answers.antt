@@ -1,6 +1,6 @@
 use Rattle.std.proofs.Common.{◌≡◌, ◌+◌, ◌<◌, ◌∙◌, ap, refl, arith, subst}
 use Rattle.std.proofs.lemmas.Result.{err_from_is_err_and}
-use Rattle.cfb_stream_buffer.specs.Contents.{IsRefusedRead, ReadsPart}
+use Rattle.cfb_stream_window.specs.Contents.{IsRefusedRead, ReadsPart}
 use Rattle.cfb_stream_window.specs.Answers.{IsReady}
 use Rattle.cfb_stream_window.specs.Windows.{Window, window_at}
 use Rattle.cfb_stream_window.proofs.Carrying.{let_go, refill_refused}

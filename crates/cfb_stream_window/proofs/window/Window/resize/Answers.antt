@@ -2,10 +2,10 @@ use Rattle.std.proofs.lemmas.Grind.{common_steps}
 use Rattle.std.proofs.Common.{◌≡◌, ◌≤◌, ◌∙◌, ℕ, true, false, ap, arith, subst, sym, rules}
 use Rattle.std.proofs.lemmas.Result.{err_from_is_err_and}
 use Rattle.cfb_format.specs.Refused.{CountsError}
-use Rattle.cfb_stream_buffer.proofs.Breaks.{never_full}
-use Rattle.cfb_stream_buffer.specs.Touched.{faults_of}
+use Rattle.cfb_stream_window.proofs.Breaks.{never_full}
+use Rattle.cfb_stream_window.specs.Touched.{faults_of}
 use Rattle.cfb_stream_window.specs.Answers.{IsReady}
-use Rattle.cfb_stream_buffer.specs.Contents.{Stored, TakesLen}
+use Rattle.cfb_stream_window.specs.Contents.{Stored, TakesLen}
 use Rattle.cfb_stream_window.proofs.Writing.{cut_inside, cut_to, resized_to, resized_lost}
 use Rattle.cfb_stream_window.proofs.window.Window.resize.Goals as goal
 

@@ -3,7 +3,7 @@ use Rattle.std.proofs.lemmas.Result.{err_from_is_err_and}
 use Rattle.cfb_format.specs.Refused.{IsBreak}
 use Rattle.cfb_format.specs.declared.error.Error.{Error}
 use Rattle.cfb_format.specs.declared.error.Error.TheVariants.{Full}
-use Rattle.cfb_stream_buffer.specs.Contents.{TakesLen}
+use Rattle.cfb_stream_window.specs.Contents.{TakesLen}
 use Rattle.cfb_stream_window.specs.Answers.{IsReady}
 use Rattle.cfb_stream_window.specs.Windows.{LiesOver, Resized}
 use Rattle.cfb_stream_window.proofs.InTurn.{once_between}

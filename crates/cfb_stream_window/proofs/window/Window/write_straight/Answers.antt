@@ -3,7 +3,7 @@ use Rattle.cfb_format.specs.Refused.{IsBreak}
 use Rattle.cfb_format.specs.declared.error.Error.{Error}
 use Rattle.cfb_format.specs.declared.error.Error.TheVariants.{Full}
 use Rattle.cfb_stream_window.specs.Answers.{IsReady}
-use Rattle.cfb_stream_buffer.specs.Contents.{Stored, TakesBytes, stored_after_write}
+use Rattle.cfb_stream_window.specs.Contents.{Stored, TakesBytes, stored_after_write}
 use Rattle.cfb_stream_window.specs.Windows.{LiesOver, Window}
 use Rattle.cfb_stream_window.proofs.InTurn.{once_between, settled_if}
 use Rattle.cfb_stream_window.proofs.Writing.{straight_to}

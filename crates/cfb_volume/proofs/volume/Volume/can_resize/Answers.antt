@@ -2,7 +2,7 @@ use Rattle.std.proofs.Common.{◌≡◌, ◌≢◌, ◌≤◌, Bool, sym, subst}
 use Rattle.std.specs.Prelude.{IfOk, IsTrue, ◌↔◌}
 use Rattle.cfb_format.specs.declared.validate.Validation.TheVariants.{Permissive}
 use Rattle.cfb_format.specs.Bytes.{max_stream_len}
-use Rattle.cfb_volume.specs.cfb_mini_sectors.State.{IsChangeable, version_of}
+use Rattle.cfb_volume.specs.cfb_mini.State.{IsChangeable, version_of}
 use Rattle.cfb_volume.specs.cfb_content.Contents.{IsStreamOf, IsTooLongFor, len_of}
 use Rattle.cfb_agreement.specs.Files.{FileState}
 use Rattle.cfb_volume.proofs.Refusals.{refused-for-memory}

@@ -10,14 +10,14 @@ use Rattle.cfb_volume.specs.cfb_siblings.Paths.{number_from}
 use Rattle.cfb_volume.specs.cfb_tables.Refused.{ChangeRefused}
 use Rattle.cfb_volume.specs.cfb_alloc.Frame.{Spares}
 use Rattle.cfb_volume.specs.cfb_directory.Steps.{IsDirectoryNotHeld, KeepsWholeHeader}
-use Rattle.cfb_volume.specs.cfb_objects.Laws.{BecomesTree}
-use Rattle.cfb_volume.specs.cfb_mini_sectors.State.{HoldsMini, MiniState, bytes_of, cases_of, entries_of, table_of}
-use Rattle.cfb_volume.specs.cfb_mini_sectors.Steps.{KeepsMini, StopsShort}
+use Rattle.cfb_volume.specs.cfb_listing.ObjectLaws.{BecomesTree}
+use Rattle.cfb_volume.specs.cfb_mini.State.{HoldsMini, MiniState, bytes_of, cases_of, entries_of, table_of}
+use Rattle.cfb_volume.specs.cfb_mini.Steps.{KeepsMini, StopsShort}
 use Rattle.cfb_volume.specs.cfb_content.Contents.{KeepsFixedHeader, len_of}
 use Rattle.cfb_volume.proofs.cfb_content.FixedHeader.{spared-keeps-header}
 use Rattle.cfb_agreement.specs.Changes.{KeepsParts, KeepsStreams}
 use Rattle.cfb_agreement.specs.Files.{Agrees, FileState, Holds, is_failed}
-use Rattle.cfb_entry_changes.specs.Clearing.{ClearsStorage}
+use Rattle.cfb_agreement.specs.Clearing.{ClearsStorage}
 use Rattle.cfb_volume.specs.Clearing.{emptied_at}
 use Rattle.cfb_volume.proofs.ClearedStorages.{clear-break, clear-holds, clear-parts, clear-tree, clearing-ended, clears-storage}
 use Rattle.cfb_volume.proofs.InsertedObjects.{ended, header-ended, insert-keeps-streams, refused-agrees, refused-stops, same-file, streams-ended}

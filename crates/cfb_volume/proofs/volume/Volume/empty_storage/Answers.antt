@@ -7,7 +7,7 @@ use Rattle.cfb_format.specs.DirectoryEntry.{Entry}
 use Rattle.cfb_format.specs.Reading.{numbers}
 use Rattle.cfb_outline.specs.Outlines.{HasInside, IsReachedStorage}
 use Rattle.cfb_outline.proofs.Insides.{storage-is-inside}
-use Rattle.cfb_volume.specs.cfb_mini_sectors.State.{cases_of, entries_of}
+use Rattle.cfb_volume.specs.cfb_mini.State.{cases_of, entries_of}
 use Rattle.cfb_agreement.specs.Files.{FileState, failures_of}
 use Rattle.cfb_volume.specs.Clearing.{ClearingBreaksOff, EmptiesStorage, EmptiesStreams, KeepsStreamsBeside, KeepsStreamsBut}
 use Rattle.cfb_volume.proofs.EmptiedStorages.{all-still, beside-but, empties-storage, empty-now, others-then, storage-still}

@@ -4,7 +4,7 @@ use Rattle.std.specs.Prelude.{Contains}
 use Rattle.std.proofs.lemmas.Result.{err_from_is_err_and}
 use Rattle.cfb_format.specs.declared.objtype.ObjType.TheVariants.{Stream}
 use Rattle.cfb_format.specs.Siblings.{entry_at}
-use Rattle.cfb_volume.specs.cfb_mini_sectors.State.{entries_of}
+use Rattle.cfb_volume.specs.cfb_mini.State.{entries_of}
 use Rattle.cfb_volume.specs.cfb_content.Contents.{IsTooLongFor, len_of}
 use Rattle.cfb_volume.proofs.EmptiedStreams.{emptied-none, emptied-one, kept-stream}
 use Rattle.cfb_volume.proofs.Steps.{break-as}

@@ -3,9 +3,9 @@ use Rattle.cfb_format.specs.declared.objtype.ObjType.TheVariants.{Stream}
 use Rattle.cfb_format.specs.DirectoryEntry.{Entry}
 use Rattle.cfb_format.specs.Siblings.{entry_at}
 use Rattle.cfb_volume.specs.cfb_entries.EntryList.{AreInOrder}
-use Rattle.cfb_volume.proofs.cfb_trees.Members.{reached-is-within}
-use Rattle.cfb_volume.proofs.cfb_trees.Reached.{below-reached}
-use Rattle.cfb_volume.specs.cfb_mini_sectors.State.{cases_of, entries_of}
+use Rattle.cfb_volume.proofs.cfb_siblings.Members.{reached-is-within}
+use Rattle.cfb_volume.proofs.cfb_siblings.Reached.{below-reached}
+use Rattle.cfb_volume.specs.cfb_mini.State.{cases_of, entries_of}
 use Rattle.cfb_volume.specs.cfb_content.Contents.{len_of}
 use Rattle.cfb_agreement.specs.Files.{FileState}
 use Rattle.cfb_volume.proofs.RemovedObjects.{below-stream}

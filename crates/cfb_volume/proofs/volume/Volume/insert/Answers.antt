@@ -8,24 +8,24 @@ use Rattle.cfb_format.specs.Reading.{IsOutline, Outline}
 use Rattle.cfb_format.specs.Siblings.{entry_at}
 use Rattle.cfb_volume.specs.cfb_rules.Finding.{last_name, parent_names}
 use Rattle.cfb_volume.specs.cfb_siblings.Paths.{number_from}
-use Rattle.cfb_volume.specs.cfb_trees.Reached.{IsReached}
+use Rattle.cfb_volume.specs.cfb_siblings.Reached.{IsReached}
 use Rattle.cfb_volume.specs.cfb_tables.Changes.{NoneFree}
 use Rattle.cfb_volume.specs.cfb_tables.Refused.{ChangeRefused}
 use Rattle.cfb_volume.specs.cfb_alloc.Frame.{Spares}
 use Rattle.cfb_volume.specs.cfb_directory.Inserting.{CanInsert}
 use Rattle.cfb_volume.specs.cfb_directory.State.{IsFullForEntry}
 use Rattle.cfb_volume.specs.cfb_directory.Steps.{IsDirectoryNotHeld}
-use Rattle.cfb_volume.specs.cfb_objects.Laws.{BecomesTree}
-use Rattle.cfb_volume.specs.cfb_mini_sectors.State.{HoldsMini, MiniState, bytes_of, cases_of, entries_of, table_of, tables_in}
-use Rattle.cfb_volume.specs.cfb_mini_sectors.Steps.{KeepsMini, StopsShort}
+use Rattle.cfb_volume.specs.cfb_listing.ObjectLaws.{BecomesTree}
+use Rattle.cfb_volume.specs.cfb_mini.State.{HoldsMini, MiniState, bytes_of, cases_of, entries_of, table_of, tables_in}
+use Rattle.cfb_volume.specs.cfb_mini.Steps.{KeepsMini, StopsShort}
 use Rattle.cfb_volume.specs.cfb_content.Contents.{KeepsFixedHeader, len_of}
 use Rattle.cfb_volume.proofs.cfb_content.FixedHeader.{spared-keeps-header}
-use Rattle.cfb_entry_changes.proofs.Entries.{put-is-balanced, put-is-found, put-is-new, put-keeps-root, put-grows-tightly}
+use Rattle.cfb_agreement.proofs.Entries.{put-is-balanced, put-is-found, put-is-new, put-keeps-root, put-grows-tightly}
 use Rattle.cfb_agreement.specs.Changes.{KeepsParts, KeepsStreams, StaysOrFails, object_added_at}
 use Rattle.cfb_agreement.specs.Files.{Agrees, FileState, Holds, IsCounted, IsFullFile, GrowsTightly}
 use Rattle.cfb_format.specs.Refused.{IsBreak}
-use Rattle.cfb_entry_changes.specs.Kept.{AllStayBalanced, KeepsFound}
-use Rattle.cfb_entry_changes.specs.Standing.{StandStill}
+use Rattle.cfb_agreement.specs.Kept.{AllStayBalanced, KeepsFound}
+use Rattle.cfb_agreement.specs.Standing.{StandStill}
 use Rattle.cfb_volume.proofs.InMemory.{in-memory}
 use Rattle.cfb_volume.proofs.Tidy.{put-counted}
 use Rattle.cfb_volume.specs.Slots.{TakesSlot}

@@ -2,8 +2,8 @@ use Rattle.std.proofs.Common.{◌≡◌, subst}
 use Rattle.std.specs.Prelude.{IfSome, chars}
 use Rattle.cfb_format.specs.Reading.{IsOutline}
 use Rattle.cfb_volume.specs.cfb_siblings.Paths.{number_at_path}
-use Rattle.cfb_volume.specs.cfb_trees.Reached.{IsReached}
-use Rattle.cfb_volume.specs.cfb_mini_sectors.State.{cases_of, entries_of}
+use Rattle.cfb_volume.specs.cfb_siblings.Reached.{IsReached}
+use Rattle.cfb_volume.specs.cfb_mini.State.{cases_of, entries_of}
 use Rattle.cfb_agreement.specs.Files.{FileState}
 use Rattle.cfb_volume.proofs.volume.Volume.number_at.Goals as goal
 

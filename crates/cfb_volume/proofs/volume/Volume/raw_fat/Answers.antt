@@ -4,7 +4,7 @@ use Rattle.std.proofs.lemmas.Result.{on_ok_weaker}
 use Rattle.cfb_format.specs.Refused.{CountsFailure}
 use Rattle.cfb_reading.specs.RawFat.{HasFatSectors, raw_words}
 use Rattle.cfb_volume.specs.cfb_tables.Refused.{ChangeRefused}
-use Rattle.cfb_volume.specs.cfb_mini_sectors.State.{MiniState, bytes_of, table_of}
+use Rattle.cfb_volume.specs.cfb_mini.State.{MiniState, bytes_of, table_of}
 use Rattle.cfb_volume.specs.cfb_mini.MiniSectors.{IsStill}
 use Rattle.cfb_agreement.specs.Files.{FileState, failures_of}
 use Rattle.cfb_volume.proofs.ContentSteps.{file_on}

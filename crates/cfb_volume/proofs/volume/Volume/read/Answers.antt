@@ -4,7 +4,7 @@ use Rattle.std.specs.Prelude.{IfErr, IfOk, IsErrAnd}
 use Rattle.cfb_format.specs.Medium.{part}
 use Rattle.cfb_format.specs.Refused.{CountsFailure, IsInvalidData, IsMemory}
 use Rattle.cfb_volume.specs.cfb_tables.Refused.{ChangeRefused}
-use Rattle.cfb_volume.specs.cfb_mini_sectors.State.{MiniState, bytes_of, cases_of, entries_of, table_of, tables_in, version_of}
+use Rattle.cfb_volume.specs.cfb_mini.State.{MiniState, bytes_of, cases_of, entries_of, table_of, tables_in, version_of}
 use Rattle.cfb_volume.specs.cfb_mini.MiniSectors.{IsStill}
 use Rattle.cfb_volume.specs.cfb_content.Contents.{TellsPlaces, len_of}
 use Rattle.cfb_agreement.specs.Files.{FileState, failures_of}

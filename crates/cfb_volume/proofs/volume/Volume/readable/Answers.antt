@@ -1,6 +1,6 @@
 use Rattle.std.proofs.Common.{◌≡◌, ◌<◌, sym, subst, length}
 use Rattle.std.specs.Prelude.{IfOk}
-use Rattle.cfb_volume.specs.cfb_mini_sectors.State.{entries_of}
+use Rattle.cfb_volume.specs.cfb_mini.State.{entries_of}
 use Rattle.cfb_volume.specs.cfb_content.Contents.{TellsPlaces}
 use Rattle.cfb_agreement.specs.Files.{FileState}
 use Rattle.cfb_volume.specs.Answers.{content_at}

@@ -13,14 +13,14 @@ use Rattle.cfb_volume.specs.cfb_rules.CallChanges.{removed_at}
 use Rattle.cfb_volume.specs.cfb_siblings.Children.{HasChildren, IsChildNamed}
 use Rattle.cfb_volume.specs.cfb_tables.Tables.{TableState}
 use Rattle.cfb_volume.specs.cfb_directory.Steps.{IsDirectoryNotHeld}
-use Rattle.cfb_volume.specs.cfb_objects.Laws.{BecomesTree}
-use Rattle.cfb_volume.specs.cfb_mini_sectors.State.{IsChangeable, MiniState, bytes_of, cases_of, entries_of, table_of, tables_in}
+use Rattle.cfb_volume.specs.cfb_listing.ObjectLaws.{BecomesTree}
+use Rattle.cfb_volume.specs.cfb_mini.State.{IsChangeable, MiniState, bytes_of, cases_of, entries_of, table_of, tables_in}
 use Rattle.cfb_volume.specs.cfb_mini.MiniSectors.{IsStill}
 use Rattle.cfb_volume.specs.cfb_content.Changed.{MovesAlone}
 use Rattle.cfb_volume.specs.cfb_content.Contents.{KeepsFixedHeader, KeepsOthers, LeavesZeros, len_of}
 use Rattle.cfb_volume.proofs.cfb_content.Erased.{slots-leave-zeros}
 use Rattle.cfb_volume.proofs.cfb_content.FixedHeader.{header-then, spared-keeps-header}
-use Rattle.cfb_entry_changes.specs.Kept.{AllStayBalancedBut, FindsAllBut}
+use Rattle.cfb_agreement.specs.Kept.{AllStayBalancedBut, FindsAllBut}
 use Rattle.cfb_agreement.specs.Changes.{KeepsParts, StaysOrFails}
 use Rattle.cfb_agreement.specs.Files.{Agrees, FileState, Holds}
 use Rattle.cfb_volume.specs.Removing.{StaysOrGaveBack, WasEmptied}

@@ -5,8 +5,8 @@ use Rattle.std.proofs.lemmas.Result.{err_from_is_err_and}
 use Rattle.cfb_format.specs.declared.medium.MediumFault.{MediumFault}
 use Rattle.cfb_outline.specs.Outlines.{IsReachedStorage}
 use Rattle.cfb_volume.specs.cfb_entries.EntryList.{AreInOrder}
-use Rattle.cfb_volume.proofs.cfb_trees.Reached.{below-reached}
-use Rattle.cfb_volume.specs.cfb_mini_sectors.State.{cases_of, entries_of}
+use Rattle.cfb_volume.proofs.cfb_siblings.Reached.{below-reached}
+use Rattle.cfb_volume.specs.cfb_mini.State.{cases_of, entries_of}
 use Rattle.cfb_agreement.specs.Files.{FileState, failures_of}
 use Rattle.cfb_volume.proofs.cfb_content.FixedHeader.{header-then}
 use Rattle.cfb_volume.specs.Clearing.{ClearingBreaksOff, KeepsStreamsBeside, RemovesWithAll}

@@ -7,8 +7,8 @@ use Rattle.cfb_format.specs.declared.validate.Validation.TheVariants.{Permissive
 use Rattle.cfb_format.specs.Bytes.{max_stream_len}
 use Rattle.cfb_format.specs.Siblings.{entry_at}
 use Rattle.cfb_volume.specs.cfb_rules.StreamCalls.{resized}
-use Rattle.cfb_volume.specs.cfb_mini_sectors.State.{HoldsMini, IsChangeable, MiniState, content_of, entries_of, table_of, tables_in, version_of}
-use Rattle.cfb_volume.specs.cfb_mini_sectors.Steps.{KeepsLimits}
+use Rattle.cfb_volume.specs.cfb_mini.State.{HoldsMini, IsChangeable, MiniState, content_of, entries_of, table_of, tables_in, version_of}
+use Rattle.cfb_volume.specs.cfb_mini.Steps.{KeepsLimits}
 use Rattle.cfb_volume.specs.cfb_content.Contents.{ErasesMinis, IsNotChangeable, IsStreamOf, IsTooLongFor, MovesContent, len_of}
 use Rattle.cfb_agreement.specs.Changes.{ChangesOneContent}
 use Rattle.cfb_agreement.specs.Files.{FileState, Holds, SameSetting, StartsAtEndIfEmpty, EmptyStartAtEnd}

@@ -8,19 +8,19 @@ use Rattle.cfb_format.specs.Siblings.{entry_at}
 use Rattle.cfb_volume.specs.cfb_entries.declared.fields.Fields.{Fields}
 use Rattle.cfb_volume.specs.cfb_entries.EntryList.{AreInOrder}
 use Rattle.cfb_volume.specs.cfb_entries.Fields.{entries_with_fields, entry_with_fields, fields_in}
-use Rattle.cfb_volume.specs.cfb_trees.Reached.{IsReached}
-use Rattle.cfb_volume.proofs.cfb_trees.Members.{reached-is-within}
+use Rattle.cfb_volume.specs.cfb_siblings.Reached.{IsReached}
+use Rattle.cfb_volume.proofs.cfb_siblings.Members.{reached-is-within}
 use Rattle.cfb_volume.specs.cfb_alloc.Frame.{Spares}
 use Rattle.cfb_volume.specs.cfb_directory.Steps.{IsDirectoryNotHeld, KeepsWholeHeader}
-use Rattle.cfb_volume.specs.cfb_objects.Laws.{BecomesTree}
+use Rattle.cfb_volume.specs.cfb_listing.ObjectLaws.{BecomesTree}
 use Rattle.cfb_volume.specs.cfb_rules.CallChanges.{fields_changed_at}
-use Rattle.cfb_volume.specs.cfb_mini_sectors.State.{HoldsMini, MiniState, bytes_of, cases_of, entries_of, table_of, tables_in, version_of}
-use Rattle.cfb_volume.specs.cfb_mini_sectors.Steps.{KeepsLimits, KeepsMini, StopsShort}
+use Rattle.cfb_volume.specs.cfb_mini.State.{HoldsMini, MiniState, bytes_of, cases_of, entries_of, table_of, tables_in, version_of}
+use Rattle.cfb_volume.specs.cfb_mini.Steps.{KeepsLimits, KeepsMini, StopsShort}
 use Rattle.cfb_volume.specs.cfb_content.Contents.{KeepsFixedHeader, len_of}
 use Rattle.cfb_volume.proofs.cfb_content.FixedHeader.{spared-keeps-header}
 use Rattle.cfb_agreement.specs.Changes.{KeepsParts, KeepsStreams, StaysOrFails}
 use Rattle.cfb_agreement.specs.Files.{Agrees, FileState, Holds}
-use Rattle.cfb_entry_changes.specs.Kept.{AllStayBalanced, FindsTheSame}
+use Rattle.cfb_agreement.specs.Kept.{AllStayBalanced, FindsTheSame}
 use Rattle.cfb_volume.proofs.InMemory.{in-memory}
 use Rattle.cfb_volume.proofs.InsertedObjects.{ended, header-ended, insert-keeps-streams, refused-agrees, refused-stays, same-file, streams-ended}
 use Rattle.cfb_volume.proofs.MarkedObjects.{WasMarked, mark-finds, mark-holds, mark-is-balanced, mark-keeps-root, mark-parts, mark-refused, mark-tree, reached-valid}

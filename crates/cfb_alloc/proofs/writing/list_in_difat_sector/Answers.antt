@@ -1,0 +1,9 @@
+use Rattle.std.proofs.Common.{ap}
+use Rattle.cfb_sectors.specs.Sectors.{SectorFile}
+use Rattle.cfb_alloc.proofs.FrameLemmas.{changes_before}
+use Rattle.cfb_alloc.proofs.writing.list_in_difat_sector.Goals as goal
+
+pub returns-clause-changes : goal.returns-clause-changes
+returns-clause-changes g c told =
+    changes_before c.args.difat_sectors.now c.args.sectors.now.version c.write_word_in.new.sectors.version c.args.sectors.now.bytes c.write_word_in.new.sectors.bytes c.write_tables_word.new.sectors.bytes
+    (ap (λ (f : SectorFile). f.version) c.write_word_in.ensures.kept) (c.write_word_in.ensures.changes told) (c.write_tables_word.ensures.changes told)

@@ -1,5 +1,0 @@
-use Rattle.cfb_copy_sizes.proofs.Counts.{counts-are-the-trees}
-use Rattle.cfb_copy_sizes.proofs.laws.counts_are_the_trees.Goals as goal
-
-pub returns : goal.returns
-returns c = counts-are-the-trees

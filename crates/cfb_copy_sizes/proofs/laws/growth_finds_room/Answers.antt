@@ -1,7 +1,0 @@
-use Rattle.cfb_copy_sizes.proofs.Created.{created-is-tight}
-use Rattle.cfb_copy_sizes.proofs.Growth.{all-are-counted, less-is-not-too-much, needed-can-be-taken}
-use Rattle.cfb_copy_sizes.proofs.Having.{content-can-be-had, entry-can-be-had}
-use Rattle.cfb_copy_sizes.proofs.laws.growth_finds_room.Goals as goal
-
-pub returns : goal.returns
-returns c = record { created = created-is-tight; less = less-is-not-too-much; counted = all-are-counted; taken = needed-can-be-taken; entry = entry-can-be-had; content = content-can-be-had }

@@ -1,5 +1,0 @@
-use Rattle.cfb_copy_sizes.proofs.Room.{room-is-for-tables}
-use Rattle.cfb_copy_sizes.proofs.laws.room_is_for_tables.Goals as goal
-
-pub returns : goal.returns
-returns c = room-is-for-tables

@@ -1,5 +1,0 @@
-pub mod Years
-pub mod Months
-pub mod Fractions
-pub mod Texts
-pub mod Words

@@ -1,5 +1,0 @@
-use Rattle.cfb_dumps.proofs.Walks.{dumps_make_the_tree}
-use Rattle.cfb_dumps.proofs.laws.dumps_make_the_tree.Goals as goal
-
-pub returns : goal.returns
-returns c = dumps_make_the_tree

@@ -1,4 +1,0 @@
-use Rattle.cfb_entries_bench.proofs.removals.+levels.Given as goal
-
-abbrev pub decreases-levels : goal.decreases-levels
-decreases-levels l = l.at_most

@@ -1,5 +1,0 @@
-use Rattle.cfb_entry_changes.proofs.Fullness.{full-for-entry-is-full}
-use Rattle.cfb_entry_changes.proofs.insertion.full_directories_are_full_files.Goals as goal
-
-pub returns : goal.returns
-returns c = full-for-entry-is-full

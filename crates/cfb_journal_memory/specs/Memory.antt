@@ -1,8 +1,0 @@
--- What a disk in memory shows.
-use Rattle.cfb_journal.specs.Disk.{View}
-use Rattle.cfb_journal_memory.specs.Steps.{nothing, view_after}
-use Rattle.cfb_journal_memory.specs.declared.memory.MemoryDisk.{MemoryDisk}
-
--- its member `view`
-abbrev pub shown : MemoryDisk → View
-shown disk = view_after nothing disk.past.steps

@@ -1,1 +1,0 @@
-pub use Rattle.cfb_entries.proofs.cfb_trees

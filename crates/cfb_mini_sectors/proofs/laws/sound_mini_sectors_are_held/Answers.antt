@@ -1,5 +1,0 @@
-use Rattle.cfb_mini_sectors.proofs.HeldMini.{sound-mini-is-held}
-use Rattle.cfb_mini_sectors.proofs.laws.sound_mini_sectors_are_held.Goals as goal
-
-pub returns : goal.returns
-returns c = sound-mini-is-held

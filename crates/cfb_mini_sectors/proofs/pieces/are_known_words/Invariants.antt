@@ -1,7 +1,0 @@
-use Rattle.std.proofs.Common.{ℕ, ◌<◌, length, get_or}
-use Rattle.cfb_mini_sectors.specs.Pieces.{HasWord}
-use Rattle.cfb_mini_sectors.proofs.pieces.are_known_words.Given as goal
-
-abbrev pub invariant-loop-number : goal.invariant-loop-number
-invariant-loop-number g l = (k : ℕ) → k < l.number-index
-    → HasWord l.allocator.tables.version l.sectors (length l.allocator.tables.fat) (get_or l.numbers k 0)

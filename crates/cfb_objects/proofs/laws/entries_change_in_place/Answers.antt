@@ -1,8 +1,0 @@
-use Rattle.cfb_objects.proofs.Fields.{content-changes-in-place, fields-change-in-place}
-use Rattle.cfb_objects.proofs.laws.entries_change_in_place.Goals as goal
-
-pub returns-clause-content : goal.returns-clause-content
-returns-clause-content c = content-changes-in-place
-
-pub returns-clause-fields : goal.returns-clause-fields
-returns-clause-fields c = fields-change-in-place

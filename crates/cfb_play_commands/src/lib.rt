@@ -1,4 +1,0 @@
-//! Plays lists of commands, each a line, on a compound file.
-#![tactic(auto)]
-
-pub mod lists;

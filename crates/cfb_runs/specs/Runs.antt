@@ -1,2 +1,0 @@
--- Where the bytes along a list of sectors stand in the file, and how many of them follow each other there (MS-CFB 2.3).
-pub use Rattle.cfb_runs.specs.cfb_table_words.Runs.{IsLongestRun, IsRun, place_along}

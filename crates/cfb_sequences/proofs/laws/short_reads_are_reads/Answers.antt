@@ -1,5 +1,0 @@
-use Rattle.cfb_sequences.proofs.Lists.{short-reads-are-reads}
-use Rattle.cfb_sequences.proofs.laws.short_reads_are_reads.Goals as goal
-
-pub returns : goal.returns
-returns g c = short-reads-are-reads g.S.Seen.seen g.S.Seen.promised

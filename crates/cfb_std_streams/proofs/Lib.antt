@@ -1,3 +1,0 @@
-pub use Rattle.cfb_stream_window.proofs.cfb_rules
-pub mod Calls
-pub mod Knowing

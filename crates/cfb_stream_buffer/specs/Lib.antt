@@ -1,4 +1,0 @@
-pub use Rattle.cfb_rules.specs as cfb_rules
-pub mod Contents
-pub mod Buffers
-pub mod Touched

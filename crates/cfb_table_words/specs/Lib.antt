@@ -1,7 +1,0 @@
-pub use Rattle.cfb_sectors.specs as cfb_sectors
-pub mod Agreement
-pub mod Difat
-pub mod Holding
-pub mod Stretches
-pub mod Runs
-pub mod Along

@@ -1,5 +1,0 @@
-use Rattle.cfb_trees.proofs.InStorages.{insertion-adds-a-child}
-use Rattle.cfb_trees.proofs.children.insertion_adds_a_child.Goals as goal
-
-pub returns : goal.returns
-returns c = insertion-adds-a-child

@@ -1,5 +1,0 @@
-use Rattle.cfb_trees.proofs.InStorages.{removal-takes-a-child}
-use Rattle.cfb_trees.proofs.children.removal_takes_a_child.Goals as goal
-
-pub returns : goal.returns
-returns c = removal-takes-a-child

@@ -1,9 +1,0 @@
-use Rattle.cfb_trees.proofs.Joined.{insertion-keeps-outline}
-use Rattle.cfb_trees.proofs.Streams.{insertion-keeps-streams}
-use Rattle.cfb_trees.proofs.laws.insertion_keeps_the_tree.Goals as goal
-
-pub returns-clause-outline : goal.returns-clause-outline
-returns-clause-outline c = insertion-keeps-outline
-
-pub returns-clause-streams : goal.returns-clause-streams
-returns-clause-streams c = insertion-keeps-streams

@@ -1,9 +1,0 @@
-use Rattle.cfb_trees.proofs.Taken.{removal-keeps-outline}
-use Rattle.cfb_trees.proofs.Streams.{removal-keeps-streams}
-use Rattle.cfb_trees.proofs.laws.removal_keeps_the_tree.Goals as goal
-
-pub returns-clause-outline : goal.returns-clause-outline
-returns-clause-outline c = removal-keeps-outline
-
-pub returns-clause-streams : goal.returns-clause-streams
-returns-clause-streams c = removal-keeps-streams

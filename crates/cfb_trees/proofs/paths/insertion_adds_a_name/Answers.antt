@@ -1,5 +1,0 @@
-use Rattle.cfb_trees.proofs.PathInserted.{insertion-adds-a-name}
-use Rattle.cfb_trees.proofs.paths.insertion_adds_a_name.Goals as goal
-
-pub returns : goal.returns
-returns c = insertion-adds-a-name

@@ -1,5 +1,0 @@
-use Rattle.cfb_trees.proofs.PathRemoved.{removal-takes-a-name}
-use Rattle.cfb_trees.proofs.paths.removal_takes_a_name.Goals as goal
-
-pub returns : goal.returns
-returns c = removal-takes-a-name

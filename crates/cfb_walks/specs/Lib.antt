@@ -1,2 +1,0 @@
-pub use Rattle.cfb_outline.specs as cfb_outline
-pub mod Walks

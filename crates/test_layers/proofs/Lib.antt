@@ -1,0 +1,1 @@
+pub use Rattle.cfb_entries.proofs.cfb_siblings

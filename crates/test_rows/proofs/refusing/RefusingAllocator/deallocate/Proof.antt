@@ -1,0 +1,116 @@
+-- It hands the block to the allocator under it. Assumes `Logic`.
+use Rattle.std.proofs.Common.{◌≡◌, ℕ, ◌+◌, ◌^◌, ◌<◌, List, [], ◌∷◌, refl, w64, Bor}
+use seplogic.Ra.Ura.{Ura}
+use mir.Syntax.{Ty, Args, Fn, a_type, dnil, dcons}
+use mir.Val.{Val, vint, vptr, vunit}
+use mir.MapTy.{inst_fn}
+use base.Logic.{SProp, ent, id⊢, never_e}
+use base.Fml.{Lft, Share, ftrue, ffalse, fsep, froom, flft}
+use prog.Memory.{Memory, size, align, capped, up}
+use prog.Routine.{Routine}
+use prog.Wp.{WpFn, Tables}
+use types.Logic.{Logic}
+use contract.BorrowLft.{◌⊑◌, ⊑_trans}
+use contract.Monad.{Fun, fact}
+use contract.Running.{tables, tables_of}
+use sound.WpLaws.{fm_of}
+use types.Run.{stop, fld, addr, no_more, and_then, of_opd, unit_lit, returns, enter}
+use types.Kit.{Item, ‵, raw, ◌⊛◌, later, given, ◌$◌, ◌∵◌, !, qed, by, move, keep, use1, split, split3, join, learn, fsplit, fjoin, feq_i, suffices, await, done}
+use types.ByLocal.{alloc_all, pass_all, free_all, look_at, get, through, sets, lands_as}
+use denote.Exit.{yes}
+use denote.RattleType.{owns}
+use denote.Ref.{shr_vals}
+use denote.Opens.{unhide}
+use denote.Param.{bounded, param}
+use denote.Plain.{uint_vals, uint_Tells}
+use denote.RawPtr.{Ptr, block_ptr, null_ptr, ptr_val, rawptr_vals, rawptr_Tells}
+use denote.Builtin.{usize, RawPtr, RefOf}
+use denote.Signature.{Slot, plain, types_at}
+use denote.Steps.{heard, nothing}
+use denote.Triple.Call.{calls_at}
+use denote.Triple.Clauses.{Ended, Clauses}
+use denote.Triple.Statement.{Triple}
+use denote.Triple.Walked.{Stays, stay_dropped, walk_of, ends_at, Goes-dropped}
+use Rattle.std.proofs.raw_atomic.Walks.{proved}
+use Rattle.std.proofs.alloc.Calls.{Al, α, seen, token, gives_key, Gives, at_gives, Gives-goes, Gives-Gives}
+use Rattle.test_rows.specs.contracts.refusing.Refusing as heap
+use Rattle.test_rows.specs.contracts.refusing.RefusingAllocator.deallocate as F
+use Rattle.test_rows.specs.contracts.refusing.RefusingAllocator.deallocate.Key as key
+use Rattle.test_rows.proofs.refusing.RefusingAllocator.deallocate.Statement as stated
+use Rattle.test_rows.proofs.refusing.RefusingAllocator.deallocate.Code as code
+
+module _ (Z : Al) where
+  abbrev args : Args
+  args = bounded (a_type ∷ []) (Z.row, tt) (dcons Z.d (dcons Z.drops dnil))
+
+  abbrev here : Fn
+  here = inst_fn args code.function
+
+  abbrev self : Slot 2
+  self = RefOf (0 ∷ []) tt (plain (λ _. heap.the_row (param 0 Z.row))) (λ _. tt)
+
+  abbrev ended : Ended
+  ended = F.ended Z.row Z.g Z.d Z.drops
+
+  abbrev stayed : Stays ended.signature.params ended.kept
+  stayed = (stay_dropped self yes, (stay_dropped (plain (λ _. RawPtr)) yes, (stay_dropped (plain (λ _. usize)) yes, (stay_dropped (plain (λ _. usize)) yes, tt))))
+
+module _ (Z : Al) {M : Type 1} {𝓤 : Ura M} (𝓛 : Logic 𝓤) (at_mem : Memory → SProp 𝓤) (run : Routine → Fun 𝓤) (𝓣 : Tables 𝓤 𝓛.H) (inner : Triple 𝓤 (𝓣.C (gives_key Z)) (Gives Z 𝓛 at_mem run)) where
+  open 𝓛 use {H}
+
+  abbrev clauses : Clauses 𝓤 (ended Z)
+  clauses = F.clauses Z.row Z.g Z.d Z.drops 𝓛 at_mem run
+
+  module _ (κ ρ : Lft) (q s : Share) (within : κ ⊑ ρ) (r : Bor (heap.the_row Z.row).Denot) (n a : ℕ) (τ : Ty) where
+    abbrev chosen : Ptr → (walk_of 𝓛 (ended Z) (stayed Z) clauses).Ghost
+    chosen p = (((κ, (ρ, tt)), (q, (s, tt)), (within, tt), (r, (p, (n, (a, tt)))), (shr_vals r, (rawptr_vals p, (vint w64 n ∷ [], (vint w64 a ∷ [], tt))))), τ)
+
+    abbrev values : Ptr → List Val
+    values p = vptr r.ref_ptr.0 r.ref_ptr.1 ∷ ptr_val p ∷ vint w64 n ∷ vint w64 a ∷ []
+
+    abbrev Post : Ptr → Val → SProp 𝓤
+    Post p = (walk_of 𝓛 (ended Z) (stayed Z) clauses).post (chosen p)
+
+    -- what the parameters own, with the tokens
+    abbrev passed : Ptr → Item 𝓤
+    passed p = (‵ (flft κ q) ⊛ ‵ (flft ρ s) ⊛ ‵ ftrue) ⊛ ‵ (owns (types_at (ended Z).signature.params (chosen p).0.0) (chosen p).0.3 (chosen p).0.4)
+
+    abbrev Asked : Type 0
+    Asked = (capped (size τ) ≡ n) × (capped (align τ) ≡ a)
+
+    walk : n < 2 ^ 64 → a < 2 ^ 64 → (p : Ptr) → ent 𝓤 ((walk_of 𝓛 (ended Z) (stayed Z) clauses).pre (chosen p)) (WpFn 𝓤 H 𝓣.C 𝓣.Λ (here Z) (values p) (Post p))
+    -- no block is at null
+    walk n_fits a_fits null_ptr =
+        qed 𝓛 (passed null_ptr ∷ (raw (fact 𝓤 (ρ ⊑ Z.row.lives)) ⊛ raw (fact 𝓤 Asked) ⊛ ‵ (fsep ffalse (token Z r.now.inner τ null_ptr))) ∷ []) ∵
+        move ! (1 ∷ []) $ split3 ! $ move ! (2 ∷ []) $ fsplit ! $ keep ! (0 ∷ []) $ by ! (never_e 𝓤 _)
+    walk n_fits a_fits (block_ptr b o) =
+        let under : Z.row.Denot = r.now.inner in
+        let under_place : ℕ × ℕ = (r.ref_ptr.0, r.ref_ptr.1 + up (align (α Z)) 0) in
+        let p : Ptr = block_ptr b o in
+        let given_back : (Gives Z 𝓛 at_mem run).Ghost = at_gives Z 𝓛 at_mem run κ q under_place under b o n a τ in
+        qed 𝓛 (passed p ∷ (raw (fact 𝓤 (ρ ⊑ Z.row.lives)) ⊛ raw (fact 𝓤 Asked) ⊛ ‵ (fsep (froom τ b o) (token Z under τ p))) ∷ []) ∵
+        move ! (1 ∷ []) $ split3 ! $ heard ! (ρ ⊑ Z.row.lives) (λ alive. heard ! Asked (λ asked. move ! (1 ∷ []) $
+        -- out of the reference: a share of the allocator under it; the block and its token stay beside
+        split ! $ split ! $ move ! (2 ∷ []) $ fsplit ! $ fsplit ! $ move ! (1 ∷ []) $ unhide ! $ fsplit ! $ fsplit ! $ use1 𝓛 (‵ (seen Z κ under_place under)) (id⊢ 𝓤 _) $ keep ! (0 ∷ 5 ∷ 6 ∷ 7 ∷ []) $
+        enter ! 𝓣.C 𝓣.Λ (here Z) (values p) _ $ alloc_all ! (λ l. pass_all ! refl ((tt, tt), ((tt, tt), ((tt, record { fits = n_fits }), ((tt, record { fits = a_fits }), tt)))) $
+        sets ! (addr ! (through ! refl (fld ! refl (stop !)))) refl (tt, tt) $
+        join ! $ move ! (2 ∷ []) $ fsplit ! $ move ! (1 ∷ 2 ∷ []) $ join ! $ move ! (1 ∷ 0 ∷ []) $ join ! $
+        use1 𝓛 (raw ((Gives Z 𝓛 at_mem run).pre given_back)) (Gives-goes Z 𝓛 at_mem run κ q under_place under (⊑_trans κ ρ Z.row.lives within alive) b o n a τ asked.0 asked.1 n_fits a_fits) $
+        calls_at ! (fm_of 𝓤 H 𝓛.laws 𝓣) (Gives Z 𝓛 at_mem run) inner given_back (and_then ! (get ! refl) (and_then ! (get ! refl) (and_then ! (get ! refl) (and_then ! (get ! refl) (no_more !))))) (λ v.
+        use1 𝓛 (later (given (v ≡ vunit) (‵ (flft κ q)))) (Gives-Gives Z 𝓛 at_mem run κ q under_place under b o n a τ v) $ await ! tt $ learn ! (λ e.
+        lands_as ! e refl (tt, tt) $ sets ! (of_opd ! (unit_lit !)) refl (tt, tt) $ returns ! (look_at ! 0 refl) $ free_all ! refl $
+        suffices ! _ (ends_at 𝓛 (ended Z) (stayed Z) clauses (chosen p) vunit tt (tt, (tt, (tt, (tt, tt)))) (tt, (tt, (tt, (tt, tt))))) $
+        nothing ! $ feq_i ! (List Val) (vunit ∷ []) (vunit ∷ []) refl $ nothing ! $ nothing ! $ fjoin ! $ nothing ! $ fjoin ! $ nothing ! $ fjoin ! $ nothing ! $ fjoin ! $ join ! $
+        move ! (2 ∷ 3 ∷ []) $ join ! $ join ! $ done !)))))
+
+pub deallocate_spec : {M : Type 1} → stated.statement M
+unfolding tables_of
+deallocate_spec 𝓤 𝓛 𝓜 𝓡 wired Y L g d d' met _ =
+    let Z : Al = record { row = Y; laws = L; g = g; d = d; drops = d' } in
+    let word = Goes-dropped 𝓛 2 (plain (λ _. usize)) yes (λ κs x f. refl) in
+    let 𝓣 : Tables 𝓤 𝓛.H = tables_of 𝓤 𝓛.H 𝓜 (tables 𝓤 𝓛.H 𝓜 𝓡 𝓡.env) in
+    proved 𝓛 (ended Z) (stayed Z) (F.clauses Y g d d' 𝓛 𝓜.mem 𝓡.returns) 𝓜 𝓡
+    (Goes-dropped 𝓛 2 (self Z) yes (λ κs x f. refl), (Goes-dropped 𝓛 2 (plain (λ _. RawPtr)) yes (λ κs x f. refl), (word, (word, tt))))
+    (key.name (args Z)) (here Z) (code.unfolded 𝓤 𝓛.H 𝓜 𝓡 wired (Y, tt) d d')
+    (λ κs. (shr_vals, (rawptr_vals, (uint_vals w64, (uint_vals w64, tt))))) (λ κs. ((λ r vs s. s.0), (rawptr_Tells, (uint_Tells w64, (uint_Tells w64, tt)))))
+    (λ κs qs bounds a τ are. walk Z 𝓛 𝓜.mem 𝓡.returns 𝓣 (met.deallocate d') κs.0 κs.1.0 qs.0 qs.1.0 bounds.0 a.0 a.1.1.0 a.1.1.1.0 τ are.1.1.0.1 are.1.1.1.0.1 a.1.0)
