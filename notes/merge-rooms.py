@@ -17,7 +17,8 @@ Where two names meet in a new crate (letter case does not count; a module may no
 crate of the plan stays, and the other one gets its crate's short name in front (`keys_laws`, `KeysLists`). Modules of the same text are one.
 With --narrow a free function that was `pub` for crates of its room alone becomes `pub(crate)`.
 It prints what it renames, the longest row of crates by bytes before and after, and what it cannot settle (lines `HAND:`). It changes nothing with --dry, and
-nothing where the plan has a circle. It runs rt fmt in each crate and docs/promise --write (2 minutes); see `git status`, tools/lint, docs/check then."""
+nothing where the plan has a circle. It runs rt fmt in each crate (2 minutes; not with --no-fmt) and docs/promise --write; notes/check-rooms.py ROOT looks
+then in seconds whether each path of code, definitions and proofs leads somewhere; tools/lint and docs/check say the rest."""
 import importlib.machinery
 import importlib.util
 import os
@@ -811,7 +812,7 @@ def documents():
             after = below_crates(before)
             after = re.sub(rf"\"({ANY})/(\w+)\"", lambda it: f'"{M(it[1])}/{filemap[it[1]]["specs"].get(it[2], it[2])}"', after)
         elif path.endswith(".md") and path != "docs/BINDINGS.md" and not path.startswith("bindings/"):
-            after = doubled(path, before, words_of_documents(before))
+            after = re.sub(rf"\b{len(order)} crates\b", f"{len(members)} crates", doubled(path, before, words_of_documents(before)))
         else:
             after = below_crates(before)
         if after != before:
@@ -903,7 +904,7 @@ put(f"{ROOT}/crates.txt", "\n".join(out) + "\n")
 prune()
 documents()
 kit = os.path.dirname(os.path.realpath(shutil.which("rt")))
-for new in placed:
+for new in () if "--no-fmt" in sys.argv else placed:
     ran = subprocess.run(["rt", "fmt"], cwd=f"{ROOT}/crates/{new}", stdout=subprocess.PIPE, stderr=subprocess.STDOUT, text=True)
     if ran.returncode:
         print(f"rt fmt {new}: {ran.stdout.strip()}")
