@@ -64,7 +64,12 @@ returns-in_err-cut-clause-spares g c = record {
 
 pub returns-clause-holds : goal.returns-clause-holds
 returns-clause-holds g c = record {
-  filled = first_of (search rules, grind (arith, common_steps));
+  filled = λ told validation h fewer. (
+      let wanted = wanted_is (version_of c.args.self.now) c.args.len c.div_ceil-sectors.result c.sector_len.result c.sector_len.ensures c.div_ceil-sectors.ensures in
+      let few = c.if-sectors-have.false in
+      let have = c.num_sectors-have.ensures in
+      absurd (omega (arith, wanted, few, have, fewer))
+  );
   zeroed = λ told fewer some. (
       let cut = c.cut.new.self in
       let len = c.args.len in

@@ -1,5 +1,6 @@
 use Rattle.std.proofs.lemmas.Grind.{common_steps}
 use Rattle.std.proofs.Common.{inl, inr, refl, ◌≡◌, ◌<◌, ◌≤◌, ◌+◌, ◌*◌, ◌/◌, ◌%◌, ◌++◌, ◌∙◌, min, ℕ, List, length, take, drop, ap, sym, subst, arith, length-take, rules}
+use Rattle.std.proofs.lemmas.Result.{err_from_is_err_and}
 use Rattle.std.specs.Prelude.{slice_index, IfOk}
 use Rattle.std.proofs.lemmas.List.{append-nil}
 use Rattle.cfb_format.specs.Medium.{written}
@@ -106,8 +107,8 @@ returns-then-missing-eq0-clause-spares g c = record {
 
 pub returns-in_err-grow_from-clause-spares : goal.returns-in_err-grow_from-clause-spares
 returns-in_err-grow_from-clause-spares g c = record {
-  run = first_of (search rules, grind (arith, common_steps));
-  others = first_of (search rules, grind (arith, common_steps));
+  run = λ told validation h. (let p = err_from_is_err_and c.from_residual.result c.from_residual.ensures.1 in rw p.1 tt);
+  others = λ told i busy out other. (c.grow_from.ensures.takes.others told).sectors i busy out (Contains-nil i);
   foreign = λ told. (
       let now = c.args.self.now in
       own_taken (ids_of now) (allocator_of now).now (allocator_of c.grow_from.new.self).now (c.grow_from.ensures.takes.others told)
@@ -131,10 +132,10 @@ returns-in_err-grow_from-clause-written g c = record {
 
 pub returns-in_err-grow_from-clause-holds : goal.returns-in_err-grow_from-clause-holds
 returns-in_err-grow_from-clause-holds g c = record {
-  holds = first_of (search rules, grind (arith, common_steps));
-  places = first_of (search rules, grind (arith, common_steps));
-  content = first_of (search rules, grind (arith, common_steps));
-  there = first_of (search rules, grind (arith, common_steps));
+  holds = λ told validation h. (let p = err_from_is_err_and c.from_residual.result c.from_residual.ensures.1 in rw p.1 tt);
+  places = λ told validation h. (let p = err_from_is_err_and c.from_residual.result c.from_residual.ensures.1 in rw p.1 tt);
+  content = λ told validation h whole. (let p = err_from_is_err_and c.from_residual.result c.from_residual.ensures.1 in rw p.1 tt);
+  there = λ told. (let p = err_from_is_err_and c.from_residual.result c.from_residual.ensures.1 in rw p.1 tt);
   ordered = λ told validation h. (
       let now = c.args.self.now in
       let from = c.args.from.now in
@@ -148,7 +149,7 @@ returns-in_err-grow_from-clause-holds g c = record {
 
 pub returns-in_err-written-clause-spares : goal.returns-in_err-written-clause-spares
 returns-in_err-written-clause-spares g c = record {
-  run = first_of (search rules, grind (arith, common_steps));
+  run = λ told validation h. (let p = err_from_is_err_and c.from_residual-in_err-written.result c.from_residual-in_err-written.ensures.1 in rw p.1 tt);
   others = λ told i busy out other. (
       let now = c.args.self.now in
       let from = c.args.from.now in
@@ -184,138 +185,6 @@ returns-in_err-written-clause-spares g c = record {
       (allocator_of mid).now e.grows.listed e.grows.taken (c.grow_from.ensures.refused.spares told) (c.write_within-2.ensures.writes.spares told)
   );
   counts = first_of (search rules, grind (arith, common_steps));
-}
-
-pub returns-clause-spares : goal.returns-clause-spares
-returns-clause-spares g c = record {
-  run = λ told validation h run. (
-      let now = c.args.self.now in
-      let mid = c.write_within-2.new.self in
-      let put = ((returns-clause-holds g c).holds).places told validation h in
-      let wrote : HasWritten c.reached-count.result c.args.from.now now mid = record { places = put.places; written = put.written; stays = put.stays; gap = put.gap; fresh = put.fresh } in
-      put_in_run now mid c.reached-count.result c.args.from.now (ap (λ (t : TableState). t.version) c.write_within-2.ensures.writes.tables ∙ c.in_ok-grow_from.ensures.same.version)
-      c.reached-count.ensures.few wrote run
-  );
-  others = λ told i busy out other. (
-      let now = c.args.self.now in
-      let from = c.args.from.now in
-      let left = c.left-left.result in
-      let grown = c.grow_from.new.self in
-      let e = c.in_ok-grow_from.ensures in
-      let first = take left from in
-      let size = length-take left from in
-      SectorStays_next (version_of now) (version_of grown) i _ _ _ e.same.version ((e.takes.others told).sectors i busy out (Contains-nil i))
-      (c.write_within-2.ensures.sectors told i
-      (was_wanted now grown (gained (ids_of now) (ids_of grown)) (length first) i e.same.version e.position e.grows.listed (λ k m. e.grows.taken.fresh k (first_of_three _ _ _ k m)) busy
-      (more_wanted now (length first) (length from) i (omega (arith, size)) other)))
-  );
-  foreign = λ told. (
-      let now = c.args.self.now in
-      let from = c.args.from.now in
-      let left = c.left-left.result in
-      let grown = c.grow_from.new.self in
-      let mid = c.write_within-2.new.self in
-      let e = c.in_ok-grow_from.ensures in
-      let w = c.write_within-2.ensures in
-      let old = (allocator_of now).now in
-      own_wanted (ids_of now) old grown mid (length (take left from)) (own_taken (ids_of now) old (allocator_of grown).now (c.grow_from.ensures.takes.others told)) e.same.version
-      (own_gained (ids_of now) old (allocator_of grown).now (ending (last_or_end (ids_of now))) (ids_of grown) (gained (ids_of now) (ids_of grown)) e.grows.listed e.grows.taken)
-      (w.sectors told) (w.others told)
-  );
-  spares = λ told. (
-      let now = c.args.self.now in
-      let grown = c.grow_from.new.self in
-      let mid = c.write_within-2.new.self in
-      let e = c.in_ok-grow_from.ensures in
-      gained_spared (ids_of now) (ids_of grown) (gained (ids_of now) (ids_of grown)) (ending (last_or_end (ids_of now))) (allocator_of now).now (allocator_of grown).now
-      (allocator_of mid).now e.grows.listed e.grows.taken (c.grow_from.ensures.refused.spares told) (c.write_within-2.ensures.writes.spares told)
-  );
-  counts = first_of (search rules, grind (arith, common_steps));
-}
-
-pub returns-in_err-written-clause-holds : goal.returns-in_err-written-clause-holds
-returns-in_err-written-clause-holds g c = record {
-  holds = first_of (search rules, grind (arith, common_steps));
-  places = first_of (search rules, grind (arith, common_steps));
-  content = first_of (search rules, grind (arith, common_steps));
-  there = first_of (search rules, grind (arith, common_steps));
-  ordered = λ told validation h. (
-      let now = c.args.self.now in
-      let from = c.args.from.now in
-      let left = c.left-left.result in
-      let grown = c.grow_from.new.self in
-      let mid = c.write_within-2.new.self in
-      let e = c.in_ok-grow_from.ensures in
-      let w = c.write_within-2.ensures in
-      let first = take left from in
-      let more = gained (ids_of now) (ids_of grown) in
-      let left-is : left ≡ left_of now = c.left-left.ensures.left in
-      let size = length-take left from in
-      let within = now.within in
-      let place = e.position in
-      let len : length (ids_of now) * sector_len (version_of grown) ≡ len_of now = ap (λ v. length (ids_of now) * sector_len v) e.same.version in
-      let stays = put_stays grown (allocator_of now).now.tables.fat (ids_of now) more _ (allocator_of mid).now.file.bytes (start_sector_of now) (length first) (init_of now)
-      (found_chain _ _ _ now.chained) (λ k m. e.grows.taken.fresh k (first_of_three _ _ _ k m)) e.grows.listed (omega (arith, place, len, left-is, size, within)) (w.others told).no_shorter (w.sectors told)
-      (e.fills.put told validation h) in
-      each_error _ c.from_residual-in_err-written.result (λ _. inl (subst (λ (ids : List ℕ). AreFilledFrom (version_of now) (init_of now) (drop (left_of now) from) (allocator_of mid).now.file.bytes (gained (ids_of now) ids)) (sym w.moves.chain.0)
-      (filled_as (version_of now) (version_of grown) (init_of now) from _ _ left (left_of now) e.same.version left-is stays)))
-  );
-}
-
-pub invariant_of-self-clause-within : goal.invariant_of-self-clause-within
-invariant_of-self-clause-within g c =
-    let now = c.args.self.now in
-    let from = c.args.from.now in
-    let grown = c.grow_from.new.self in
-    let mid = c.write_within-2.new.self in
-    let e = c.in_ok-grow_from.ensures in
-    let w = c.write_within-2.ensures in
-    let o = c.in_ok-written.ensures in
-    let more = gained (ids_of now) (ids_of grown) in
-    let room = left_after (version_of now) (version_of grown) (position_of now) (position_of grown) (length from) (ids_of now) (ids_of grown) more e.same.version e.position e.grows.listed (e.grows.counted ∙ c.missing-missing.ensures) in
-    let n = c.in_ok-written.written in
-    let len : len_of mid ≡ len_of grown = λ j. length (w.moves.chain.0 j) * sector_len (w.writes.tables j).version in
-    let behind = grown.within in
-    let place = o.moves.position in
-    let reached = c.reached-count.ensures.few in
-    omega (arith, room, len, behind, place, reached)
-
-pub returns-clause-written : goal.returns-clause-written
-returns-clause-written g c = record {
-  most = first_of (search rules, grind (arith, common_steps));
-  some = λ some. (
-      let now = c.args.self.now in
-      let from = c.args.from.now in
-      let left = c.left-left.result in
-      let grown = c.grow_from.new.self in
-      let e = c.in_ok-grow_from.ensures in
-      let o = c.in_ok-written.ensures in
-      let more = gained (ids_of now) (ids_of grown) in
-      let few : left ≤ length from = (let by = left_few (version_of now) (position_of now) (length from) (len_of now) (λ zero. c.if-missing-eq0.false (c.missing-missing.ensures ∙ zero)) in let is = c.left-left.ensures.left in omega (arith, by, is)) in
-      let size = length-take left from in
-      let room = left_after (version_of now) (version_of grown) (position_of now) (position_of grown) (length from) (ids_of now) (ids_of grown) more e.same.version e.position e.grows.listed (e.grows.counted ∙ c.missing-missing.ensures) in
-      elim c.reached-count.ensures.reached [
-        | inl part ↦ (let low = part.0 in let served = o.part.some (omega (arith, low, few, size, room)) in omega (arith, served, part.1))
-        | inr all ↦ omega (arith, all.1, some)
-      ]
-  );
-  position = (
-      let first = c.in_ok-grow_from.ensures.position in
-      let then' = c.in_ok-written.ensures.moves.position in
-      let from = c.args.from.now in
-      let count = c.in_ok-written.ensures.part.most in
-      let now = c.args.self.now in
-      let left = c.left-left.result in
-      let few : left ≤ length c.args.from.now = (let by = left_few (version_of now) (position_of now) (length c.args.from.now) (len_of now) (λ zero. c.if-missing-eq0.false (c.missing-missing.ensures ∙ zero)) in let is = c.left-left.ensures.left in omega (arith, by, is)) in
-      let size = length-take left c.args.from.now in
-      elim c.reached-count.ensures.reached [ inl part ↦ omega (arith, first, then', part.1) | inr all ↦ omega (arith, first, then', all.0, all.1, few) ]
-  );
-  none = λ zero. (
-      let now = c.args.self.now in
-      absurd (c.if-missing-eq0.false (c.missing-missing.ensures ∙ none_needed (version_of now) (position_of now) (length (ids_of now)) (length c.args.from.now) zero now.within))
-  );
-  ids = first_of (search rules, grind (arith, common_steps));
-  longer = first_of (search rules, grind (arith, common_steps));
 }
 
 pub returns-clause-holds : goal.returns-clause-holds
@@ -428,6 +297,138 @@ returns-clause-holds g c = record {
   ordered = first_of (search rules, grind (arith, common_steps));
 }
 
+pub returns-clause-spares : goal.returns-clause-spares
+returns-clause-spares g c = record {
+  run = λ told validation h run. (
+      let now = c.args.self.now in
+      let mid = c.write_within-2.new.self in
+      let put = (returns-clause-holds g c).places told validation h in
+      let wrote : HasWritten c.reached-count.result c.args.from.now now mid = record { places = put.places; written = put.written; stays = put.stays; gap = put.gap; fresh = put.fresh } in
+      put_in_run now mid c.reached-count.result c.args.from.now (ap (λ (t : TableState). t.version) c.write_within-2.ensures.writes.tables ∙ c.in_ok-grow_from.ensures.same.version)
+      c.reached-count.ensures.few wrote run
+  );
+  others = λ told i busy out other. (
+      let now = c.args.self.now in
+      let from = c.args.from.now in
+      let left = c.left-left.result in
+      let grown = c.grow_from.new.self in
+      let e = c.in_ok-grow_from.ensures in
+      let first = take left from in
+      let size = length-take left from in
+      SectorStays_next (version_of now) (version_of grown) i _ _ _ e.same.version ((e.takes.others told).sectors i busy out (Contains-nil i))
+      (c.write_within-2.ensures.sectors told i
+      (was_wanted now grown (gained (ids_of now) (ids_of grown)) (length first) i e.same.version e.position e.grows.listed (λ k m. e.grows.taken.fresh k (first_of_three _ _ _ k m)) busy
+      (more_wanted now (length first) (length from) i (omega (arith, size)) other)))
+  );
+  foreign = λ told. (
+      let now = c.args.self.now in
+      let from = c.args.from.now in
+      let left = c.left-left.result in
+      let grown = c.grow_from.new.self in
+      let mid = c.write_within-2.new.self in
+      let e = c.in_ok-grow_from.ensures in
+      let w = c.write_within-2.ensures in
+      let old = (allocator_of now).now in
+      own_wanted (ids_of now) old grown mid (length (take left from)) (own_taken (ids_of now) old (allocator_of grown).now (c.grow_from.ensures.takes.others told)) e.same.version
+      (own_gained (ids_of now) old (allocator_of grown).now (ending (last_or_end (ids_of now))) (ids_of grown) (gained (ids_of now) (ids_of grown)) e.grows.listed e.grows.taken)
+      (w.sectors told) (w.others told)
+  );
+  spares = λ told. (
+      let now = c.args.self.now in
+      let grown = c.grow_from.new.self in
+      let mid = c.write_within-2.new.self in
+      let e = c.in_ok-grow_from.ensures in
+      gained_spared (ids_of now) (ids_of grown) (gained (ids_of now) (ids_of grown)) (ending (last_or_end (ids_of now))) (allocator_of now).now (allocator_of grown).now
+      (allocator_of mid).now e.grows.listed e.grows.taken (c.grow_from.ensures.refused.spares told) (c.write_within-2.ensures.writes.spares told)
+  );
+  counts = first_of (search rules, grind (arith, common_steps));
+}
+
+pub returns-in_err-written-clause-holds : goal.returns-in_err-written-clause-holds
+returns-in_err-written-clause-holds g c = record {
+  holds = λ told validation h. (let p = err_from_is_err_and c.from_residual-in_err-written.result c.from_residual-in_err-written.ensures.1 in rw p.1 tt);
+  places = λ told validation h. (let p = err_from_is_err_and c.from_residual-in_err-written.result c.from_residual-in_err-written.ensures.1 in rw p.1 tt);
+  content = λ told validation h whole. (let p = err_from_is_err_and c.from_residual-in_err-written.result c.from_residual-in_err-written.ensures.1 in rw p.1 tt);
+  there = λ told. (let p = err_from_is_err_and c.from_residual-in_err-written.result c.from_residual-in_err-written.ensures.1 in rw p.1 tt);
+  ordered = λ told validation h. (
+      let now = c.args.self.now in
+      let from = c.args.from.now in
+      let left = c.left-left.result in
+      let grown = c.grow_from.new.self in
+      let mid = c.write_within-2.new.self in
+      let e = c.in_ok-grow_from.ensures in
+      let w = c.write_within-2.ensures in
+      let first = take left from in
+      let more = gained (ids_of now) (ids_of grown) in
+      let left-is : left ≡ left_of now = c.left-left.ensures.left in
+      let size = length-take left from in
+      let within = now.within in
+      let place = e.position in
+      let len : length (ids_of now) * sector_len (version_of grown) ≡ len_of now = ap (λ v. length (ids_of now) * sector_len v) e.same.version in
+      let stays = put_stays grown (allocator_of now).now.tables.fat (ids_of now) more _ (allocator_of mid).now.file.bytes (start_sector_of now) (length first) (init_of now)
+      (found_chain _ _ _ now.chained) (λ k m. e.grows.taken.fresh k (first_of_three _ _ _ k m)) e.grows.listed (omega (arith, place, len, left-is, size, within)) (w.others told).no_shorter (w.sectors told)
+      (e.fills.put told validation h) in
+      each_error _ c.from_residual-in_err-written.result (λ _. inl (subst (λ (ids : List ℕ). AreFilledFrom (version_of now) (init_of now) (drop (left_of now) from) (allocator_of mid).now.file.bytes (gained (ids_of now) ids)) (sym w.moves.chain.0)
+      (filled_as (version_of now) (version_of grown) (init_of now) from _ _ left (left_of now) e.same.version left-is stays)))
+  );
+}
+
+pub invariant_of-self-clause-within : goal.invariant_of-self-clause-within
+invariant_of-self-clause-within g c =
+    let now = c.args.self.now in
+    let from = c.args.from.now in
+    let grown = c.grow_from.new.self in
+    let mid = c.write_within-2.new.self in
+    let e = c.in_ok-grow_from.ensures in
+    let w = c.write_within-2.ensures in
+    let o = c.in_ok-written.ensures in
+    let more = gained (ids_of now) (ids_of grown) in
+    let room = left_after (version_of now) (version_of grown) (position_of now) (position_of grown) (length from) (ids_of now) (ids_of grown) more e.same.version e.position e.grows.listed (e.grows.counted ∙ c.missing-missing.ensures) in
+    let n = c.in_ok-written.written in
+    let len : len_of mid ≡ len_of grown = λ j. length (w.moves.chain.0 j) * sector_len (w.writes.tables j).version in
+    let behind = grown.within in
+    let place = o.moves.position in
+    let reached = c.reached-count.ensures.few in
+    omega (arith, room, len, behind, place, reached)
+
+pub returns-clause-written : goal.returns-clause-written
+returns-clause-written g c = record {
+  most = first_of (search rules, grind (arith, common_steps));
+  some = λ some. (
+      let now = c.args.self.now in
+      let from = c.args.from.now in
+      let left = c.left-left.result in
+      let grown = c.grow_from.new.self in
+      let e = c.in_ok-grow_from.ensures in
+      let o = c.in_ok-written.ensures in
+      let more = gained (ids_of now) (ids_of grown) in
+      let few : left ≤ length from = (let by = left_few (version_of now) (position_of now) (length from) (len_of now) (λ zero. c.if-missing-eq0.false (c.missing-missing.ensures ∙ zero)) in let is = c.left-left.ensures.left in omega (arith, by, is)) in
+      let size = length-take left from in
+      let room = left_after (version_of now) (version_of grown) (position_of now) (position_of grown) (length from) (ids_of now) (ids_of grown) more e.same.version e.position e.grows.listed (e.grows.counted ∙ c.missing-missing.ensures) in
+      elim c.reached-count.ensures.reached [
+        | inl part ↦ (let low = part.0 in let served = o.part.some (omega (arith, low, few, size, room)) in omega (arith, served, part.1))
+        | inr all ↦ omega (arith, all.1, some)
+      ]
+  );
+  position = (
+      let first = c.in_ok-grow_from.ensures.position in
+      let then' = c.in_ok-written.ensures.moves.position in
+      let from = c.args.from.now in
+      let count = c.in_ok-written.ensures.part.most in
+      let now = c.args.self.now in
+      let left = c.left-left.result in
+      let few : left ≤ length c.args.from.now = (let by = left_few (version_of now) (position_of now) (length c.args.from.now) (len_of now) (λ zero. c.if-missing-eq0.false (c.missing-missing.ensures ∙ zero)) in let is = c.left-left.ensures.left in omega (arith, by, is)) in
+      let size = length-take left c.args.from.now in
+      elim c.reached-count.ensures.reached [ inl part ↦ omega (arith, first, then', part.1) | inr all ↦ omega (arith, first, then', all.0, all.1, few) ]
+  );
+  none = λ zero. (
+      let now = c.args.self.now in
+      absurd (c.if-missing-eq0.false (c.missing-missing.ensures ∙ none_needed (version_of now) (position_of now) (length (ids_of now)) (length c.args.from.now) zero now.within))
+  );
+  ids = first_of (search rules, grind (arith, common_steps));
+  longer = first_of (search rules, grind (arith, common_steps));
+}
+
 pub returns-clause-takes : goal.returns-clause-takes
 returns-clause-takes g c = record {
   tables = first_of (search rules, grind (arith, common_steps));
@@ -451,4 +452,19 @@ returns-clause-takes g c = record {
         | inr none ↦ ap (λ (a : AllocatorState). a.file.begun) (w.part.none (omega (arith, none, size))).1 ∙ e.takes.begun.1 (omega (arith, missing))
       ]
   );
+}
+
+pub returns-in_err-written-clause-takes : goal.returns-in_err-written-clause-takes
+returns-in_err-written-clause-takes g c = record {
+  tables = λ zero. absurd (c.if-missing-eq0.false (c.missing-missing.ensures ∙ zero));
+  taken = λ some. (let p = err_from_is_err_and c.from_residual-in_err-written.result c.from_residual-in_err-written.ensures.1 in rw p.1 tt);
+  enough = λ some. (let p = err_from_is_err_and c.from_residual-in_err-written.result c.from_residual-in_err-written.ensures.1 in rw p.1 tt);
+  begun = λ some. (let p = err_from_is_err_and c.from_residual-in_err-written.result c.from_residual-in_err-written.ensures.1 in rw p.1 tt);
+}
+
+pub returns-in_err-written-clause-refused : goal.returns-in_err-written-clause-refused
+returns-in_err-written-clause-refused g c = record {
+  broken = first_of (search rules, grind (arith, common_steps));
+  err = first_of (search rules, grind (arith, common_steps));
+  needed = λ zero. absurd (c.if-missing-eq0.false (c.missing-missing.ensures ∙ zero));
 }

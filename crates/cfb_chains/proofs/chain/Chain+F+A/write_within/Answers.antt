@@ -2,6 +2,7 @@ use Rattle.std.proofs.lemmas.Grind.{common_steps}
 use Rattle.std.proofs.Common.{◌≡◌, ◌≤◌, ◌<◌, ◌+◌, ◌*◌, ◌/◌, ◌∙◌, ℕ, List, ap, arith, length, length-take, max, refl, subst, sym, take, rules}
 use Rattle.std.specs.Prelude.{slice_index, true}
 use Rattle.std.proofs.lemmas.List.Elements.{Contains-get_or}
+use Rattle.std.proofs.lemmas.Result.{err_from_is_err_and}
 use Rattle.cfb_format.specs.Bytes.{sector_len}
 use Rattle.cfb_format.specs.Medium.{written}
 use Rattle.cfb_sectors.specs.Sectors.{SectorFile}
@@ -170,7 +171,7 @@ pub returns-in_err-written-clause-writes : goal.returns-in_err-written-clause-wr
 returns-in_err-written-clause-writes g c = record {
   tables = first_of (search rules, grind (arith, common_steps));
   kept = first_of (search rules, grind (arith, common_steps));
-  holds = first_of (search rules, grind (arith, common_steps));
+  holds = λ told validation h. (let p = err_from_is_err_and c.from_residual.result c.from_residual.ensures.1 in rw p.1 tt);
   err = first_of (search rules, grind (arith, common_steps));
   spares = λ told. (
       let now = c.args.self.now in

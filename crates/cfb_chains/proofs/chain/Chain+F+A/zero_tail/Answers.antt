@@ -1,5 +1,6 @@
 use Rattle.std.proofs.lemmas.Grind.{common_steps}
 use Rattle.std.proofs.Common.{◌≡◌, ◌<◌, ◌+◌, ◌*◌, ◌/◌, ◌%◌, ◌-◌, ◌∙◌, ℕ, List, refl, ap, length, max, replicate, subst, sym, arith, rules}
+use Rattle.std.proofs.lemmas.Result.{err_from_is_err_and}
 use Rattle.std.specs.Prelude.{slice_index, true}
 use Rattle.std.proofs.lemmas.List.{length-replicate}
 use Rattle.std.proofs.lemmas.List.Elements.{Contains-get_or}
@@ -201,7 +202,7 @@ pub returns-in_err-_zeroed-clause-writes : goal.returns-in_err-_zeroed-clause-wr
 returns-in_err-_zeroed-clause-writes g c = record {
   tables = first_of (search rules, grind (arith, common_steps));
   kept = first_of (search rules, grind (arith, common_steps));
-  holds = first_of (search rules, grind (arith, common_steps));
+  holds = λ told validation h. (let p = err_from_is_err_and c.from_residual.result c.from_residual.ensures.1 in rw p.1 tt);
   err = first_of (search rules, grind (arith, common_steps));
   spares = λ told. (
       let now = c.args.self.now in
